@@ -2,6 +2,7 @@
 use crate::words::parted;
 use psu_disk::Disk;
 use psu_exec::{Condition, Exec, Info};
+use psu_status::Enables;
 use std::alloc::Allocator;
 
 /// An observation of a device.
@@ -31,10 +32,10 @@ pub fn sight_of(word: &str) -> Option<Sight> {
 }
 
 // Whether these are the enables that are kept: `4 0`.
-fn are_kept(kept: Option<(u8, u8)>, wanted: &str) -> bool {
+fn are_kept(kept: Option<Enables>, wanted: &str) -> bool {
     let (first, second) = parted(wanted);
     match kept {
-        Some((service, event)) => first.parse() == Ok(service) && second.parse() == Ok(event),
+        Some(Enables { sre, ese }) => first.parse() == Ok(sre) && second.parse() == Ok(ese),
         None => false,
     }
 }

@@ -5,6 +5,7 @@ use crate::stores::{assign, opened, stored};
 use psu_disk::{Choice, Disk, FailingDisk, MemDisk};
 use psu_exec::{Ended, Exec, PowerCause, PowerFault};
 use psu_items::{Batch, Store};
+use psu_status::Enables;
 use std::alloc::{Allocator, Global};
 use std::process::Abort;
 
@@ -121,7 +122,7 @@ fn left_after<A: Allocator + Copy>(
 fn has_either<D: Disk, A: Allocator + Copy>(exec: &Exec<D, A>) -> bool {
     match exec.contents().enables() {
         None => true,
-        Some(enables) => enables == (0, 0),
+        Some(enables) => enables == Enables { sre: 0, ese: 0 },
     }
 }
 

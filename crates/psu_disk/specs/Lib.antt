@@ -1,4 +1,5 @@
 pub mod Disk
+pub mod Steps
 pub mod Loss
 pub mod Memory
 pub mod Moments

@@ -57,7 +57,7 @@ part_of greatest id (Sent text true) out rest f still more = absurd (cc (still))
 -- what is sent of a text that goes on is a part of it
 pub parts : (greatest id : ℕ) (done : List Done) → EachFits greatest id done → ends_text (effects done) ≡ false → IsPart greatest id (text_sent (effects done)) (frames done)
 parts greatest id [] f still = no_part greatest id
-parts greatest id (d ∷ done) f still = part_of greatest id d.effect d.frames done f.0 still (λ goes_on. parts greatest id done f.1 goes_on)
+parts greatest id (d ∷ done) f still = part_of greatest id d.effect d.frames done f.0 still (λ continues. parts greatest id done f.1 continues)
 
 -- nothing goes out of no text
 pub silent : (greatest id : ℕ) (out : List ℕ) → IsPart greatest id [] out → out ≡ []

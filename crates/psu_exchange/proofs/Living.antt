@@ -4,7 +4,6 @@ use Rattle.std.specs.Prelude.{flat_map, map}
 use Rattle.std.proofs.lemmas.List.Concat.{flat_map-append}
 use Rattle.std.proofs.lemmas.List.Elements.{All-cons, All-nil}
 use Rattle.psu_hislip.specs.Answer.{answer_size}
-use Rattle.psu_hislip.specs.Core.{Core}
 use Rattle.psu_hislip.specs.declared.origin.Origin.{Origin}
 use Rattle.psu_messages.specs.Executions.{Reaches}
 use Rattle.psu_messages.specs.Messages.{OverIsMessages, SoFarIsMessages}
@@ -55,20 +54,20 @@ each_answered law over so_far greatest (turn ∷ turns) f comes =
     All-cons (IsAnswered greatest) turn turns (answered_turn law over so_far greatest turn (comes 0 turn (omega arith)) fit.0)
     (each_answered law over so_far greatest turns fit.1 (λ k d h. comes (suc k) d (omega (arith, h))))
 
-told_or_ended : (greatest : ℕ) (core : Core) (turns : List Turn) → EachEnds core turns → All (IsAnswered greatest) turns → EachIsTold greatest core turns
-told_or_ended greatest core [] ends a = tt
-told_or_ended greatest core (turn ∷ []) ends a = tt
-told_or_ended greatest core (turn ∷ next ∷ later) (ended, ends) a = (
+told_or_ended : (greatest session : ℕ) (life : List Happening) (turns : List Turn) → EachEnds session life turns → All (IsAnswered greatest) turns → EachIsTold greatest session life turns
+told_or_ended greatest session life [] ends a = tt
+told_or_ended greatest session life (turn ∷ []) ends a = tt
+told_or_ended greatest session life (turn ∷ next ∷ later) (ended, ends) a = (
   elim ended [ inl over ↦ inl ((a 0 turn (omega arith)).whole over) | inr gone ↦ inr gone ],
-  told_or_ended greatest core (next ∷ later) ends (λ k d h. a (suc k) d (omega (arith, h))),
+  told_or_ended greatest session life (next ∷ later) ends (λ k d h. a (suc k) d (omega (arith, h))),
 )
 
 pub each_is_answered : PartsAreAnAnswer → OverIsMessages → SoFarIsMessages → (session greatest : ℕ) (sync async : List ℕ) (life : List Happening) (turns : List Turn) → IsExchange session sync async life turns
-    → TakesAtMost greatest session life → All (IsAnswered greatest) turns × EachIsTold greatest (core_at session life) turns
+    → TakesAtMost greatest session life → All (IsAnswered greatest) turns × EachIsTold greatest session life turns
 each_is_answered law over so_far session greatest sync async life turns x most =
     let fit : AllFit greatest (flat_map happened turns) = subst (λ (z : List Happening). AllFit greatest z) x.turns_done (all_fit session greatest life x.done most [] life refl) in
     let all = each_answered law over so_far greatest turns fit x.courses in
-    (all, told_or_ended greatest (core_at session life) turns x.ends all)
+    (all, told_or_ended greatest session life turns x.ends all)
 
 -- ---- what goes out
 

@@ -4,7 +4,6 @@ use Rattle.std.specs.Prelude.{◌≡◌, ◌⊎◌, ℕ, ◌^◌, ◌<◌, ◌�
 use Rattle.std.specs.List.{list_any}
 use Rattle.psu_lex.specs.declared.scpi_error.ScpiError.TheVariants.{TooMuchData}
 use Rattle.psu_hislip.specs.Answer.{IsAnswerCutAnywhere, IsPart, answer_size}
-use Rattle.psu_hislip.specs.Core.{Core, IsCurrent}
 use Rattle.psu_hislip.specs.Runs.{Arrival, begins_clear, origins}
 use Rattle.psu_hislip.specs.Stream.{IsStream, Received}
 use Rattle.psu_hislip.specs.Transmitted.{IsStretch, Stretch, Transmission, piece_in, pieces_of, run_of, text_kept}
@@ -17,7 +16,7 @@ use Rattle.psu_messages.specs.Executions.{IsOver}
 use Rattle.psu_messages.specs.Effects.{Effect}
 use Rattle.psu_messages.specs.Messages.{IsMessage}
 use Rattle.psu_messages.specs.Units.{Fault, Source, Text}
-use Rattle.psu_exchange.specs.Exchange.{Done, IsExchange, Turn, asked, core_at, effects, frames}
+use Rattle.psu_exchange.specs.Exchange.{Done, IsExchange, IsGone, Turn, asked, core_at, effects, frames}
 use Rattle.psu_exchange.specs.Life.{Happening, Came, Did, came, came_on, replied, written}
 
 -- ---- answers
@@ -56,15 +55,15 @@ TakesAtMost greatest session life =
     (before after : List Happening) (origin : Origin) (effect : Effect) (frames : List ℕ) → life ≡ before ++ Did origin effect frames ∷ after → answer_size (core_at session before).size ≤ greatest
 
 -- An order that was begun and is not answered whole is the last, or a device clear or a FatalError has ended it.
-abbrev pub EachIsTold : ℕ → Core → List Turn → Type 0
-EachIsTold greatest core [] = Unit {0}
-EachIsTold greatest core (turn ∷ []) = Unit {0}
-EachIsTold greatest core (turn ∷ next ∷ later) =
-    (AreTold greatest turn.order.origin.id turn.order.source turn.course.standing.units turn.done ⊎ (IsCurrent core turn.order.origin → ⊥)) × EachIsTold greatest core (next ∷ later)
+abbrev pub EachIsTold : ℕ → ℕ → List Happening → List Turn → Type 0
+EachIsTold greatest session life [] = Unit {0}
+EachIsTold greatest session life (turn ∷ []) = Unit {0}
+EachIsTold greatest session life (turn ∷ next ∷ later) =
+    (AreTold greatest turn.order.origin.id turn.order.source turn.course.standing.units turn.done ⊎ IsGone session life turn.order.origin) × EachIsTold greatest session life (next ∷ later)
 
 abbrev pub EachIsAnswered : Type 0
 EachIsAnswered = (session greatest : ℕ) (sync async : List ℕ) (life : List Happening) (turns : List Turn) → IsExchange session sync async life turns → TakesAtMost greatest session life
-    → All (IsAnswered greatest) turns × EachIsTold greatest (core_at session life) turns
+    → All (IsAnswered greatest) turns × EachIsTold greatest session life turns
 
 -- ---- what goes out
 

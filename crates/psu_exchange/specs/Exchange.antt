@@ -58,15 +58,24 @@ frames done = flat_map (λ d. d.frames) done
 abbrev pub happened : Turn → List Happening
 happened turn = map (λ d. Did turn.order.origin d.effect d.frames) turn.done
 
+-- At a moment after the message of this origin was received, a device clear or a FatalError had ended its transmission.
+-- (Clears are counted modulo 2^64, so at a later moment the origin may be current again.)
+pub record IsGone (session : ℕ) (life : List Happening) (origin : Origin) : Type 0 where
+  pub before : List Happening
+  pub after : List Happening
+  pub is : life ≡ before ++ after
+  pub has_come : (first : List Origin) × (others : List Origin) × (origins (asked session before) ≡ first ++ origin ∷ others)
+  pub gone : IsCurrent (core_at session before) origin → ⊥
+
 -- an order is over, or a device clear or a FatalError has ended it
-abbrev pub HasEnded : Core → Turn → Type 0
-HasEnded core turn = IsOver turn.order.source turn.course ⊎ (IsCurrent core turn.order.origin → ⊥)
+abbrev pub HasEnded : ℕ → List Happening → Turn → Type 0
+HasEnded session life turn = IsOver turn.order.source turn.course ⊎ IsGone session life turn.order.origin
 
 -- each has ended but the last
-abbrev pub EachEnds : Core → List Turn → Type 0
-EachEnds core [] = Unit {0}
-EachEnds core (turn ∷ []) = Unit {0}
-EachEnds core (turn ∷ next ∷ later) = HasEnded core turn × EachEnds core (next ∷ later)
+abbrev pub EachEnds : ℕ → List Happening → List Turn → Type 0
+EachEnds session life [] = Unit {0}
+EachEnds session life (turn ∷ []) = Unit {0}
+EachEnds session life (turn ∷ next ∷ later) = HasEnded session life turn × EachEnds session life (next ∷ later)
 
 -- ---- what goes out
 
@@ -112,7 +121,7 @@ pub record IsExchange (session : ℕ) (sync async : List ℕ) (life : List Happe
   pub in_order : orders session life ≡ map (λ turn. turn.order) turns ++ waiting
   pub turns_done : done_in life ≡ flat_map happened turns
   pub courses : All (λ turn. Reaches turn.order.source (effects turn.done) turn.course) turns
-  pub ends : EachEnds (core_at session life) turns
+  pub ends : EachEnds session life turns
   -- and what goes out are their answers and the core's replies
   pub done : EachIsDone session life
   pub replies_sent : EachIsReplied session life

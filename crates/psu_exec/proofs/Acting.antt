@@ -100,10 +100,11 @@ fits_of limit c change found h = elim (cases_Bool (fits limit (nv.apply c change
 
 -- a change that is not made: it doesn't fit, or an allocation fails
 pub not_made : (f : Flush) (change : nv.Command) (e : ScpiError) → nv.refused f.contents change ≡ None → is_whole f.store ≡ true
-    → ((e ≡ OutOfMemory) × (fits f.limit (nv.apply f.contents change) ≡ true)) ⊎ ((e ≡ MediaFull) × (fits f.limit (nv.apply f.contents change) ≡ false)) → MayMean f (Keeps change) (Error e)
-not_made f change e found whole (inl m) = inr (ap Error m.0, subst (NeedsMemory (Some change)) (sym (answers true m.1)) refl) where
+    → ((e ≡ OutOfMemory) × (fits f.limit (nv.apply f.contents change) ≡ true)) ⊎ ((e ≡ MediaFull) × (fits f.limit (nv.apply f.contents change) ≡ false)) → (e ≡ OutOfMemory → nv.takes_memory change ≡ true)
+    → MayMean f (Keeps change) (Error e)
+not_made f change e found whole (inl m) takes = inr (ap Error m.0, subst (NeedsMemory (Some change)) (sym (answers true m.1)) (takes m.0)) where
   answers : (b : Bool) → fits f.limit (nv.apply f.contents change) ≡ b → kept_unless (nv.refused f.contents change) (is_whole f.store) (fits f.limit (nv.apply f.contents change)) ≡ kept_unless None true b
   answers b fit = rw (found, whole, fit) refl
-not_made f change e found whole (inr m) = inl (ap Error m.0 ∙ sym (answers false m.1)) where
+not_made f change e found whole (inr m) takes = inl (ap Error m.0 ∙ sym (answers false m.1)) where
   answers : (b : Bool) → fits f.limit (nv.apply f.contents change) ≡ b → kept_unless (nv.refused f.contents change) (is_whole f.store) (fits f.limit (nv.apply f.contents change)) ≡ kept_unless None true b
   answers b fit = rw (found, whole, fit) refl

@@ -6,6 +6,7 @@ use Rattle.std.proofs.lemmas.Bool.Decides.{nat_tests}
 use Rattle.std.proofs.lemmas.Nat.{and_assoc}
 use Rattle.std.specs.Int.Bits.{and_zero_r}
 use Rattle.psu_map.specs.Map.{Item, cost}
+use Rattle.psu_status.specs.declared.enables.Enables.{Enables}
 use Rattle.psu_nv.specs.Commands.{apply, without_mss, PowerOnClear}
 use Rattle.psu_nv.specs.Contents.{Contents, IsContents, enables_items, items_of, cost_of, fits}
 
@@ -35,25 +36,25 @@ sound_cleared c is = record {
 bit_6 : (n : ℕ) → bit_and (without_mss n) 64 ≡ 0
 bit_6 n = and_assoc 64 n 191 ∙ and_zero_r n
 
-first_part : (one two x : ℕ × ℕ) → Some one ≡ Some x → x.0 ≡ one.0
-first_part one two x e = sym (ap (λ (o : Option (ℕ × ℕ)). (unwrap_or o two).0) e)
+same_sre : (one x : Enables) → Some one ≡ Some x → x.sre ≡ one.sre
+same_sre one x e = sym (ap (λ (o : Option Enables). (unwrap_or o one).sre) e)
 
-pub sound_kept : (c : Contents) (sre ese : ℕ) → IsContents c → IsContents (apply c (PowerOnClear (Some (sre, ese))))
+pub sound_kept : (c : Contents) (kept : Enables) → IsContents c → IsContents (apply c (PowerOnClear (Some kept)))
 unfolding apply
-sound_kept c sre ese is = record {
+sound_kept c kept is = record {
   count = is.count;
   settings = is.settings;
   user = is.user;
   macros = is.macros;
   distinct = is.distinct;
   most_macros = is.most_macros;
-  mss = λ x e. ap (λ s. bit_and s 64) (first_part (without_mss sre, ese) (0, 0) x e) ∙ bit_6 sre;
+  mss = λ x e. ap (λ s. bit_and s 64) (same_sre (record kept { sre = without_mss kept.sre }) x e) ∙ bit_6 kept.sre;
   files = is.files;
   sorted = is.sorted;
 }
 
 -- contents without enables cost at most as much
-without_some : (enables : Option (ℕ × ℕ)) (rest : List Item) → cost rest ≤ cost (enables_items enables ++ rest)
+without_some : (enables : Option Enables) (rest : List Item) → cost rest ≤ cost (enables_items enables ++ rest)
 without_some None rest = omega arith
 without_some (Some e) rest = omega arith
 

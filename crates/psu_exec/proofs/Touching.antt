@@ -11,6 +11,7 @@ use Rattle.psu_map.proofs.Lists.{all_at}
 use Rattle.psu_map.proofs.Maps.{all_own}
 use Rattle.psu_outputs.specs.declared.output_settings.OutputSettings.{OutputSettings}
 use Rattle.psu_outputs.specs.Settings.{bytes_of, is_reset, reset}
+use Rattle.psu_status.specs.declared.enables.Enables.{Enables}
 use Rattle.psu_nv.specs.Commands.{Command, ServiceEnable, EventEnable, PowerOnClear, Save, User, DefineMacro, RemoveMacro, PurgeMacros, StoreBytes, Delete, Copy, Move, StoreState, LoadState, StoreMacro, LoadMacro, Recall, apply, settings_at}
 use Rattle.psu_nv.specs.Contents.{Contents, Macro, enables_items, file_item, items_of, macros_items, macro_bytes, recall_items, register_items, registers_items, user_items}
 use Rattle.psu_nv.specs.Decoding.{is_nothing}
@@ -39,9 +40,9 @@ IsAlone part items = (items ≡ []) ⊎ ((value : List ℕ) × (items ≡ item_o
 alone : (c : Contents) (part : Part) → IsAlone part (part_items c part)
 alone c kept.Enables = at c.enables
   where
-    at : (e : Option (ℕ × ℕ)) → IsAlone kept.Enables (enables_items e)
+    at : (e : Option Enables) → IsAlone kept.Enables (enables_items e)
     at None = inl refl
-    at (Some e) = inr (e.0 ∷ e.1 ∷ [], refl)
+    at (Some e) = inr (e.sre ∷ e.ese ∷ [], refl)
 alone c (kept.Register number) = at (settings_at c.registers number) (is_reset (settings_at c.registers number))
   where
     at : (s : List OutputSettings) (b : Bool) → IsAlone (kept.Register number) (cond b [] (item_of (2 ∷ number ∷ []) (bytes_of s) ∷ []))
@@ -118,7 +119,7 @@ keeps_then : (p q : ChangedParts) (old : List Item) (c d : Contents) → KeepsOt
 keeps_then p q old c d keeps leaves = λ part same. let e = leaves part same in keeps part e.0 ∙ part_found c part ∙ e.1 ∙ sym (part_found d part)
 
 module _ (p : ChangedParts) (c : Contents) where
-  enables_alone : (enables : Option (ℕ × ℕ)) → LeavesOthers p (record p { enables = true }) c (record c { enables = enables })
+  enables_alone : (enables : Option Enables) → LeavesOthers p (record p { enables = true }) c (record c { enables = enables })
   enables_alone enables kept.Enables same = cc
   enables_alone enables (kept.Register number) same = (same, refl)
   enables_alone enables kept.User same = (same, refl)

@@ -31,7 +31,7 @@ abbrev pub cleared : World → Contents
 cleared w = apply w.start (PowerOnClear None)
 
 abbrev pub kept_again : World → Contents
-kept_again w = apply (cleared w) (PowerOnClear (Some (reporting.sre_kept w.start.enables, reporting.ese_kept w.start.enables)))
+kept_again w = apply (cleared w) (PowerOnClear (Some (record { sre = reporting.sre_kept w.start.enables; ese = reporting.ese_kept w.start.enables })))
 
 -- a job from the map of some contents to that of others
 abbrev pub job : World → JobKind → Contents → Contents → JobData

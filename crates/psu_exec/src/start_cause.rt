@@ -3,7 +3,7 @@ ghost use Rattle.std.specs.Prelude.{◌≡◌};
 ghost use Rattle.psu_exec.specs.Starts.{start_of_opening, start_of_power_on};
 
 use crate::PowerCause;
-use psu_items::OpenCause;
+use psu_items::{BadImage, OpenCause};
 use thiserror::Error;
 
 /// Why a device doesn't start from its disk, other than for an allocation failure.
@@ -33,9 +33,9 @@ impl StartCause {
     {
         match cause {
             OpenCause::Device => Some(StartCause::Device),
-            OpenCause::NoRoot => Some(StartCause::NoRoot),
-            OpenCause::BadRoot => Some(StartCause::BadRoot),
-            OpenCause::BadVersion => Some(StartCause::BadVersion),
+            OpenCause::Image(BadImage::NoRoot) => Some(StartCause::NoRoot),
+            OpenCause::Image(BadImage::BadRoot) => Some(StartCause::BadRoot),
+            OpenCause::Image(BadImage::BadVersion) => Some(StartCause::BadVersion),
             OpenCause::Memory => None,
         }
     }

@@ -8,6 +8,7 @@ use Rattle.psu_outputs.specs.Outputs.{all_settings, any_conflicts, with_all}
 use Rattle.psu_outputs.specs.Settings.{after_set, is_in_range}
 use Rattle.psu_outputs.specs.declared.output.Output.{Output}
 use Rattle.psu_outputs.specs.declared.setting.Setting.{Setting}
+use Rattle.psu_status.specs.declared.enables.Enables.{Enables}
 use Rattle.psu_tree.specs.Nonvolatile.{is_nonvolatile}
 use Rattle.psu_tree.specs.declared.queries.Action.TheVariants as action
 use Rattle.psu_tree.specs.declared.command.Command.{Command}
@@ -105,7 +106,7 @@ file_keeps_nothing s name None change e = cc
 file_keeps_nothing s name (Some error) change e = cc
 
 -- the enables are nonvolatile while the flag is false
-while_false : (enables : Option (ℕ × ℕ)) (kept change : nv.Command) (i : Instrument) → cond (is_some enables) (Keeps kept) (leaves i) ≡ Keeps change → not (is_none enables) ≡ true
+while_false : (enables : Option Enables) (kept change : nv.Command) (i : Instrument) → cond (is_some enables) (Keeps kept) (leaves i) ≡ Keeps change → not (is_none enables) ≡ true
 while_false None kept change i e = cc
 while_false (Some x) kept change i e = refl
 
@@ -152,7 +153,7 @@ refused_or : (b : Bool) (error : ScpiError) (m : Meaning) → IsRefusedOrKept m 
 refused_or true error m h = inl (error, refl)
 refused_or false error m h = h
 
-enables_kept : (enables : Option (ℕ × ℕ)) (change : nv.Command) (i : Instrument) → not (is_none enables) ≡ true → IsRefusedOrKept (cond (is_some enables) (Keeps change) (leaves i))
+enables_kept : (enables : Option Enables) (change : nv.Command) (i : Instrument) → not (is_none enables) ≡ true → IsRefusedOrKept (cond (is_some enables) (Keeps change) (leaves i))
 enables_kept None change i e = absurd cc
 enables_kept (Some x) change i e = kept change
 

@@ -51,7 +51,7 @@ status_byte s = says s (reporting.status_byte s.instrument.status s.available)
 -- calls are expanded. `DIAGnostic:PUD:PROTect`: whether user data is protected. `OUTPut:PON:STATe`: whether the
 -- power-on settings are those of register 0.
 abbrev pub flagged : Situation → Flag → Bool → Meaning
-flagged s flag.PowerOnClear on = Keeps (PowerOnClear (if on then None else Some (s.instrument.status.sre, s.instrument.status.ese)))
+flagged s flag.PowerOnClear on = Keeps (PowerOnClear (if on then None else Some (record { sre = s.instrument.status.sre; ese = s.instrument.status.ese })))
 flagged s flag.Macros on = leaves (record s.instrument { expands = on })
 flagged s flag.Protection on = leaves (record s.instrument { protected = on })
 flagged s flag.Recall on = Keeps (Recall on)

@@ -12,6 +12,7 @@ use crate::{Act, Instrument};
 use psu_lex::{Bytes, ScpiError, whole};
 use psu_nv::{Contents, NvCommand, Register, UserData};
 use psu_outputs::Settings;
+use psu_status::Enables;
 use psu_tree::{Enable, Flag};
 use std::alloc::{AllocError, Allocator};
 
@@ -87,13 +88,16 @@ impl Instrument {
     }
 
     // Returns the enables that `*PSC` makes nonvolatile: none where its flag (`cleared`) is true.
-    fn enables_kept(&self, cleared: bool) -> Option<(u8, u8)>
-        ensures { result ≡ (if cleared then None else Some (self.now.status.sre, self.now.status.ese)) }
+    fn enables_kept(&self, cleared: bool) -> Option<Enables>
+        ensures { result ≡ (if cleared then None else Some (record { sre = self.now.status.sre; ese = self.now.status.ese })) }
     {
         if cleared {
             None
         } else {
-            Some((self.status.sre(), self.status.ese()))
+            Some(Enables {
+                sre: self.status.sre(),
+                ese: self.status.ese(),
+            })
         }
     }
 

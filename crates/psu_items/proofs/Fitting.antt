@@ -1,15 +1,16 @@
 -- What follows where an image represents a map: the map costs no more than the limit, and an opening has no cause to
 -- refuse the image.
-use Rattle.std.proofs.Common.{◌≡◌, ℕ, ◌+◌, ◌/◌, ◌≤◌, ◌≢◌, inl, inr, Bool, true, false, cond, List, [], ◌∷◌, length, Some, None, sym, ◌∙◌, ap, subst, arith, length-append}
+use Rattle.std.proofs.Common.{◌≡◌, ℕ, ◌+◌, ◌/◌, ◌≤◌, Bool, true, false, cond, List, [], ◌∷◌, length, Some, None, sym, ◌∙◌, ap, subst, arith, length-append}
 use Rattle.std.specs.List.{AllByRecursion}
 use Rattle.std.specs.Str.{bytes_eq}
-use Rattle.psu_pages.specs.declared.root.Root.{Root}
-use Rattle.psu_pages.specs.declared.root.Root.TheVariants.{First, Second}
-use Rattle.psu_pages.specs.Image.{gate, Head, IsHead, bytes_in, value_in, heads_in, pages_of, taken}
+use Rattle.psu_pages.specs.declared.bad_image.BadImage.{BadImage}
+use Rattle.psu_pages.specs.declared.bad_image.BadImage.TheVariants.{NoRoot, BadRoot, BadVersion}
+use Rattle.psu_pages.specs.Image.{Head, IsHead, bytes_in, value_in, heads_in, pages_of, taken}
 use Rattle.std.proofs.lemmas.List.{length-take}
 use Rattle.std.proofs.Math.Nat.{min-le_left}
 use Rattle.psu_map.specs.Map.{Item, get, without, cost, Before, IsSorted}
-use Rattle.psu_items.specs.Image.{current_root, listed, shown_in, HasNoRoot, HasOtherVersion, HasReadableRoot, Represents}
+use Rattle.psu_items.specs.Image.{current_root, listed, shown_in, HasReadableRoot, Represents, IsRefusal}
+use Rattle.psu_pages.proofs.Choosing.{some_root}
 use Rattle.psu_map.proofs.Keys.{before_not_same}
 use Rattle.psu_map.proofs.Maps.{get-without, all_own}
 
@@ -89,13 +90,7 @@ represents_readable image limit map represents =
       };
     }
 
-open_root : (root : Root) (image : List ℕ) → gate root image ≡ 165 → (gate First image ≢ 165) × (gate Second image ≢ 165) → ⊥
-open_root First image is shut = shut.0 is
-open_root Second image is shut = shut.1 is
-
-pub represents_rooted : (image : List ℕ) (limit : ℕ) (map : List Item) → Represents image limit map → HasNoRoot image → ⊥
-represents_rooted image limit map represents (inl short) = let shows = represents.holds.shows in omega (arith, short, shows.room, shows.limit_least)
-represents_rooted image limit map represents (inr shut) = open_root (current_root image) image represents.current.open_gate shut
-
-pub represents_by_version : (image : List ℕ) (limit : ℕ) (map : List Item) → Represents image limit map → HasOtherVersion image → ⊥
-represents_by_version image limit map represents other = other.version represents.holds.shows.version
+pub represents_unrefused : (image : List ℕ) (limit : ℕ) (map : List Item) (bad : BadImage) → Represents image limit map → IsRefusal image bad → ⊥
+represents_unrefused image limit map NoRoot represents refusal = let shows = represents.holds.shows in some_root image (current_root image) (omega (arith, shows.room)) represents.current.open_gate refusal
+represents_unrefused image limit map BadRoot represents refusal = refusal.represents_none limit map represents
+represents_unrefused image limit map BadVersion represents refusal = refusal.version represents.holds.shows.version

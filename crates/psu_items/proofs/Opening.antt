@@ -6,8 +6,9 @@ use Rattle.psu_disk.specs.Ranges.{reads_left}
 use Rattle.psu_disk.specs.declared.disk.Disk.{Ghosts}
 use Rattle.psu_map.specs.Map.{Item, IsSorted}
 use Rattle.psu_map.specs.Capacity.{IsMapOf}
+use Rattle.psu_pages.specs.declared.bad_image.BadImage.TheVariants.{NoRoot, BadRoot, BadVersion}
 use Rattle.psu_pages.specs.declared.open_cause.OpenCause.{OpenCause}
-use Rattle.psu_pages.specs.declared.open_cause.OpenCause.TheVariants.{Device, NoRoot, BadRoot, BadVersion, Memory}
+use Rattle.psu_pages.specs.declared.open_cause.OpenCause.TheVariants.{Device, Image, Memory}
 use Rattle.psu_pages.specs.declared.pages.Pages.{Pages}
 use Rattle.psu_pages.specs.declared.root.Root.{Root}
 use Rattle.psu_pages.specs.Image.{Head, other, gate_at, number_in, version_in, IsCurrent}
@@ -45,15 +46,15 @@ still_either disk limit before target all x (inl left) = all x left
 still_either disk limit before target all x (inr same) = ⊎_elim (λ st. inl (same_represents disk.bytes x limit before same st)) (λ st. inr (same_represents disk.bytes x limit target same st)) (all disk.bytes (reads_left disk))
 
 -- the cause for which pages are not opened, as the cause for which the store is not
-pub pages_refused : (image : List ℕ) (cause : OpenCause) → finding.IsRefusal image cause → IsRefusal image cause
+pub pages_refused : (image : List ℕ) (cause : OpenCause) → finding.IfImage cause (finding.IsRefusal image) → finding.IfImage cause (IsRefusal image)
 pages_refused image Device why = tt
-pages_refused image NoRoot why = why
-pages_refused image BadRoot why = record {
+pages_refused image (Image NoRoot) why = why
+pages_refused image (Image BadRoot) why = record {
   some_root = why.some_root;
   same_version = why.same_version;
   represents_none = λ limit m st. why.represents_none limit (items_in (current_root image) image) (record { current = st.current; shows = st.holds.shows; items_are = refl });
 }
-pages_refused image BadVersion why = why
+pages_refused image (Image BadVersion) why = why
 pages_refused image Memory why = tt
 
 -- a root is current in s

@@ -1,5 +1,5 @@
 -- If one of two maps is represented, a test finds which.
-use Rattle.std.proofs.Common.{◌≡◌, ◌⊎◌, inl, inr, ℕ, Bool, true, false, ◌&&◌, List, bytes_eq, Decides, ⊎_elim, refl, sym, ◌∙◌, ap, subst, arith}
+use Rattle.std.proofs.Common.{◌≡◌, ◌⊎◌, inl, inr, ℕ, Bool, true, false, ◌&&◌, List, bytes_eq, Decides, ⊎_elim, refl, sym, ◌∙◌, ap, subst}
 use Rattle.std.proofs.Props.{props}
 use Rattle.std.proofs.lemmas.Bool.{cases_Bool}
 use Rattle.std.proofs.lemmas.Bool.Decides.{not_from_Decides}
@@ -8,16 +8,17 @@ use Rattle.std.proofs.Math.Logic.{∥∥₁_elim}
 use Rattle.std.specs.Cmp.Lexicographic.{pointwise}
 use Rattle.psu_disk.specs.Disk.{DiskState, IsCrashImage}
 use Rattle.psu_disk.specs.Ranges.{reads_left}
+use Rattle.psu_pages.specs.Finding.{IfImage}
 use Rattle.psu_pages.specs.declared.open_cause.OpenCause.{OpenCause}
 use Rattle.psu_pages.specs.declared.open_cause.OpenCause.TheVariants as Unopened
 use Rattle.psu_map.specs.Map.{Item, item_of}
 use Rattle.psu_map.specs.CapacityLaws.{IsSorted-IsProp}
 use Rattle.psu_pages.specs.declared.root.Root.{Root}
 use Rattle.psu_pages.specs.Single.{Shows-IsProp}
-use Rattle.psu_pages.proofs.Choosing.{some_root}
 use Rattle.psu_items.specs.declared.broken.BrokenCause.TheVariants.{Strange}
-use Rattle.psu_items.specs.Image.{current_root, RootHolds, Represents, IsEither, EachIsEither, IsRefusal}
+use Rattle.psu_items.specs.Image.{RootHolds, Represents, IsEither, EachIsEither, IsRefusal}
 use Rattle.psu_items.specs.Recovering.{broken_cause}
+use Rattle.psu_items.proofs.Fitting.{represents_unrefused}
 use Rattle.psu_items.proofs.Standing.{represents_one}
 
 RootHolds-IsProp : (root : Root) (image : List ℕ) (limit : ℕ) (m : List Item) → IsProp (RootHolds root image limit m)
@@ -67,14 +68,12 @@ pub each_either : (disk : DiskState) (limit : ℕ) (before target : List Item) �
 each_either disk limit before target h x l = either limit before target x (h x l)
 
 -- an image that represents a map is refused only for a failed call or an allocation failure
-unrefused : (x : List ℕ) (limit : ℕ) (m : List Item) (cause : OpenCause) → Represents x limit m → IsRefusal x cause → broken_cause cause ≡ Strange → ⊥
+unrefused : (x : List ℕ) (limit : ℕ) (m : List Item) (cause : OpenCause) → Represents x limit m → IfImage cause (IsRefusal x) → broken_cause cause ≡ Strange → ⊥
 unrefused x limit m Unopened.Device st refusal strange = cc
-unrefused x limit m Unopened.NoRoot st refusal strange = some_root x (current_root x) (omega (arith, st.holds.shows.room)) st.current.open_gate refusal
-unrefused x limit m Unopened.BadRoot st refusal strange = refusal.represents_none limit m st
-unrefused x limit m Unopened.BadVersion st refusal strange = refusal.version st.holds.shows.version
+unrefused x limit m (Unopened.Image bad) st refusal strange = represents_unrefused x limit m bad st refusal
 unrefused x limit m Unopened.Memory st refusal strange = cc
 
-pub not_strange : (disk : DiskState) (limit : ℕ) (before target : List Item) (cause : OpenCause) → EachIsEither disk limit before target → IsRefusal disk.bytes cause → broken_cause cause ≡ Strange → ⊥
+pub not_strange : (disk : DiskState) (limit : ℕ) (before target : List Item) (cause : OpenCause) → EachIsEither disk limit before target → IfImage cause (IsRefusal disk.bytes) → broken_cause cause ≡ Strange → ⊥
 not_strange disk limit before target cause all refusal strange =
     ⊎_elim (λ st. unrefused disk.bytes limit before cause st refusal strange) (λ st. unrefused disk.bytes limit target cause st refusal strange) (all disk.bytes (reads_left disk))
 

@@ -1,10 +1,10 @@
 -- The map that the bytes of an image represent, of version 1 or 2: the items that the current root shows.
-use Rattle.std.specs.Prelude.{◌≡◌, ℕ, ◌+◌, ◌⊎◌, List, map, ⊤}
+use Rattle.std.specs.Prelude.{◌≡◌, ℕ, ◌+◌, ◌⊎◌, List, map}
 use Rattle.psu_disk.specs.Disk.{DiskState, IsCrashImage}
 use Rattle.psu_map.specs.Map.{Item, item_of, IsSorted}
 use Rattle.psu_map.specs.Capacity.{IsMapOf}
-use Rattle.psu_pages.specs.declared.open_cause.OpenCause.{OpenCause}
-use Rattle.psu_pages.specs.declared.open_cause.OpenCause.TheVariants.{Device, NoRoot, BadRoot, BadVersion, Memory}
+use Rattle.psu_pages.specs.declared.bad_image.BadImage.{BadImage}
+use Rattle.psu_pages.specs.declared.bad_image.BadImage.TheVariants.{NoRoot, BadRoot, BadVersion}
 use Rattle.psu_pages.specs.declared.root.Root.{Root}
 use Rattle.psu_pages.specs.Image as pages
 use Rattle.psu_pages.specs.Shown as shown
@@ -78,9 +78,6 @@ pub record RepresentsAs (version number : ℕ) (image : List ℕ) (limit : ℕ) 
 abbrev pub IsEitherRoot : ℕ → ℕ → ℕ → List Item → List Item → List ℕ → Type 0
 IsEitherRoot version number limit before target image = RepresentsAs version number image limit before ⊎ RepresentsAs 2 (number + 1) image limit target
 
-abbrev pub EachIsEitherRoot : DiskState → ℕ → ℕ → ℕ → List Item → List Item → Type 0
-EachIsEitherRoot disk version number limit before target = (image : List ℕ) → IsCrashImage disk image → IsEitherRoot version number limit before target image
-
 -- there are two roots, at least one with an open gate, and the image represents no map; the cause is not an unsupported
 -- version
 pub record HasBadRoot (image : List ℕ) : Type 0 where
@@ -88,10 +85,8 @@ pub record HasBadRoot (image : List ℕ) : Type 0 where
   pub same_version : HasOtherVersion image → ⊥
   pub represents_none : (limit : ℕ) (map : List Item) → Represents image limit map → ⊥
 
--- The cause for which an image is refused. A failed disk call and an allocation failure imply nothing about the image.
-abbrev pub IsRefusal : List ℕ → OpenCause → Type 0
-IsRefusal image Device = ⊤
+-- why an image is refused for its contents
+abbrev pub IsRefusal : List ℕ → BadImage → Type 0
 IsRefusal image NoRoot = HasNoRoot image
 IsRefusal image BadRoot = HasBadRoot image
 IsRefusal image BadVersion = HasOtherVersion image
-IsRefusal image Memory = ⊤

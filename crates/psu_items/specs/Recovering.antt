@@ -6,7 +6,5 @@ use Rattle.psu_items.specs.declared.broken.BrokenCause.TheVariants.{Device, Stra
 
 abbrev pub broken_cause : OpenCause → BrokenCause
 broken_cause Unopened.Device = Device
-broken_cause Unopened.NoRoot = Strange
-broken_cause Unopened.BadRoot = Strange
-broken_cause Unopened.BadVersion = Strange
+broken_cause (Unopened.Image bad) = Strange
 broken_cause Unopened.Memory = Memory

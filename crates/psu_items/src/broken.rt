@@ -1,6 +1,7 @@
 //! A store whose disk failed in a commit.
-ghost use Rattle.std.specs.Prelude.{◌≡◌, ◌≢◌, ◌⊎◌, ◌↔◌, ◌≤◌, List, ℕ, IsTrue, IfOk, IfErr, OnErr};
-ghost use Rattle.psu_disk.specs.Disk.{HasFailed, IsCrashImage, LeavesOnly};
+ghost use Rattle.std.specs.Prelude.{◌≡◌, ◌≢◌, ◌⊎◌, ◌↔◌, List, ℕ, IsTrue, IfOk, IfErr, OnErr};
+ghost use Rattle.psu_disk.specs.Disk.{IsCrashImage, LeavesOnly};
+ghost use Rattle.psu_disk.specs.Steps.{Step, Leaves};
 ghost use Rattle.psu_map.specs.Batch.{changed};
 ghost use Rattle.psu_items.specs.Image.{EachIsEither, IsEither, current_root, number_in};
 ghost use Rattle.psu_items.specs.Finding.{IsOldOrSame};
@@ -32,7 +33,7 @@ impl From<OpenCause> for BrokenCause {
     fn from(cause: OpenCause) -> Self {
         match cause {
             OpenCause::Device => BrokenCause::Device,
-            OpenCause::NoRoot | OpenCause::BadRoot | OpenCause::BadVersion => BrokenCause::Strange,
+            OpenCause::Image(_) => BrokenCause::Strange,
             OpenCause::Memory => BrokenCause::Memory,
         }
     }
@@ -89,19 +90,15 @@ impl<D: Disk, A: Allocator + Copy> Broken<D, A> {
         ensures same { IfErr result (IsStillBroken self) }
         ensures represents { D.honest → IfOk result (λ store. IsOnDisk D.state store) }
         ensures left { D.honest → IfErr result (λ broken. EachIsEither (D.state broken.disk) broken.limit broken.before (changed broken.before broken.batch)) }
-        ensures works { IfOk result (λ store. D.failures store.disk ≡ D.failures self.disk) }
-        ensures later { D.failures self.disk ≤ D.failures (reopened_disk result) }
-        ensures device { IfErr result (λ broken. broken.cause ≡ Device → HasFailed (D.failures self.disk) (D.failures broken.disk)) }
+        ensures time { D.honest → D.records
+            → LeavesOnly D.moment D.left_since self.disk (reopened_disk result) (IsEither self.limit self.before (changed self.before self.batch)) }
         ensures strange { D.honest → IfErr result (λ broken. broken.cause ≢ Strange) }
         ensures quiet { IfErr result (λ broken. broken.cause ≢ Device → D.failures broken.disk ≡ D.failures self.disk) }
         ensures number { D.honest → IfOk result (λ store. store.number ≡ number_in (current_root (D.state self.disk).bytes) (D.state self.disk).bytes) }
-        ensures extent { D.extent (reopened_disk result) ≡ D.extent self.disk }
-        ensures time { D.honest → D.records
-            → LeavesOnly D.moment D.left_since self.disk (reopened_disk result) (IsEither self.limit self.before (changed self.before self.batch)) }
+        ensures step { Step D.Disk self.disk (reopened_disk result) result (λ e. e.cause ≡ Device) }
 
         // Only the gate of the older root is written.
-        ensures images { D.honest → (image : List ℕ) → IsCrashImage (D.state (reopened_disk result)) image → IsOldOrSame (D.state self.disk) image }
-        ensures moments { D.honest → D.records → LeavesOnly D.moment D.left_since self.disk (reopened_disk result) (IsOldOrSame (D.state self.disk)) }
+        ensures images { Leaves D.Disk self.disk (reopened_disk result) (IsOldOrSame (D.state self.disk)) }
     {
         let Broken {
             disk,
@@ -158,15 +155,11 @@ fn recover<D: Disk, A: Allocator + Copy>(
     ensures found { IfOk result (λ store. (store.items ≡ before.now) ⊎ (store.items ≡ target.now)) }
     ensures limit { IfOk result (λ store. store.limit ≡ limit) }
     ensures represents { D.honest → IfOk result (λ store. IsOnDisk D.state store) }
-    ensures works { IfOk result (λ store. D.failures store.disk ≡ D.failures disk) }
-    ensures later { D.failures disk ≤ D.failures (recovered_disk result) }
-    ensures device { IfErr result (λ e. e.cause ≡ Device → HasFailed (D.failures disk) (D.failures e.disk)) }
     ensures quiet { IfErr result (λ e. e.cause ≢ Device → D.failures e.disk ≡ D.failures disk) }
     ensures strange { D.honest → EachIsEither (D.state disk) limit before.now target.now → IfErr result (λ e. e.cause ≢ Strange) }
     ensures number { D.honest → IfOk result (λ store. store.number ≡ number_in (current_root (D.state disk).bytes) (D.state disk).bytes) }
-    ensures extent { D.extent (recovered_disk result) ≡ D.extent disk }
-    ensures images { D.honest → (image : List ℕ) → IsCrashImage (D.state (recovered_disk result)) image → IsOldOrSame (D.state disk) image }
-    ensures moments { D.honest → D.records → LeavesOnly D.moment D.left_since disk (recovered_disk result) (IsOldOrSame (D.state disk)) }
+    ensures step { Step D.Disk disk (recovered_disk result) result (λ e. e.cause ≡ Device) }
+    ensures images { Leaves D.Disk disk (recovered_disk result) (IsOldOrSame (D.state disk)) }
 {
     match Store::open(alloc, disk) {
         Ok(store) => match one_of(store, limit, before, target) {

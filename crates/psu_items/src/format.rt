@@ -1,6 +1,6 @@
 //! Formatting a disk.
 ghost use Rattle.std.specs.Prelude.{◌≡◌, ◌+◌, ◌*◌, ◌≤◌, [], IfOk, IfErr};
-ghost use Rattle.psu_disk.specs.Disk.{HasFailed};
+ghost use Rattle.psu_disk.specs.Steps.{Step};
 ghost use Rattle.psu_items.specs.Standing.{IsOnDisk};
 ghost use Rattle.psu_pages.specs.declared.format_fault.FormatCause.TheVariants.{Device as NotWritten, Memory as NoMemory};
 
@@ -22,10 +22,7 @@ impl<D: Disk, A: Allocator + Copy> Store<D, A> {
         requires room { 512 * (2 + 2 * limit) ≤ D.extent disk }
         ensures fresh { IfOk result (λ store. (store.items ≡ []) × (store.limit ≡ limit) × (store.version ≡ 2) × (store.number ≡ 1)) }
         ensures represents { D.honest → IfOk result (λ store. IsOnDisk D.state store) }
-        ensures extent { D.extent (formatted_disk result) ≡ D.extent disk }
-        ensures works { IfOk result (λ store. D.failures store.disk ≡ D.failures disk) }
-        ensures later { D.failures disk ≤ D.failures (formatted_disk result) }
-        ensures device { IfErr result (λ e. e.cause ≡ NotWritten → HasFailed (D.failures disk) (D.failures e.disk)) }
+        ensures step { Step D.Disk disk (formatted_disk result) result (λ e. e.cause ≡ NotWritten) }
         ensures no_call { IfErr result (λ e. e.cause ≡ NoMemory → e.disk ≡ disk) }
     {
         match Pages::format(alloc, disk, limit) {

@@ -1,12 +1,13 @@
 //! Opening a store on a disk.
-ghost use Rattle.std.specs.Prelude.{◌≡◌, ◌≢◌, ◌⊎◌, ◌≤◌, [], List, ℕ, OnOk, IfOk, IfErr, IsErrOf};
-ghost use Rattle.psu_disk.specs.Disk.{IsCrashImage, Only, SameBut, Follows, LeavesOnly, HasFailed};
+ghost use Rattle.std.specs.Prelude.{◌≡◌, ◌≢◌, ◌⊎◌, [], List, ℕ, OnOk, IfOk, IfErr};
+ghost use Rattle.psu_disk.specs.Disk.{IsCrashImage, Only, SameBut};
+ghost use Rattle.psu_disk.specs.Steps.{Step, Leaves};
 ghost use Rattle.psu_map.specs.Map.{Item, IsSorted};
 ghost use Rattle.psu_map.specs.Capacity.{IsMapOf};
+ghost use Rattle.psu_pages.specs.Finding.{IfImage};
 ghost use Rattle.psu_pages.specs.Image.{other, gate_at};
 ghost use Rattle.psu_pages.specs.Shown.{items_in, Encodes};
 ghost use Rattle.psu_pages.specs.Writing.{Reaches};
-ghost use Rattle.psu_pages.specs.Outcome.{HasClosed};
 ghost use Rattle.psu_items.specs.Image.{listed, current_root, number_in, version_in, EachRepresents, Represents, IsRefusal, HasReadableRoot};
 ghost use Rattle.psu_items.specs.Finding.{IsOldOrSame, IsUnread};
 ghost use Rattle.psu_items.specs.Outcome.{opened_disk};
@@ -30,28 +31,21 @@ impl<D: Disk, A: Allocator + Copy> Store<D, A> {
         ensures represents { D.honest → IfOk result (λ store. IsOnDisk D.state store) }
         ensures number { D.honest → IfOk result (λ store. store.number ≡ number_in (current_root (D.state disk).bytes) (D.state disk).bytes) }
         ensures version { D.honest → IfOk result (λ store. store.version ≡ version_in (current_root (D.state disk).bytes) (D.state disk).bytes) }
-        ensures refused { D.honest → IfErr result (λ e. IsRefusal (D.state disk).bytes e.cause) }
+        ensures refused { D.honest → IfErr result (λ e. IfImage e.cause (IsRefusal (D.state disk).bytes)) }
         ensures untouched { D.honest → IfErr result (λ e. e.cause ≢ Device → (D.state e.disk).bytes ≡ (D.state disk).bytes) }
-        ensures extent { D.extent (opened_disk result) ≡ D.extent disk }
-        ensures works { IfOk result (λ store. D.failures store.disk ≡ D.failures disk) }
-        ensures later { D.failures disk ≤ D.failures (opened_disk result) }
-        ensures device { IfErr result (λ e. e.cause ≡ Device → HasFailed (D.failures disk) (D.failures e.disk)) }
+        ensures step { Step D.Disk disk (opened_disk result) result (λ e. e.cause ≡ Device) }
         ensures quiet { IfErr result (λ e. e.cause ≢ Device → D.failures e.disk ≡ D.failures disk) }
         ensures memory { D.honest → IfErr result (λ e. e.cause ≡ Memory → HasReadableRoot (D.state disk).bytes) }
 
         // Only the gate of the older root is written: each image is one from before, or has the current root and every
         // other byte as they were read. This holds of a refused disk too.
-        ensures images { D.honest → (image : List ℕ) → IsCrashImage (D.state (opened_disk result)) image → IsOldOrSame (D.state disk) image }
-        ensures moments { D.honest → D.records → LeavesOnly D.moment D.left_since disk (opened_disk result) (IsOldOrSame (D.state disk)) }
+        ensures images { Leaves D.Disk disk (opened_disk result) (IsOldOrSame (D.state disk)) }
 
         // If each image represents one map, that map is found, and each image at any moment represents it, also of a
         // refused disk.
         ensures finds { D.honest → (limit : ℕ) (map : List Item) → EachRepresents (D.state disk) limit map
             → IfOk result (λ store. (store.limit ≡ limit) × (store.items ≡ map)) }
-        ensures left { D.honest → (limit : ℕ) (map : List Item) → EachRepresents (D.state disk) limit map
-            → EachRepresents (D.state (opened_disk result)) limit map }
-        ensures time { D.honest → D.records → (limit : ℕ) (map : List Item) → EachRepresents (D.state disk) limit map
-            → LeavesOnly D.moment D.left_since disk (opened_disk result) (λ image. Represents image limit map) }
+        ensures left { (limit : ℕ) (map : List Item) → EachRepresents (D.state disk) limit map → Leaves D.Disk disk (opened_disk result) (λ image. Represents image limit map) }
     {
         match Pages::open(alloc, disk) {
             Ok(pages) => take_up(alloc, pages),
@@ -74,17 +68,10 @@ fn take_up<D: Disk, A: Allocator + Copy>(
     ensures found { D.honest → IfOk result (λ store. IsMapOf store.items (listed (D.state pages.disk).bytes pages.heads.items)) }
     ensures causes { IfErr result (λ e. (e.cause ≡ Device) ⊎ (e.cause ≡ Memory)) }
     ensures untouched { D.honest → IfErr result (λ e. e.cause ≢ Device → (D.state e.disk).bytes ≡ (D.state pages.disk).bytes) }
-    ensures extent { D.extent (opened_disk result) ≡ D.extent pages.disk }
-    ensures works { IfOk result (λ store. D.failures store.disk ≡ D.failures pages.disk) }
-    ensures later { D.failures pages.disk ≤ D.failures (opened_disk result) }
-    ensures device { IfErr result (λ e. e.cause ≡ Device → HasFailed (D.failures pages.disk) (D.failures e.disk)) }
+    ensures step { Step D.Disk pages.disk (opened_disk result) result (λ e. e.cause ≡ Device) }
     ensures quiet { IfErr result (λ e. e.cause ≢ Device → D.failures e.disk ≡ D.failures pages.disk) }
-    ensures left { D.honest → (image : List ℕ) → IsCrashImage (D.state (opened_disk result)) image
-        → Encodes pages.root pages.version pages.limit pages.number pages.heads.items (items_in pages.root (D.state pages.disk).bytes) image }
-    ensures time { D.honest → D.records → LeavesOnly D.moment D.left_since pages.disk (opened_disk result)
-        (Encodes pages.root pages.version pages.limit pages.number pages.heads.items (items_in pages.root (D.state pages.disk).bytes)) }
-    ensures touched { D.honest → Follows (SameBut (gate_at (other pages.root)) 1) (IsCrashImage (D.state pages.disk)) (IsCrashImage (D.state (opened_disk result))) }
-    ensures touched_time { D.honest → D.records → LeavesOnly D.moment D.left_since pages.disk (opened_disk result) (Reaches (SameBut (gate_at (other pages.root)) 1) (IsCrashImage (D.state pages.disk))) }
+    ensures left { Leaves D.Disk pages.disk (opened_disk result) (Encodes pages.root pages.version pages.limit pages.number pages.heads.items (items_in pages.root (D.state pages.disk).bytes)) }
+    ensures touched { Leaves D.Disk pages.disk (opened_disk result) (Reaches (SameBut (gate_at (other pages.root)) 1) (IsCrashImage (D.state pages.disk))) }
 {
     match read_back(alloc, &mut pages) {
         Ok(items) => Ok(Store { pages, items }),
@@ -111,18 +98,11 @@ fn read_back<D: Disk, A: Allocator + Copy>(
     ensures found { D.honest → IfOk result (λ items. IsMapOf items (listed (D.state pages.old.disk).bytes pages.old.heads.items)) }
     ensures shown { D.honest → OnOk result (items_in pages.new.root (D.state pages.new.disk).bytes ≡ items_in pages.old.root (D.state pages.old.disk).bytes) }
     ensures untouched { D.honest → IfErr result (λ cause. cause ≢ PageFault.Device → (D.state pages.new.disk).bytes ≡ (D.state pages.old.disk).bytes) }
-    ensures extent { D.extent pages.new.disk ≡ D.extent pages.old.disk }
-    ensures works { OnOk result (D.failures pages.new.disk ≡ D.failures pages.old.disk) }
-    ensures later { D.failures pages.old.disk ≤ D.failures pages.new.disk }
-    ensures device { IsErrOf result PageFault.Device → HasFailed (D.failures pages.old.disk) (D.failures pages.new.disk) }
+    ensures step { Step D.Disk pages.old.disk pages.new.disk result (λ cause. cause ≡ PageFault.Device) }
     ensures quiet { IfErr result (λ cause. cause ≢ PageFault.Device → D.failures pages.new.disk ≡ D.failures pages.old.disk) }
     ensures pages { IfErr result (λ cause. cause ≢ PageFault.NoPage) }
-    ensures left { D.honest → (image : List ℕ) → IsCrashImage (D.state pages.new.disk) image
-        → Encodes pages.old.root pages.old.version pages.old.limit pages.old.number pages.old.heads.items (items_in pages.old.root (D.state pages.old.disk).bytes) image }
-    ensures time { D.honest → D.records → LeavesOnly D.moment D.left_since pages.old.disk pages.new.disk
-        (Encodes pages.old.root pages.old.version pages.old.limit pages.old.number pages.old.heads.items (items_in pages.old.root (D.state pages.old.disk).bytes)) }
-    ensures touched { D.honest → Follows (SameBut (gate_at (other pages.old.root)) 1) (IsCrashImage (D.state pages.old.disk)) (IsCrashImage (D.state pages.new.disk)) }
-    ensures touched_time { D.honest → D.records → LeavesOnly D.moment D.left_since pages.old.disk pages.new.disk (Reaches (SameBut (gate_at (other pages.old.root)) 1) (IsCrashImage (D.state pages.old.disk))) }
+    ensures left { Leaves D.Disk pages.old.disk pages.new.disk (Encodes pages.old.root pages.old.version pages.old.limit pages.old.number pages.old.heads.items (items_in pages.old.root (D.state pages.old.disk).bytes)) }
+    ensures touched { Leaves D.Disk pages.old.disk pages.new.disk (Reaches (SameBut (gate_at (other pages.old.root)) 1) (IsCrashImage (D.state pages.old.disk))) }
 {
     let items = read_items(alloc, pages)?;
     pages.close_old()?;

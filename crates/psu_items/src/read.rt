@@ -1,6 +1,7 @@
 //! The items of the heads that a root names.
-ghost use Rattle.std.specs.Prelude.{◌≡◌, ◌≢◌, ◌+◌, ◌≤◌, ◌<◌, List, ℕ, length, drop, OnOk, IfOk, IfErr, IsErrOf};
-ghost use Rattle.psu_disk.specs.Disk.{IsCrashImage, LeavesOnly, HasFailed};
+ghost use Rattle.std.specs.Prelude.{◌≡◌, ◌≢◌, ◌+◌, ◌<◌, length, drop, OnOk, IfOk, IfErr};
+ghost use Rattle.psu_disk.specs.Disk.{IsCrashImage};
+ghost use Rattle.psu_disk.specs.Steps.{Step, Leaves};
 ghost use Rattle.psu_map.specs.Capacity.{IsMapOf};
 ghost use Rattle.psu_pages.specs.Outcome.{HasSameHeads};
 ghost use Rattle.psu_items.specs.Image.{listed};
@@ -17,18 +18,14 @@ pub fn read_items<D: Disk, A: Allocator + Copy>(
     alloc: A,
     pages: &mut Pages<D, A>,
 ) -> Result<Items<A>, PageFault>
-    ensures extent { D.extent pages.new.disk ≡ D.extent pages.old.disk }
-    ensures works { OnOk result (D.failures pages.new.disk ≡ D.failures pages.old.disk) }
-    ensures later { D.failures pages.old.disk ≤ D.failures pages.new.disk }
-    ensures device { IsErrOf result Device → HasFailed (D.failures pages.old.disk) (D.failures pages.new.disk) }
+    ensures step { Step D.Disk pages.old.disk pages.new.disk result (λ cause. cause ≡ Device) }
     ensures quiet { IfErr result (λ cause. cause ≢ Device → D.failures pages.new.disk ≡ D.failures pages.old.disk) }
     ensures pages { IfErr result (λ cause. cause ≢ NoPage) }
     ensures found { D.honest → IfOk result (λ items. IsMapOf items (listed (D.state pages.old.disk).bytes pages.old.heads.items)) }
     ensures same { HasSameHeads pages.old pages.new }
     ensures standing { pages.new.standing ≡ pages.old.standing }
     ensures seen { D.honest → (D.state pages.new.disk).bytes ≡ (D.state pages.old.disk).bytes }
-    ensures left { D.honest → (x : List ℕ) → IsCrashImage (D.state pages.new.disk) x → IsCrashImage (D.state pages.old.disk) x }
-    ensures time { D.honest → D.records → LeavesOnly D.moment D.left_since pages.old.disk pages.new.disk (IsCrashImage (D.state pages.old.disk)) }
+    ensures left { Leaves D.Disk pages.old.disk pages.new.disk (IsCrashImage (D.state pages.old.disk)) }
 {
     let mut items = Items::new(alloc);
     let mut at = pages.heads().len();
@@ -47,10 +44,7 @@ fn read_item<D: Disk, A: Allocator + Copy>(
     items: &mut Items<A>,
 ) -> Result<(), PageFault>
     requires { at < length pages.old.heads.items }
-    ensures extent { D.extent pages.new.disk ≡ D.extent pages.old.disk }
-    ensures works { OnOk result (D.failures pages.new.disk ≡ D.failures pages.old.disk) }
-    ensures later { D.failures pages.old.disk ≤ D.failures pages.new.disk }
-    ensures device { IsErrOf result Device → HasFailed (D.failures pages.old.disk) (D.failures pages.new.disk) }
+    ensures step { Step D.Disk pages.old.disk pages.new.disk result (λ cause. cause ≡ Device) }
     ensures quiet { IfErr result (λ cause. cause ≢ Device → D.failures pages.new.disk ≡ D.failures pages.old.disk) }
     ensures pages { IfErr result (λ cause. cause ≢ NoPage) }
     ensures found { D.honest → OnOk result (IsMapOf items.old (listed (D.state pages.old.disk).bytes (drop (at + 1) pages.old.heads.items))
@@ -58,8 +52,7 @@ fn read_item<D: Disk, A: Allocator + Copy>(
     ensures same { HasSameHeads pages.old pages.new }
     ensures standing { pages.new.standing ≡ pages.old.standing }
     ensures seen { D.honest → (D.state pages.new.disk).bytes ≡ (D.state pages.old.disk).bytes }
-    ensures left { D.honest → (x : List ℕ) → IsCrashImage (D.state pages.new.disk) x → IsCrashImage (D.state pages.old.disk) x }
-    ensures time { D.honest → D.records → LeavesOnly D.moment D.left_since pages.old.disk pages.new.disk (IsCrashImage (D.state pages.old.disk)) }
+    ensures left { Leaves D.Disk pages.old.disk pages.new.disk (IsCrashImage (D.state pages.old.disk)) }
 {
     let head = pages.heads()[at].share()?;
     let value = pages.load(alloc, &head)?;

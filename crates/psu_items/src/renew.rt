@@ -1,11 +1,12 @@
 //! The writing of the map after a batch, with its allocations first.
-ghost use Rattle.std.specs.Prelude.{◌≡◌, ◌+◌, ◌<◌, ◌≤◌, ◌^◌, OnOk, IsErrOf};
-ghost use Rattle.psu_disk.specs.Disk.{IsCrashImage, Follows, LeavesOnly, HasFailed};
+ghost use Rattle.std.specs.Prelude.{◌≡◌, ◌+◌, ◌<◌, ◌^◌, OnOk, IsErrOf};
+ghost use Rattle.psu_disk.specs.Disk.{IsCrashImage};
+ghost use Rattle.psu_disk.specs.Steps.{Step, Leaves};
 ghost use Rattle.psu_pages.specs.Outcome.{HasSameRoots};
 ghost use Rattle.psu_pages.specs.Writing.{Reaches};
 ghost use Rattle.psu_map.specs.Capacity.{CanHold};
 ghost use Rattle.psu_map.specs.Batch.{changed};
-ghost use Rattle.psu_items.specs.Image.{EachIsEitherRoot, IsEitherRoot};
+ghost use Rattle.psu_items.specs.Image.{IsEitherRoot};
 ghost use Rattle.psu_items.specs.Layout.{HaveKept};
 ghost use Rattle.psu_items.specs.Standing.{KeepsMap};
 ghost use Rattle.psu_items.specs.Writing.{SameAfterPool};
@@ -42,16 +43,11 @@ pub fn renew<D: Disk, A: Allocator + Copy>(
     ensures version { OnOk result (pages.new.version ≡ 2) }
     ensures number { OnOk result (pages.new.number ≡ pages.old.number + 1) }
     ensures heads { OnOk result (HaveKept batch.now before.now pages.old.heads.items pages.new.heads.items) }
-    ensures works { OnOk result (D.failures pages.new.disk ≡ D.failures pages.old.disk) }
-    ensures later { D.failures pages.old.disk ≤ D.failures pages.new.disk }
     ensures limit { pages.new.limit ≡ pages.old.limit }
-    ensures extent { D.extent pages.new.disk ≡ D.extent pages.old.disk }
+    ensures step { Step D.Disk pages.old.disk pages.new.disk result (λ cause. cause ≡ Device) }
     ensures same { IsErrOf result Memory → HasSameRoots pages.old pages.new × KeepsMap pages.new before.now }
-    ensures device { IsErrOf result Device → HasFailed (D.failures pages.old.disk) (D.failures pages.new.disk) }
-    ensures left { D.honest → EachIsEitherRoot (D.state pages.new.disk) pages.old.version pages.old.number pages.old.limit before.now (changed before.now batch.now) }
-    ensures time { D.honest → D.records → LeavesOnly D.moment D.left_since pages.old.disk pages.new.disk (IsEitherRoot pages.old.version pages.old.number pages.old.limit before.now (changed before.now batch.now)) }
-    ensures after_pool { D.honest → Follows (SameAfterPool pages.old.limit) (IsCrashImage (D.state pages.old.disk)) (IsCrashImage (D.state pages.new.disk)) }
-    ensures after_pool_time { D.honest → D.records → LeavesOnly D.moment D.left_since pages.old.disk pages.new.disk (Reaches (SameAfterPool pages.old.limit) (IsCrashImage (D.state pages.old.disk))) }
+    ensures left { Leaves D.Disk pages.old.disk pages.new.disk (IsEitherRoot pages.old.version pages.old.number pages.old.limit before.now (changed before.now batch.now)) }
+    ensures after_pool { Leaves D.Disk pages.old.disk pages.new.disk (Reaches (SameAfterPool pages.old.limit) (IsCrashImage (D.state pages.old.disk))) }
 {
     let Ok(target) = Target::of(alloc, before, batch) else {
         return Err(Unwritten::Memory);

@@ -26,6 +26,13 @@ impl<'a> Executor<Global> for Probe<'a> {
 
     ghost stops = { λ _ _ _. Unit {0} };
 
+    ghost yields = { λ _. ⊥ };
+
+    // It never yields.
+    fn may_continue(&self) -> bool {
+        true
+    }
+
     fn execute(&mut self, request: &Request<'_>) -> Result<Outcome<Global>, Stopped> {
         match self.log.turn() {
             Turn::Continues => self.executed(request),

@@ -1,5 +1,5 @@
 // The executor of a session's units.
-ghost use Rattle.std.specs.Prelude.{IfOk, IfErr, OnOk};
+ghost use Rattle.std.specs.Prelude.{◌≡◌, false, IfOk, IfErr, OnOk};
 ghost use Rattle.psu_tree.specs.declared.unit_request.Request.{Request as RequestData};
 ghost use Rattle.psu_exec.specs.Shown.{outcome_of};
 ghost use Rattle.psu_messages.specs.Effects.{Effect, Executed, Settled, Sent};
@@ -22,6 +22,13 @@ pub trait Executor<A: Allocator + Copy> {
 
     /// Any other effect that was not completed, or an allocation failure.
     ghost stops: { Self → Self.Stop → Self → Type 0 };
+
+    /// A state in which it yields: others are let in before the next unit.
+    ghost yields: { Self → Type 0 };
+
+    /// Whether it continues with the next unit and does not yield.
+    fn may_continue(&self) -> bool
+        ensures { result ≡ false → yields self.now };
 
     /// Tries a unit.
     fn execute(&mut self, request: &Request<'_>) -> Result<Outcome<A>, Self::Stop>

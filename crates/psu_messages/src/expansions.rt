@@ -1,6 +1,6 @@
 // The units of an expansion, in the place of the unit that it replaces.
 ghost use Rattle.std.specs.Prelude.{◌≡◌, ℕ, min, IfOk, IfErr, IfSome};
-ghost use Rattle.psu_messages.specs.Effects.{Awaits};
+ghost use Rattle.psu_messages.specs.Effects.{IsAwaited};
 ghost use Rattle.psu_messages.specs.Executions.{Advances, StopsAt};
 ghost use Rattle.psu_messages.specs.Stepping.{expanded_by, within};
 ghost use Rattle.psu_messages.specs.Units.{Source};
@@ -31,7 +31,7 @@ pub(crate) fn expand<A: Allocator + Copy, F: Executor<A>>(
 ) -> Result<Option<Need>, F::Stop>
     ensures advances { IfOk result (λ need. (source : Source) (units : ℕ) → Advances F.does source executor.old (within units body.now done.old parked.old gathered.old)
         executor.new (expanded_by need units body.now done.new parked.new gathered.new)) }
-    ensures waits { IfOk result (λ some. IfSome some (Awaits F.does executor.new)) }
+    ensures waits { IfOk result (λ some. IfSome some (IsAwaited F.does F.yields executor.new)) }
     ensures stops { IfErr result (λ stop. (source : Source) (units : ℕ)
         → StopsAt F.does F.fails F.stops source executor.old (within units body.now done.old parked.old gathered.old) stop executor.new gathered.new) }
 {
@@ -45,6 +45,9 @@ pub(crate) fn expand<A: Allocator + Copy, F: Executor<A>>(
     let mut path = Path::root();
     pass_over(&mut path, before, true);
     for unit in rest {
+        if !executor.may_continue() {
+            return Ok(Some(Need::Turn));
+        }
         let request = request_at(&mut path, unit, true);
         let step = take_step(executor, &request, parked, gathered)?;
         if let Some(need) = step {

@@ -2,7 +2,7 @@
 ghost use Rattle.std.specs.Prelude.{◌≡◌, ◌+◌, ◌<◌, ◌^◌, true, false, None, IfOk, IfErr, IfSome, OnOk, OnErr};
 ghost use Rattle.psu_lex.specs.Message.{part};
 ghost use Rattle.psu_tree.specs.declared.unit_request.Request.{Request as RequestData};
-ghost use Rattle.psu_messages.specs.Effects.{Awaits};
+ghost use Rattle.psu_messages.specs.Effects.{IsAwaited};
 ghost use Rattle.psu_messages.specs.Executions.{Advances, IsInterrupted, IsNext, IsOver, NextUnit, StopsAt};
 ghost use Rattle.psu_messages.specs.Shown.{progress_of};
 ghost use Rattle.psu_messages.specs.Stepping.{plain, within};
@@ -31,7 +31,7 @@ fn replace<A: Allocator + Copy, F: Executor<A>>(
     requires units { progress.old.units + 1 < 2 ^ 64 }
     ensures advances { IfOk result (λ _. (source : Source) → Advances F.does source executor.old (within progress.old.units body 0 progress.old.parked progress.old.gathered) executor.new (progress_of progress.new)) }
     ensures units { IfOk result (λ need. need ≡ None → progress.new.units ≡ progress.old.units + 1) }
-    ensures waits { IfOk result (λ some. IfSome some (Awaits F.does executor.new)) }
+    ensures waits { IfOk result (λ some. IfSome some (IsAwaited F.does F.yields executor.new)) }
     ensures stops { IfErr result (λ stop. (source : Source)
         → StopsAt F.does F.fails F.stops source executor.old (within progress.old.units body 0 progress.old.parked progress.old.gathered) stop executor.new progress.new.gathered) }
 {
@@ -69,7 +69,7 @@ fn begin<A: Allocator + Copy, F: Executor<A>>(
     ensures advances { IfOk result (λ _. (source : Source) → IsNext source (plain progress.old.units progress.old.parked progress.old.gathered) request.now
         → Advances F.does source executor.old (plain progress.old.units progress.old.parked progress.old.gathered) executor.new (progress_of progress.new)) }
     ensures units { IfOk result (λ need. need ≡ None → progress.new.units ≡ progress.old.units + 1) }
-    ensures waits { IfOk result (λ some. IfSome some (Awaits F.does executor.new)) }
+    ensures waits { IfOk result (λ some. IfSome some (IsAwaited F.does F.yields executor.new)) }
     ensures stops { IfErr result (λ stop. (source : Source) → IsNext source (plain progress.old.units progress.old.parked progress.old.gathered) request.now
         → StopsAt F.does F.fails F.stops source executor.old (plain progress.old.units progress.old.parked progress.old.gathered) stop executor.new progress.new.gathered) }
 {
@@ -98,7 +98,7 @@ fn perform<A: Allocator + Copy, F: Executor<A>>(
     ensures advances { IfOk result (λ _. (source : Source) → NextUnit source (progress_of progress.old) request.now
         → Advances F.does source executor.old (progress_of progress.old) executor.new (progress_of progress.new)) }
     ensures units { IfOk result (λ need. need ≡ None → progress.new.units ≡ progress.old.units + 1) }
-    ensures waits { IfOk result (λ some. IfSome some (Awaits F.does executor.new)) }
+    ensures waits { IfOk result (λ some. IfSome some (IsAwaited F.does F.yields executor.new)) }
     ensures stops { IfErr result (λ stop. (source : Source) → NextUnit source (progress_of progress.old) request.now
         → StopsAt F.does F.fails F.stops source executor.old (progress_of progress.old) stop executor.new progress.new.gathered) }
 {
@@ -158,7 +158,7 @@ fn take_turn<A: Allocator + Copy, F: Executor<A>>(
     ensures advances { IfOk result (λ _. (source : Source) → Asks source progress.old.units request.now first
         → Advances F.does source executor.old (progress_of progress.old) executor.new (progress_of progress.new)) }
     ensures units { IfOk result (λ need. need ≡ None → progress.new.units ≡ progress.old.units + 1) }
-    ensures waits { IfOk result (λ some. IfSome some (Awaits F.does executor.new)) }
+    ensures waits { IfOk result (λ some. IfSome some (IsAwaited F.does F.yields executor.new)) }
     ensures stops { IfErr result (λ stop. (source : Source) → Asks source progress.old.units request.now first
         → StopsAt F.does F.fails F.stops source executor.old (progress_of progress.old) stop executor.new progress.new.gathered) }
 {
@@ -179,7 +179,7 @@ fn take_unit<'a, A: Allocator + Copy, F: Executor<A>>(
     ensures advances { IfOk result (λ _. (request : RequestData) × IsRequest false (path_at path.old (part unit.now)) (part unit.now) request path.new
         × ((source : Source) → Asks source progress.old.units request unit.now.first → Advances F.does source executor.old (progress_of progress.old) executor.new (progress_of progress.new))) }
     ensures units { IfOk result (λ need. need ≡ None → progress.new.units ≡ progress.old.units + 1) }
-    ensures waits { IfOk result (λ some. IfSome some (Awaits F.does executor.new)) }
+    ensures waits { IfOk result (λ some. IfSome some (IsAwaited F.does F.yields executor.new)) }
     ensures stops { IfErr result (λ stop. (request : RequestData) × IsRequest false (path_at path.old (part unit.now)) (part unit.now) request path.new
         × ((source : Source) → Asks source progress.old.units request unit.now.first
         → StopsAt F.does F.fails F.stops source executor.old (progress_of progress.old) stop executor.new progress.new.gathered)) }
@@ -189,10 +189,10 @@ fn take_unit<'a, A: Allocator + Copy, F: Executor<A>>(
     Ok(need)
 }
 
-/// Executes the rest of a text, up to a unit that has to wait. Returns what that unit waits for, or none if the
-/// transmission is over. Another call continues the transmission, here or elsewhere. If the executor stops, it stops
-/// for good; responses that are not sent are still in the response buffer, except the response of a unit for which an
-/// allocation failed.
+/// Executes the rest of a text, up to a unit that has to wait or before which the executor yields. Returns what is
+/// waited for, or none if the transmission is over. Another call continues the transmission, here or elsewhere. If the
+/// executor stops, it stops for good; responses that are not sent are still in the response buffer, except the response
+/// of a unit for which an allocation failed.
 pub fn execute_text<A: Allocator + Copy, F: Executor<A>>(
     executor: &mut F,
     alloc: A,
@@ -201,7 +201,7 @@ pub fn execute_text<A: Allocator + Copy, F: Executor<A>>(
 ) -> Result<Option<Need>, F::Stop>
     ensures advances { IfOk result (λ _. Advances F.does (Text bytes.now) executor.old (progress_of progress.old) executor.new (progress_of progress.new)) }
     ensures over { IfOk result (λ need. need ≡ None → IsOver (Text bytes.now) (progress_of progress.new)) }
-    ensures waits { IfOk result (λ some. IfSome some (Awaits F.does executor.new)) }
+    ensures waits { IfOk result (λ some. IfSome some (IsAwaited F.does F.yields executor.new)) }
     ensures stops { IfErr result (λ stop. IsInterrupted F.does F.fails F.stops (Text bytes.now) executor.old (progress_of progress.old) stop executor.new progress.new.gathered) }
 {
     let units = match units_of(alloc, bytes) {
@@ -214,6 +214,9 @@ pub fn execute_text<A: Allocator + Copy, F: Executor<A>>(
     let mut path = Path::root();
     pass_over(&mut path, before, false);
     for unit in rest {
+        if !executor.may_continue() {
+            return Ok(Some(Need::Turn));
+        }
         let turn = take_unit(executor, alloc, &mut path, unit, progress)?;
         if let Some(need) = turn {
             return Ok(Some(need));
@@ -233,7 +236,7 @@ pub fn execute_fault<A: Allocator + Copy, F: Executor<A>>(
 ) -> Result<Option<Need>, F::Stop>
     ensures advances { IfOk result (λ _. Advances F.does (Fault error) executor.old (progress_of progress.old) executor.new (progress_of progress.new)) }
     ensures over { IfOk result (λ need. need ≡ None → IsOver (Fault error) (progress_of progress.new)) }
-    ensures waits { IfOk result (λ some. IfSome some (Awaits F.does executor.new)) }
+    ensures waits { IfOk result (λ some. IfSome some (IsAwaited F.does F.yields executor.new)) }
     ensures stops { IfErr result (λ stop. IsInterrupted F.does F.fails F.stops (Fault error) executor.old (progress_of progress.old) stop executor.new progress.new.gathered) }
 {
     if progress.units > 0 {
@@ -262,7 +265,7 @@ pub fn proceed<A: Allocator + Copy, F: Executor<A>>(
 ) -> Result<Option<Need>, F::Stop>
     ensures advances { IfOk result (λ _. Advances F.does (source_of input.now) executor.old (progress_of progress.old) executor.new (progress_of progress.new)) }
     ensures over { IfOk result (λ need. need ≡ None → IsOver (source_of input.now) (progress_of progress.new)) }
-    ensures waits { IfOk result (λ some. IfSome some (Awaits F.does executor.new)) }
+    ensures waits { IfOk result (λ some. IfSome some (IsAwaited F.does F.yields executor.new)) }
     ensures stops { IfErr result (λ stop. IsInterrupted F.does F.fails F.stops (source_of input.now) executor.old (progress_of progress.old) stop executor.new progress.new.gathered) }
 {
     match input {

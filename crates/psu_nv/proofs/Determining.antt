@@ -7,6 +7,7 @@ use Rattle.psu_map.proofs.Maps.{same_map}
 use Rattle.psu_outputs.specs.declared.output_settings.OutputSettings.{OutputSettings}
 use Rattle.psu_outputs.specs.Settings.{AreSettings, reset, bytes_of, is_reset}
 use Rattle.psu_outputs.proofs.Apart.{same_settings}
+use Rattle.psu_status.specs.declared.enables.Enables.{Enables as EnableRegisters}
 use Rattle.psu_nv.specs.Contents.{Macro, Contents, contents_of, IsContents, IsMacro, enables_items, user_items, macros_items, macro_bytes, recall_items, items_of}
 use Rattle.psu_nv.specs.Commands.{settings_at}
 use Rattle.psu_nv.specs.Parts.{Part, Enables, Register, User, Macros, File, Recall, key_of, part_items, value_in}
@@ -20,15 +21,15 @@ had v = Some v
 same_had : (x y : List ℕ) → had x ≡ had y → x ≡ y
 same_had x y e = cc
 
-same_enables : (e f : Option (ℕ × ℕ)) → value_in (enables_items e) ≡ value_in (enables_items f) → e ≡ f
+same_enables : (e f : Option EnableRegisters) → value_in (enables_items e) ≡ value_in (enables_items f) → e ≡ f
 same_enables None None same = refl
 same_enables None (Some y) same = absurd cc
 same_enables (Some x) None same = absurd cc
 same_enables (Some x) (Some y) same =
-    let bytes = same_had (x.0 ∷ x.1 ∷ []) (y.0 ∷ y.1 ∷ []) same in
-    let sre : x.0 ≡ y.0 = ap (λ (l : List ℕ). get_or l 0 0) bytes in
-    let ese : x.1 ≡ y.1 = ap (λ (l : List ℕ). get_or l 1 0) bytes in
-    ap (λ (n : ℕ). Some (n, x.1)) sre ∙ ap (λ (n : ℕ). Some (y.0, n)) ese
+    let bytes = same_had (x.sre ∷ x.ese ∷ []) (y.sre ∷ y.ese ∷ []) same in
+    let sre : x.sre ≡ y.sre = ap (λ (l : List ℕ). get_or l 0 0) bytes in
+    let ese : x.ese ≡ y.ese = ap (λ (l : List ℕ). get_or l 1 0) bytes in
+    ap (λ (n : ℕ). Some (record x { sre = n })) sre ∙ ap (λ (n : ℕ). Some (record y { ese = n })) ese
 
 same_kept : (s t : List OutputSettings) → AreSettings s → AreSettings t → kept_settings s ≡ kept_settings t → s ≡ t
 same_kept s t are_s are_t same = same_settings s t are_s are_t (by_tests (is_reset s) refl (is_reset t) refl same)

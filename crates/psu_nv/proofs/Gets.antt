@@ -5,6 +5,7 @@ use Rattle.psu_map.specs.Map.{Item, item_of, get, Before}
 use Rattle.psu_map.proofs.Keys.{same_true, before_not_same, after_not_same}
 use Rattle.psu_outputs.specs.declared.output_settings.OutputSettings.{OutputSettings}
 use Rattle.psu_outputs.specs.Settings.{bytes_of, is_reset}
+use Rattle.psu_status.specs.declared.enables.Enables.{Enables as EnableRegisters}
 use Rattle.psu_nv.specs.Contents.{Macro, Contents, enables_items, register_items, registers_items, user_items, macros_items, file_item, recall_items, items_of}
 use Rattle.psu_nv.specs.Commands.{settings_at}
 use Rattle.psu_nv.specs.Parts.{Part, Enables, Register, User, Macros, File, Recall, key_of, file_items, part_items, value_in}
@@ -110,7 +111,7 @@ module _ (c : Contents) where
   unfolding items_of
   get_enables = get_prefix (enables_items c.enables) _ (1 ∷ []) (get_from _ 1 [] (from_registers c)) ∙ by_enables c.enables
     where
-      by_enables : (e : Option (ℕ × ℕ)) → get (enables_items e) (1 ∷ []) ≡ value_in (enables_items e)
+      by_enables : (e : Option EnableRegisters) → get (enables_items e) (1 ∷ []) ≡ value_in (enables_items e)
       by_enables None = refl
       by_enables (Some e) = refl
 

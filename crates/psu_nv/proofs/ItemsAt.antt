@@ -4,6 +4,7 @@ use Rattle.std.proofs.lemmas.Bool.Decides.{nat_tests}
 use Rattle.psu_map.specs.Map.{get}
 use Rattle.psu_outputs.specs.Settings.{bytes_of, is_reset}
 use Rattle.psu_outputs.specs.declared.output_settings.OutputSettings.{OutputSettings}
+use Rattle.psu_status.specs.declared.enables.Enables.{Enables as EnableRegisters}
 use Rattle.psu_nv.specs.Commands.{settings_at}
 use Rattle.psu_nv.specs.Contents.{Contents, IsContents, Macro, enables_items, items_of, macros_items, recall_items, user_items}
 use Rattle.psu_nv.specs.Decoding.{is_key, is_nothing, is_number, is_single}
@@ -69,9 +70,9 @@ file_at c key name kind found value same five is =
     by value None = refl
     by value (Some f) = refl
 
-pub enables_at : (c : Contents) (kind : ℕ) (found : Option (ℕ × ℕ)) → kind ≡ 1 → found ≡ c.enables → is_some found ≡ is_some (get (items_of c) (kind ∷ []))
+pub enables_at : (c : Contents) (kind : ℕ) (found : Option EnableRegisters) → kind ≡ 1 → found ≡ c.enables → is_some found ≡ is_some (get (items_of c) (kind ∷ []))
 enables_at c kind found one same = ap is_some same ∙ by c.enables ∙ sym (ap is_some (ap (λ (k : ℕ). get (items_of c) (k ∷ [])) one ∙ part_found c Enables)) where
-  by : (e : Option (ℕ × ℕ)) → is_some e ≡ is_some (value_in (enables_items e))
+  by : (e : Option EnableRegisters) → is_some e ≡ is_some (value_in (enables_items e))
   by None = refl
   by (Some e) = refl
 

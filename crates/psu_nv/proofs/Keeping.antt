@@ -5,6 +5,7 @@ use Rattle.std.specs.Option.{ForSome}
 use Rattle.std.specs.List.{AllByRecursion}
 use Rattle.psu_map.specs.Map.{Item, item_of, put, without, IsSorted}
 use Rattle.psu_map.proofs.Maps.{sorted-put, sorted-without}
+use Rattle.psu_status.specs.declared.enables.Enables.{Enables}
 use Rattle.psu_nv.proofs.Items.{all_put, all_without}
 use Rattle.std.specs.Cmp.Lexicographic.{nat_list_eq_equiv}
 use Rattle.psu_lex.specs.Names.{is_label}
@@ -119,8 +120,8 @@ kept_without_label c macros label is is_without =
     (with_macros c (without_label c.macros label) is (all-without_label c.macros label is.macros) (distinct-without c.macros label is.distinct) (omega (arith, length-without_label c.macros label, is.most_macros)))
 
 -- a new ESE
-pub kept_event : (c : Contents) (sre ese bits : ℕ) → IsContents c → c.enables ≡ Some (sre, ese) → IsContents (contents_of c.registers c.user c.macros (Some (sre, bits)) c.files c.recall)
-kept_event c sre ese bits is here = record { count = is.count; settings = is.settings; user = is.user; macros = is.macros; distinct = is.distinct; most_macros = is.most_macros; mss = mss (subst (λ (o : Option (ℕ × ℕ)). ForSome o (λ e. bit_and e.0 64 ≡ 0)) here is.mss); files = is.files; sorted = is.sorted }
+pub kept_event : (c : Contents) (old : Enables) (bits : ℕ) → IsContents c → c.enables ≡ Some old → IsContents (contents_of c.registers c.user c.macros (Some (record old { ese = bits })) c.files c.recall)
+kept_event c old bits is here = record { count = is.count; settings = is.settings; user = is.user; macros = is.macros; distinct = is.distinct; most_macros = is.most_macros; mss = mss (subst (λ (o : Option Enables). ForSome o (λ e. bit_and e.sre 64 ≡ 0)) here is.mss); files = is.files; sorted = is.sorted }
   where
-    mss : ForSome (Some (sre, ese)) (λ (e : ℕ × ℕ). bit_and e.0 64 ≡ 0) → ForSome (Some (sre, bits)) (λ (e : ℕ × ℕ). bit_and e.0 64 ≡ 0)
-    mss has = λ e there. let first : e.0 ≡ sre = cc in ap (λ (n : ℕ). bit_and n 64) first ∙ has (sre, ese) refl
+    mss : ForSome (Some old) (λ (e : Enables). bit_and e.sre 64 ≡ 0) → ForSome (Some (record old { ese = bits })) (λ (e : Enables). bit_and e.sre 64 ≡ 0)
+    mss has = λ e there. let first : e.sre ≡ old.sre = cc in ap (λ (n : ℕ). bit_and n 64) first ∙ has old refl

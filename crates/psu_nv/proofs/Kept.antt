@@ -10,6 +10,7 @@ use Rattle.psu_map.proofs.Maps.{same_map}
 use Rattle.psu_outputs.specs.declared.output_settings.OutputSettings.{OutputSettings}
 use Rattle.psu_outputs.specs.Settings.{AreSettings, reset, bytes_of, is_reset}
 use Rattle.psu_lex.specs.Names.{is_name}
+use Rattle.psu_status.specs.declared.enables.Enables.{Enables as EnableRegisters}
 use Rattle.psu_nv.specs.Decoding.{is_between}
 use Rattle.psu_nv.specs.Contents.{Macro, Contents, contents_of, IsContents, IsMacro, IsFile, HasDistinct, enables_items, register_items, registers_items, user_items, macros_items, file_item, recall_items, items_of}
 use Rattle.psu_nv.specs.Commands.{settings_at}
@@ -61,7 +62,7 @@ contents_keys c is =
     (all-append HasKey (macros_items c.macros) _ (by_macros c.macros)
     (all-append HasKey (map file_item c.files) _ (files_keys c.files is.files) (by_recall c.recall))))))
   where
-    by_enables : (e : Option (ℕ × ℕ)) → AllByRecursion HasKey (enables_items e)
+    by_enables : (e : Option EnableRegisters) → AllByRecursion HasKey (enables_items e)
     by_enables None = tt
     by_enables (Some e) = (refl, tt)
 
@@ -108,7 +109,7 @@ contents_files c is =
     (all-append HasFile (macros_items c.macros) _ (by_macros c.macros)
     (all-append HasFile (map file_item c.files) _ (files_files c.files is.files) (by_recall c.recall))))))
   where
-    by_enables : (e : Option (ℕ × ℕ)) → AllByRecursion HasFile (enables_items e)
+    by_enables : (e : Option EnableRegisters) → AllByRecursion HasFile (enables_items e)
     by_enables None = tt
     by_enables (Some e) = (refl, tt)
 
@@ -221,8 +222,8 @@ same_parts a b sorted_a sorted_b keys_a keys_b same = same_map a b sorted_a sort
 
 -- # A map that encodes contents
 
-module _ (items : List Item) (e : Option (ℕ × ℕ)) (registers : List (List OutputSettings)) (user : List ℕ) (macros : List Macro) (sorted : IsSorted items) (keys : has_keys items ≡ true)
-    (mss : ForSome e (λ s. bit_and s.0 64 ≡ 0)) (e_is : value_in (enables_items e) ≡ get items (1 ∷ []))
+module _ (items : List Item) (e : Option EnableRegisters) (registers : List (List OutputSettings)) (user : List ℕ) (macros : List Macro) (sorted : IsSorted items) (keys : has_keys items ≡ true)
+    (mss : ForSome e (λ s. bit_and s.sre 64 ≡ 0)) (e_is : value_in (enables_items e) ≡ get items (1 ∷ []))
     (count : length registers ≡ 100) (are : AllByRecursion AreSettings registers) (r_is : (r : ℕ) → r < 100 → value_in (register_items r (settings_at registers r)) ≡ get items (2 ∷ r ∷ []))
     (u_most : length user ≤ 63) (u_is : value_in (user_items user) ≡ get items (3 ∷ []))
     (m_all : AllByRecursion IsMacro macros) (m_distinct : HasDistinct macros) (m_most : length macros ≤ 32) (m_is : value_in (macros_items macros) ≡ get items (4 ∷ []))

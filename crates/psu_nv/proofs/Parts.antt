@@ -9,6 +9,7 @@ use Rattle.std.specs.Cmp.Lexicographic.{slice_cmp}
 use Rattle.psu_map.specs.Map.{Item, item_of, Before, IsSorted}
 use Rattle.psu_outputs.specs.declared.output_settings.OutputSettings.{OutputSettings}
 use Rattle.psu_outputs.specs.Settings.{bytes_of, is_reset}
+use Rattle.psu_status.specs.declared.enables.Enables.{Enables}
 use Rattle.psu_nv.specs.Contents.{Macro, Contents, enables_items, register_items, registers_items, user_items, macros_items, file_item, recall_items, items_of}
 
 -- # Order by the first byte
@@ -63,7 +64,7 @@ sorted-append n (i ∷ a) b sorted_a sorted_b below from = (
 
 -- # The parts by their first bytes
 
-pub enables_led : (e : Option (ℕ × ℕ)) → AllBelow 2 (enables_items e)
+pub enables_led : (e : Option Enables) → AllBelow 2 (enables_items e)
 enables_led None = tt
 enables_led (Some e) = (omega arith, tt)
 
@@ -192,7 +193,7 @@ module _ (c : Contents) where
       (registers_below c.registers) from_user)
       (enables_led c.enables) from_registers
     where
-      one : (e : Option (ℕ × ℕ)) → IsSorted (enables_items e)
+      one : (e : Option Enables) → IsSorted (enables_items e)
       one None = tt
       one (Some e) = (tt, tt)
 

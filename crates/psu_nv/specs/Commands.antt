@@ -10,6 +10,7 @@ use Rattle.psu_lex.specs.declared.scpi_error.ScpiError.{ScpiError}
 use Rattle.psu_lex.specs.declared.scpi_error.ScpiError.TheVariants.{IllegalMacroLabel, MacroDefinitionTooLong, MacroRedefinitionNotAllowed, MacroHeaderNotFound, FileNameError, FileNameNotFound, MassStorageError, MediaFull}
 use Rattle.psu_outputs.specs.declared.output_settings.OutputSettings.{OutputSettings}
 use Rattle.psu_outputs.specs.Settings.{reset, is_allowed, bytes_of}
+use Rattle.psu_status.specs.declared.enables.Enables.{Enables}
 use Rattle.psu_lex.specs.Names.{is_label, is_name}
 use Rattle.psu_nv.specs.Labels.{same_label}
 use Rattle.psu_nv.specs.Contents.{Macro, Contents, body_at, has_label, fits}
@@ -18,7 +19,7 @@ use Rattle.psu_nv.specs.Contents.{Macro, Contents, body_at, has_label, fits}
 pub data Command : Type 0 where
   ServiceEnable : (bits : ℕ) → Command
   EventEnable : (bits : ℕ) → Command
-  PowerOnClear : (enables : Option (ℕ × ℕ)) → Command
+  PowerOnClear : (enables : Option Enables) → Command
   Save : (register : ℕ) → (settings : List OutputSettings) → Command
   User : (bytes : List ℕ) → Command
   DefineMacro : (label : List ℕ) → (body : List ℕ) → Command
@@ -108,17 +109,17 @@ refused c (LoadMacro label name) =
 abbrev pub without_mss : ℕ → ℕ
 without_mss bits = bit_and bits 191
 
-abbrev pub with_service : Option (ℕ × ℕ) → ℕ → Option (ℕ × ℕ)
+abbrev pub with_service : Option Enables → ℕ → Option Enables
 with_service None bits = None
-with_service (Some e) bits = Some (without_mss bits, e.1)
+with_service (Some e) bits = Some (record e { sre = without_mss bits })
 
-abbrev pub with_event : Option (ℕ × ℕ) → ℕ → Option (ℕ × ℕ)
+abbrev pub with_event : Option Enables → ℕ → Option Enables
 with_event None bits = None
-with_event (Some e) bits = Some (e.0, bits)
+with_event (Some e) bits = Some (record e { ese = bits })
 
-abbrev pub kept : Option (ℕ × ℕ) → Option (ℕ × ℕ)
+abbrev pub kept : Option Enables → Option Enables
 kept None = None
-kept (Some e) = Some (without_mss e.0, e.1)
+kept (Some e) = Some (record e { sre = without_mss e.sre })
 
 abbrev pub macro_of : List ℕ → List ℕ → Macro
 macro_of label body = record { label = label; body = body }

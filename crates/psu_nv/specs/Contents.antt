@@ -7,6 +7,7 @@ use Rattle.std.specs.Int.{w16, to_be_bytes}
 use Rattle.psu_map.specs.Map.{Item, item_of, cost, IsSorted}
 use Rattle.psu_outputs.specs.declared.output_settings.OutputSettings.{OutputSettings}
 use Rattle.psu_outputs.specs.Settings.{AreSettings, reset, is_reset, bytes_of}
+use Rattle.psu_status.specs.declared.enables.Enables.{Enables}
 use Rattle.psu_lex.specs.Names.{is_label, is_name}
 use Rattle.psu_nv.specs.Labels.{same_label}
 
@@ -22,11 +23,11 @@ pub record Contents : Type 0 where
   pub registers : List (List OutputSettings)
   pub user : List ℕ
   pub macros : List Macro
-  pub enables : Option (ℕ × ℕ)
+  pub enables : Option Enables
   pub files : List Item
   pub recall : Bool
 
-abbrev pub contents_of : List (List OutputSettings) → List ℕ → List Macro → Option (ℕ × ℕ) → List Item → Bool → Contents
+abbrev pub contents_of : List (List OutputSettings) → List ℕ → List Macro → Option Enables → List Item → Bool → Contents
 contents_of registers user macros enables files recall = record { registers = registers; user = user; macros = macros; enables = enables; files = files; recall = recall }
 
 -- # Valid contents
@@ -67,7 +68,7 @@ pub record IsContents (c : Contents) : Type 0 where
   pub macros : AllByRecursion IsMacro c.macros
   pub distinct : HasDistinct c.macros
   pub most_macros : length c.macros ≤ 32
-  pub mss : ForSome c.enables (λ e. bit_and e.0 64 ≡ 0)
+  pub mss : ForSome c.enables (λ e. bit_and e.sre 64 ≡ 0)
   pub files : AllByRecursion IsFile c.files
   pub sorted : IsSorted c.files
 
@@ -78,9 +79,9 @@ fresh = record { registers = replicate 100 reset; user = []; macros = []; enable
 -- # Items, in the order of their keys
 
 -- key 01: SRE and ESE; absent where the flag is true
-abbrev pub enables_items : Option (ℕ × ℕ) → List Item
+abbrev pub enables_items : Option Enables → List Item
 enables_items None = []
-enables_items (Some e) = item_of (1 ∷ []) (e.0 ∷ e.1 ∷ []) ∷ []
+enables_items (Some e) = item_of (1 ∷ []) (e.sre ∷ e.ese ∷ []) ∷ []
 
 -- key 02 and the register: the 28 bytes of its settings; absent where it holds the reset settings
 abbrev pub register_items : ℕ → List OutputSettings → List Item

@@ -1,6 +1,7 @@
 // The nonvolatile commands.
 use crate::{FileBytes, Register, UserData};
 use psu_outputs::Settings;
+use psu_status::Enables;
 
 /// A nonvolatile command with its parameters. What it borrows is copied once, into the contents.
 #[derive(Drop)]
@@ -10,7 +11,7 @@ pub enum NvCommand<'a> {
     /// `*ESE` while the flag is false.
     EventEnable(u8),
     /// `*PSC`: the present SRE and ESE if the flag becomes false, `None` if it becomes true.
-    PowerOnClear(Option<(u8, u8)>),
+    PowerOnClear(Option<Enables>),
     /// `*SAV` of the present settings.
     Save(Register, Settings),
     /// `*PUD`.

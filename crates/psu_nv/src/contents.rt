@@ -11,6 +11,7 @@ use crate::registers::Registers;
 use crate::{File, FileKind, Label, Register, UserData};
 use psu_map::Pair;
 use psu_outputs::Settings;
+use psu_status::Enables;
 use std::alloc::{AllocError, Allocator};
 use std::marker::Model;
 
@@ -23,7 +24,7 @@ pub struct Contents<A: Allocator + Copy> {
     pub(crate) registers: Registers,
     pub(crate) user: UserData,
     pub(crate) macros: Macros<A>,
-    pub(crate) enables: Option<(u8, u8)>,
+    pub(crate) enables: Option<Enables>,
     pub(crate) files: Files<A>,
     pub(crate) recall: bool,
 }
@@ -78,7 +79,7 @@ impl<A: Allocator + Copy> Contents<A> {
     }
 
     /// SRE and ESE if the power-on status clear flag is false; `None` if it is true.
-    pub fn enables(&self) -> Option<(u8, u8)>
+    pub fn enables(&self) -> Option<Enables>
         ensures { result ≡ self.now.enables }
     {
         self.enables

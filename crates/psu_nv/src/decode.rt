@@ -20,12 +20,13 @@ use crate::{Contents, DecodeFault, Register, UserData};
 use arrayvec::ArrayVec;
 use psu_map::Items;
 use psu_outputs::Settings;
+use psu_status::Enables;
 use std::alloc::{AllocError, Allocator};
 
 // All parts but the files, as a map encodes them. They are read before anything is allocated.
 #[derive(Drop)]
 struct Read<'a> {
-    enables: Option<(u8, u8)>,
+    enables: Option<Enables>,
     registers: Registers,
     user: UserData,
     macros: WrittenMacros<'a>,
@@ -107,11 +108,11 @@ fn defined<A: Allocator + Copy>(alloc: A, all: &[Written<'_>]) -> Result<Macros<
 }
 
 // Reads SRE and ESE from the value of their key; `None` if it has none.
-fn enables_in(value: Option<&[u8]>) -> Result<Option<(u8, u8)>, DecodeFault>
+fn enables_in(value: Option<&[u8]>) -> Result<Option<Enables>, DecodeFault>
     ensures found { IfOk result (λ enables. value_in (enables_items enables) ≡ option_map (λ v. v.now) value.entry) }
-    ensures mss { IfOk result (λ enables. ForSome enables (λ e. bit_and e.0 64 ≡ 0)) }
+    ensures mss { IfOk result (λ enables. ForSome enables (λ e. bit_and e.sre 64 ≡ 0)) }
     ensures bad { IfErr result (λ e. e ≡ BadValue) }
-    ensures none { IfErr result (λ e. (enables : Option (ℕ × ℕ)) → ForSome enables (λ e. bit_and e.0 64 ≡ 0) → value_in (enables_items enables) ≡ option_map (λ v. v.now) value.entry → ⊥) }
+    ensures none { IfErr result (λ e. (enables : Option Enables) → ForSome enables (λ e. bit_and e.sre 64 ≡ 0) → value_in (enables_items enables) ≡ option_map (λ v. v.now) value.entry → ⊥) }
 {
     match value {
         None => Ok(None),
@@ -119,7 +120,10 @@ fn enables_in(value: Option<&[u8]>) -> Result<Option<(u8, u8)>, DecodeFault>
             if *sre & 64 != 0 {
                 return Err(DecodeFault::BadValue);
             }
-            Ok(Some((*sre, *ese)))
+            Ok(Some(Enables {
+                sre: *sre,
+                ese: *ese,
+            }))
         }
         Some(_) => Err(DecodeFault::BadValue),
     }

@@ -10,6 +10,7 @@ use crate::part::with_first;
 use crate::{Contents, Part, Register};
 use psu_map::{Batch, Items, Value};
 use psu_outputs::Settings;
+use psu_status::Enables;
 use std::alloc::{AllocError, Allocator};
 
 impl<A: Allocator + Copy> Contents<A> {
@@ -59,7 +60,7 @@ impl<A: Allocator + Copy> Contents<A> {
     {
         match part {
             Part::Enables => match self.enables {
-                Some((sre, ese)) => Ok(Some([sre, ese].to_vec(alloc)?)),
+                Some(Enables { sre, ese }) => Ok(Some([sre, ese].to_vec(alloc)?)),
                 None => Ok(None),
             },
             Part::Register(register) => settings_value(alloc, self.register(register)),

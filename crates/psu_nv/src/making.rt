@@ -9,6 +9,7 @@ ghost use Rattle.psu_nv.specs.Commands.{macro_of, without_label, without_mss, ke
 use crate::body::Body;
 use crate::{Contents, Label, Register, UserData};
 use psu_outputs::Settings;
+use psu_status::Enables;
 use std::alloc::{AllocError, Allocator};
 
 impl<A: Allocator + Copy> Contents<A> {
@@ -33,11 +34,14 @@ impl<A: Allocator + Copy> Contents<A> {
         self.macros.clear();
     }
 
-    pub(crate) fn set_enables(&mut self, enables: Option<(u8, u8)>)
+    pub(crate) fn set_enables(&mut self, enables: Option<Enables>)
         ensures { self.new ≡ record self.old { enables = kept enables } }
     {
         self.enables = match enables {
-            Some((sre, ese)) => Some((without_mss(sre), ese)),
+            Some(kept) => Some(Enables {
+                sre: without_mss(kept.sre),
+                ..kept
+            }),
             None => None,
         };
     }
@@ -45,16 +49,19 @@ impl<A: Allocator + Copy> Contents<A> {
     pub(crate) fn set_service(&mut self, bits: u8)
         ensures { self.new ≡ record self.old { enables = with_service self.old.enables bits } }
     {
-        if let Some((_, ese)) = self.enables {
-            self.enables = Some((without_mss(bits), ese));
+        if let Some(kept) = self.enables {
+            self.enables = Some(Enables {
+                sre: without_mss(bits),
+                ..kept
+            });
         }
     }
 
     pub(crate) fn set_event(&mut self, bits: u8)
         ensures { self.new ≡ record self.old { enables = with_event self.old.enables bits } }
     {
-        if let Some((sre, _)) = self.enables {
-            self.enables = Some((sre, bits));
+        if let Some(kept) = self.enables {
+            self.enables = Some(Enables { ese: bits, ..kept });
         }
     }
 

@@ -4,6 +4,8 @@ ghost use Rattle.psu_map.specs.Map.{cost};
 ghost use Rattle.psu_nv.specs.Contents.{enables_items, user_items};
 ghost use Rattle.psu_nv.specs.Costs.{page_count};
 
+use psu_status::Enables;
+
 // The pages of each part.
 #[derive(Clone, Copy)]
 pub(crate) struct Pages {
@@ -36,7 +38,7 @@ pub(crate) fn page_count(size: u128) -> u128
     1 + (size + 511) / 512
 }
 
-pub(crate) fn enables_pages(enables: Option<(u8, u8)>) -> u8
+pub(crate) fn enables_pages(enables: Option<Enables>) -> u8
     ensures { result ≡ cost (enables_items enables) }
 {
     match enables {

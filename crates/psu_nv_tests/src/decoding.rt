@@ -3,6 +3,7 @@ use crate::holds::holds;
 use crate::maps::{bytes_of, map_of};
 use psu_map::{Items, Value};
 use psu_nv::{Contents, DecodeFault};
+use psu_status::Enables;
 use psu_tables::row;
 use std::alloc::Global;
 use std::process::Abort;
@@ -224,7 +225,7 @@ const WHOLE: &str = "
 
 // Whether contents have each part of the whole map.
 fn are_whole(contents: &Contents<Global>) -> bool {
-    contents.enables() == Some((0, 8))
+    contents.enables() == Some(Enables { sre: 0, ese: 8 })
         && contents.user() == [9].as_slice()
         && matches!(contents.body(b"m"), Some(body) if body == b"!".as_slice())
         && contents.names().len() == 2

@@ -9,11 +9,11 @@ use Rattle.psu_disk.specs.Ranges.{range_index}
 use Rattle.psu_pages.specs.declared.root.Root.{Root}
 use Rattle.psu_pages.specs.declared.root.Root.TheVariants.{First, Second}
 use Rattle.psu_pages.specs.declared.words.Words.{Words}
-use Rattle.psu_pages.specs.declared.open_cause.OpenCause.{OpenCause}
-use Rattle.psu_pages.specs.declared.open_cause.OpenCause.TheVariants.{Device, NoRoot, BadRoot, BadVersion, Memory}
+use Rattle.psu_pages.specs.declared.bad_image.BadImage.{BadImage}
+use Rattle.psu_pages.specs.declared.bad_image.BadImage.TheVariants.{NoRoot, BadRoot, BadVersion}
 use Rattle.psu_pages.specs.Image.{other, gate_at, gate, mark, mark_in, version_in, IsKnown, limit_in, number_in, count_in, IsCurrent, current_root}
 use Rattle.psu_pages.specs.Shown.{Shows}
-use Rattle.psu_pages.specs.Finding.{open_number, of_root, IsPickedIn, IsNonePicked, HasGoodWords, IsSound, IsUnsound, page_of, HasNoRoot, IsChoiceRefusal}
+use Rattle.psu_pages.specs.Finding.{open_number, of_root, IsPickedIn, IsNonePicked, HasGoodWords, IsSound, IsUnsound, page_of, HasNoRoot, IsRefusal}
 use Rattle.psu_pages.proofs.Places.{gate_low, range_inside}
 use Rattle.psu_pages.proofs.Encoding.{current_root_is}
 
@@ -83,8 +83,7 @@ some_root x First size is_open (inr shut) = shut.0 is_open
 some_root x Second size is_open (inr shut) = shut.1 is_open
 
 -- refused because there is no current root
-pub unpicked : (x : List ℕ) (cause : OpenCause) → 1024 ≤ length x → IsNonePicked (open_number First x) (open_number Second x) cause → IsChoiceRefusal x cause
-unpicked x Device size none = absurd none
+pub unpicked : (x : List ℕ) (bad : BadImage) → 1024 ≤ length x → IsNonePicked (open_number First x) (open_number Second x) bad → IsRefusal x bad
 unpicked x NoRoot size none = inr (number_shut First x none.0, number_shut Second x none.1)
 unpicked x BadRoot size none = record {
   some_root = some_root x First size (number_open First x none.0 none.1).0;
@@ -92,7 +91,6 @@ unpicked x BadRoot size none = record {
   represents_none = λ limit items st. none_current x none.0 none.1 none.2 (current_root x) st.current;
 }
 unpicked x BadVersion size none = absurd none
-unpicked x Memory size none = absurd none
 
 -- the contents of a root's page
 module _ (root : Root) (x page : List ℕ) (size : 1024 ≤ length x) (is : page ≡ page_of root x) where
@@ -131,8 +129,7 @@ module _ (root : Root) (x page : List ℕ) (size : 1024 ≤ length x) (is : page
     }
 
     -- refused because its fields are invalid
-    pub unsound : (cause : OpenCause) → IsCurrent root x → IsUnsound words (length x) cause → IsChoiceRefusal x cause
-    unsound Device current none = absurd none
+    pub unsound : (bad : BadImage) → IsCurrent root x → IsUnsound words (length x) bad → IsRefusal x bad
     unsound NoRoot current none = absurd none
     unsound BadRoot current none = record {
       some_root = some_root x root size current.open_gate;
@@ -159,4 +156,3 @@ module _ (root : Root) (x page : List ℕ) (size : 1024 ≤ length x) (is : page
           marked = subst (λ (r : Root). mark_in r x ≡ mark) is (sym mark_is ∙ none.0);
           version = subst (λ (r : Root). IsKnown (version_in r x) → ⊥) is (λ known. none.1 (subst IsKnown (sym version_is) known));
         }
-    unsound Memory current none = absurd none

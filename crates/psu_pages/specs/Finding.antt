@@ -11,7 +11,9 @@ use Rattle.psu_pages.specs.declared.choose.Roots.{Roots}
 use Rattle.psu_pages.specs.declared.choose.Chosen.{Chosen}
 use Rattle.psu_pages.specs.declared.root.Root.TheVariants.{First, Second}
 use Rattle.psu_pages.specs.declared.open_cause.OpenCause.{OpenCause}
-use Rattle.psu_pages.specs.declared.open_cause.OpenCause.TheVariants.{Device, NoRoot, BadRoot, BadVersion, Memory}
+use Rattle.psu_pages.specs.declared.open_cause.OpenCause.TheVariants.{Device, Image, Memory}
+use Rattle.psu_pages.specs.declared.bad_image.BadImage.{BadImage}
+use Rattle.psu_pages.specs.declared.bad_image.BadImage.TheVariants.{NoRoot, BadRoot, BadVersion}
 
 -- the number of a root whose gate is open
 abbrev pub open_number : Root → List ℕ → Option ℕ
@@ -32,12 +34,10 @@ abbrev pub IsPickedIn : List ℕ → Root → ℕ → Bool → Type 0
 IsPickedIn image root number both = IsPicked (open_number First image) (open_number Second image) root number both
 
 -- why no root is picked: no gate is open, or both are open and have the same number
-abbrev pub IsNonePicked : Option ℕ → Option ℕ → OpenCause → Type 0
-IsNonePicked first second Device = ⊥
+abbrev pub IsNonePicked : Option ℕ → Option ℕ → BadImage → Type 0
 IsNonePicked first second NoRoot = (first ≡ None) × (second ≡ None)
 IsNonePicked first second BadRoot = (number : ℕ) × (first ≡ Some number) × (second ≡ Some number)
 IsNonePicked first second BadVersion = ⊥
-IsNonePicked first second Memory = ⊥
 
 -- A root's fields are valid: it is of this format, of a supported version, on a disk that is large enough. Its heads
 -- are checked elsewhere.
@@ -59,12 +59,10 @@ pub record IsSound (words : Words) (size : ℕ) : Type 0 where
   pub count : words.count ≤ 240
 
 -- why fields are not sound
-abbrev pub IsUnsound : Words → ℕ → OpenCause → Type 0
-IsUnsound words size Device = ⊥
+abbrev pub IsUnsound : Words → ℕ → BadImage → Type 0
 IsUnsound words size NoRoot = ⊥
 IsUnsound words size BadRoot = (words.mark ≡ mark → IsKnown words.version) × (IsSound words size → ⊥)
 IsUnsound words size BadVersion = (words.mark ≡ mark) × (IsKnown words.version → ⊥)
-IsUnsound words size Memory = ⊥
 
 -- a root's page
 abbrev pub page_of : Root → List ℕ → List ℕ
@@ -110,14 +108,6 @@ pub record AreFit (limit : ℕ) (heads : List Head) (free : List Bool) : Type 0 
   pub claimed : AreClaimed free (taken heads)
   pub rest : (page : ℕ) → IsInPool limit page → IsNone (taken heads) page → is_free free page ≡ true
 
--- why valid heads may not be read
-abbrev pub IsScanCause : OpenCause → Type 0
-IsScanCause Device = ⊤
-IsScanCause NoRoot = ⊥
-IsScanCause BadRoot = ⊥
-IsScanCause BadVersion = ⊥
-IsScanCause Memory = ⊤
-
 -- the gate of the root that isn't current is closed, or it is open and that root has a lower number
 pub record HasGates (root : Root) (number : ℕ) (both : Bool) (image : List ℕ) : Type 0 where
   pub shut : both ≡ false → gate (other root) image ≢ 165
@@ -140,26 +130,15 @@ pub record HasBadRoot (image : List ℕ) : Type 0 where
   pub same_version : HasOtherVersion image → ⊥
   pub represents_none : (limit : ℕ) (items : List Item) → Represents image limit items → ⊥
 
--- The cause for which an image is refused. A failed disk call and a failed allocation say nothing about the image.
-abbrev pub IsRefusal : List ℕ → OpenCause → Type 0
-IsRefusal image Device = ⊤
+-- why an image is refused for its contents
+abbrev pub IsRefusal : List ℕ → BadImage → Type 0
 IsRefusal image NoRoot = HasNoRoot image
 IsRefusal image BadRoot = HasBadRoot image
 IsRefusal image BadVersion = HasOtherVersion image
-IsRefusal image Memory = ⊤
 
--- why there is no current root whose heads can be read
-abbrev pub IsChoiceRefusal : List ℕ → OpenCause → Type 0
-IsChoiceRefusal image Device = ⊥
-IsChoiceRefusal image NoRoot = HasNoRoot image
-IsChoiceRefusal image BadRoot = HasBadRoot image
-IsChoiceRefusal image BadVersion = HasOtherVersion image
-IsChoiceRefusal image Memory = ⊥
-
--- the causes for which a choice may be refused
-abbrev pub IsChoiceCause : OpenCause → Type 0
-IsChoiceCause Device = ⊥
-IsChoiceCause NoRoot = ⊤
-IsChoiceCause BadRoot = ⊤
-IsChoiceCause BadVersion = ⊤
-IsChoiceCause Memory = ⊥
+-- P of what is wrong with the image, if that is the cause; a failed disk call and a failed allocation say nothing about
+-- the image
+abbrev pub IfImage : OpenCause → (BadImage → Type 0) → Type 0
+IfImage Device P = ⊤
+IfImage (Image bad) P = P bad
+IfImage Memory P = ⊤

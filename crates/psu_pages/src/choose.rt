@@ -1,14 +1,15 @@
 //! The choice of the current root, and its contents.
-ghost use Rattle.std.specs.Prelude.{◌≡◌, ◌≢◌, ◌+◌, ◌*◌, ◌≤◌, List, ℕ, true, false, length, IfOk, IfErr, OnOk};
-ghost use Rattle.psu_disk.specs.Disk.{IsCrashImage, Only, LeavesOnly, HasCause};
+ghost use Rattle.std.specs.Prelude.{◌≡◌, ◌≢◌, ◌+◌, ◌*◌, ◌≤◌, List, ℕ, true, false, length, IfOk, IfErr, OnOk, ⊤};
+ghost use Rattle.psu_disk.specs.Disk.{IsCrashImage, Only};
+ghost use Rattle.psu_disk.specs.Steps.{Step, Leaves};
 ghost use Rattle.psu_pages.specs.declared.standing.Standing.TheVariants.{One, Both, Unsure};
-ghost use Rattle.psu_pages.specs.Finding.{AreRoots, IsChosen, IsChoiceCause, IsChoiceRefusal, page_of};
+ghost use Rattle.psu_pages.specs.Finding.{AreRoots, IsChosen, IsRefusal, page_of};
 
 use crate::gates::make_sure;
 use crate::pick::pick;
 use crate::reading::read_page;
 use crate::words::{check, open_number, words_on};
-use crate::{OpenCause, Root, Standing};
+use crate::{BadImage, Root, Standing};
 use psu_disk::{Disk, DiskFault};
 
 /// The pages of the two roots.
@@ -60,13 +61,11 @@ impl Chosen {
 /// Syncs the disk, so that what it reads as is durable, and reads its two roots.
 pub fn read_roots<D: Disk>(disk: &mut D) -> Result<Roots, DiskFault>
     requires { 1024 ≤ D.extent disk.old }
-    ensures extent { D.extent disk.new ≡ D.extent disk.old }
-    ensures cause { HasCause (D.failures disk.old) (D.failures disk.new) result }
+    ensures step { Step D.Disk disk.old disk.new result (λ fault. ⊤) }
     ensures found { D.honest → IfOk result (λ roots. AreRoots roots (D.state disk.old).bytes) }
     ensures synced { D.honest → OnOk result (Only (D.state disk.new)) }
     ensures seen { D.honest → (D.state disk.new).bytes ≡ (D.state disk.old).bytes }
-    ensures left { D.honest → (x : List ℕ) → IsCrashImage (D.state disk.new) x → IsCrashImage (D.state disk.old) x }
-    ensures time { D.honest → D.records → LeavesOnly D.moment D.left_since disk.old disk.new (IsCrashImage (D.state disk.old)) }
+    ensures left { Leaves D.Disk disk.old disk.new (IsCrashImage (D.state disk.old)) }
 {
     let mut roots = Roots {
         first: [0; 512],
@@ -79,19 +78,18 @@ pub fn read_roots<D: Disk>(disk: &mut D) -> Result<Roots, DiskFault>
 }
 
 /// Returns the current root on a disk of this size, or why there is none.
-pub fn choose(roots: &Roots, size: u64) -> Result<Chosen, OpenCause>
+pub fn choose(roots: &Roots, size: u64) -> Result<Chosen, BadImage>
     ensures limit { IfOk result (λ chosen. (4 ≤ chosen.limit) × (chosen.limit ≤ 480) × (512 * (2 + 2 * chosen.limit) ≤ size) × (chosen.count ≤ 240)) }
-    ensures cause { IfErr result IsChoiceCause }
     ensures chosen { (image : List ℕ) → AreRoots roots.now image → length image ≡ size → IfOk result (IsChosen image) }
-    ensures refused { (image : List ℕ) → AreRoots roots.now image → length image ≡ size → IfErr result (IsChoiceRefusal image) }
+    ensures refused { (image : List ℕ) → AreRoots roots.now image → length image ≡ size → IfErr result (IsRefusal image) }
 {
     let picked = match pick(open_number(&roots.first), open_number(&roots.second)) {
         Ok(picked) => picked,
-        Err(cause) => return Err(cause),
+        Err(bad) => return Err(bad),
     };
     let words = words_on(roots.page(picked.root));
-    if let Err(cause) = check(&words, size) {
-        return Err(cause);
+    if let Err(bad) = check(&words, size) {
+        return Err(bad);
     }
     Ok(Chosen {
         root: picked.root,

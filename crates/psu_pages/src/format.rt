@@ -1,6 +1,6 @@
 //! Formatting a disk.
-ghost use Rattle.std.specs.Prelude.{◌≡◌, ◌≢◌, ◌+◌, ◌*◌, ◌≤◌, [], ◌∷◌, List, ℕ, true, length, OnOk, IfOk, IfErr};
-ghost use Rattle.psu_disk.specs.Disk.{IsCrashImage, HasCause, HasFailed};
+ghost use Rattle.std.specs.Prelude.{◌≡◌, ◌+◌, ◌*◌, ◌≤◌, [], ◌∷◌, ℕ, length, OnOk, IfOk, IfErr, ⊤};
+ghost use Rattle.psu_disk.specs.Steps.{Step};
 ghost use Rattle.psu_pages.specs.Finding.{page_of};
 ghost use Rattle.psu_pages.specs.Image.{gate};
 ghost use Rattle.psu_pages.specs.Spelling.{AreRootContents, open_root};
@@ -31,10 +31,7 @@ impl<D: Disk, A: Allocator + Copy> Pages<D, A> {
         ensures spelled { D.honest → IfOk result (λ pages. page_of First (D.state pages.disk).bytes ≡ open_root limit 1 []) }
         ensures zero { D.honest → IfOk result (λ pages. gate Second (D.state pages.disk).bytes ≡ 0) }
         ensures empty { D.honest → IfOk result (λ pages. items_in pages.root (D.state pages.disk).bytes ≡ []) }
-        ensures extent { D.extent (formatted_disk result) ≡ D.extent disk }
-        ensures works { IfOk result (λ pages. D.failures pages.disk ≡ D.failures disk) }
-        ensures later { D.failures disk ≤ D.failures (formatted_disk result) }
-        ensures device { IfErr result (λ e. e.cause ≡ NotWritten → HasFailed (D.failures disk) (D.failures e.disk)) }
+        ensures step { Step D.Disk disk (formatted_disk result) result (λ e. e.cause ≡ NotWritten) }
         ensures no_call { IfErr result (λ e. e.cause ≡ NoMemory → e.disk ≡ disk) }
     {
         let Ok(free) = pool(alloc, limit) else {
@@ -69,8 +66,7 @@ impl<D: Disk, A: Allocator + Copy> Pages<D, A> {
 fn lay_out<D: Disk>(disk: &mut D, contents: &[u8]) -> Result<(), DiskFault>
     requires roots { 1024 ≤ D.extent disk.old }
     requires contents { length contents.now ≡ 511 }
-    ensures extent { D.extent disk.new ≡ D.extent disk.old }
-    ensures cause { HasCause (D.failures disk.old) (D.failures disk.new) result }
+    ensures step { Step D.Disk disk.old disk.new result (λ fault. ⊤) }
     ensures spelled { D.honest → OnOk result (page_of First (D.state disk.new).bytes ≡ 165 ∷ contents.now) }
     ensures zero { D.honest → OnOk result (gate Second (D.state disk.new).bytes ≡ 0) }
     ensures encoded { D.honest → (limit number : ℕ) → AreRootContents limit number [] contents.now (D.state disk.old).bytes → 4 ≤ limit → limit ≤ 480 → 512 * (2 + 2 * limit) ≤ D.extent disk.old

@@ -1,6 +1,7 @@
 //! Items in pages of a disk that may lose power at any moment.
 #![tactic(auto)]
 
+mod bad_image;
 mod checks;
 mod choose;
 mod format;
@@ -31,6 +32,7 @@ mod version;
 mod words;
 mod writing;
 
+pub use bad_image::BadImage;
 pub use format_fault::{FormatCause, FormatFault};
 pub use free_map::FreeMap;
 pub use head::Head;

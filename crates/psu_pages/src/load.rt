@@ -1,7 +1,8 @@
 //! Reading the value of a head.
-ghost use Rattle.std.specs.Prelude.{◌≡◌, ◌≢◌, ◌+◌, ◌*◌, ◌≤◌, List, ℕ, OnOk, IfOk, IfErr, IsErrOf};
+ghost use Rattle.std.specs.Prelude.{◌≡◌, ◌≢◌, ◌+◌, ◌*◌, ◌≤◌, IfOk, IfErr};
 ghost use Rattle.std.specs.List.{AllByRecursion};
-ghost use Rattle.psu_disk.specs.Disk.{IsCrashImage, LeavesOnly, HasCause, HasFailed};
+ghost use Rattle.psu_disk.specs.Disk.{IsCrashImage};
+ghost use Rattle.psu_disk.specs.Steps.{Step, Leaves};
 ghost use Rattle.psu_pages.specs.Image.{value_in, IsHead, IsInPool, Head as HeadOf};
 ghost use Rattle.psu_pages.specs.declared.page_fault.PageFault.TheVariants.{Device, NoPage};
 
@@ -18,16 +19,12 @@ pub fn read_value<D: Disk, A: Allocator + Copy>(
 ) -> Result<Vec<u8, A>, PageFault>
     requires is_head { IsHead head.now }
     requires room { AllByRecursion (λ page. 512 * page + 512 ≤ D.extent disk.old) head.now.pages }
-    ensures extent { D.extent disk.new ≡ D.extent disk.old }
-    ensures works { OnOk result (D.failures disk.new ≡ D.failures disk.old) }
-    ensures later { D.failures disk.old ≤ D.failures disk.new }
-    ensures device { IsErrOf result Device → HasFailed (D.failures disk.old) (D.failures disk.new) }
+    ensures step { Step D.Disk disk.old disk.new result (λ cause. cause ≡ Device) }
     ensures quiet { IfErr result (λ cause. cause ≢ Device → D.failures disk.new ≡ D.failures disk.old) }
     ensures pages { IfErr result (λ cause. cause ≢ NoPage) }
     ensures found { D.honest → IfOk result (λ value. value.items ≡ value_in (D.state disk.old).bytes head.now) }
     ensures seen { D.honest → (D.state disk.new).bytes ≡ (D.state disk.old).bytes }
-    ensures left { D.honest → (x : List ℕ) → IsCrashImage (D.state disk.new) x → IsCrashImage (D.state disk.old) x }
-    ensures time { D.honest → D.records → LeavesOnly D.moment D.left_since disk.old disk.new (IsCrashImage (D.state disk.old)) }
+    ensures left { Leaves D.Disk disk.old disk.new (IsCrashImage (D.state disk.old)) }
 {
     let mut value = Vec::with_capacity(alloc, 512 * head.pages().len())?;
     for page in head.pages() {
@@ -46,10 +43,7 @@ impl<D: Disk, A: Allocator + Copy> Pages<D, A> {
     pub fn load(&mut self, alloc: A, head: &Head<A>) -> Result<Vec<u8, A>, PageFault>
         requires is_head { IsHead head.now }
         requires pool { AllByRecursion (IsInPool self.old.limit) head.now.pages }
-        ensures extent { D.extent self.new.disk ≡ D.extent self.old.disk }
-        ensures works { OnOk result (D.failures self.new.disk ≡ D.failures self.old.disk) }
-        ensures later { D.failures self.old.disk ≤ D.failures self.new.disk }
-        ensures device { IsErrOf result Device → HasFailed (D.failures self.old.disk) (D.failures self.new.disk) }
+        ensures step { Step D.Disk self.old.disk self.new.disk result (λ cause. cause ≡ Device) }
         ensures quiet { IfErr result (λ cause. cause ≢ Device → D.failures self.new.disk ≡ D.failures self.old.disk) }
         ensures pages { IfErr result (λ cause. cause ≢ NoPage) }
 
@@ -58,8 +52,7 @@ impl<D: Disk, A: Allocator + Copy> Pages<D, A> {
         ensures standing { self.new.standing ≡ self.old.standing }
         ensures planned { (other : HeadOf) → IsPlanned self.old other → IsPlanned self.new other }
         ensures seen { D.honest → (D.state self.new.disk).bytes ≡ (D.state self.old.disk).bytes }
-        ensures left { D.honest → (x : List ℕ) → IsCrashImage (D.state self.new.disk) x → IsCrashImage (D.state self.old.disk) x }
-        ensures time { D.honest → D.records → LeavesOnly D.moment D.left_since self.old.disk self.new.disk (IsCrashImage (D.state self.old.disk)) }
+        ensures left { Leaves D.Disk self.old.disk self.new.disk (IsCrashImage (D.state self.old.disk)) }
     {
         read_value(alloc, &mut self.disk, head)
     }

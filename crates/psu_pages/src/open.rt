@@ -1,7 +1,8 @@
 //! Opening a disk, after a power loss or without one.
-ghost use Rattle.std.specs.Prelude.{◌≡◌, ◌≢◌, ◌+◌, ◌*◌, ◌<◌, ◌≤◌, [], List, ℕ, OnOk, IfOk, IfErr, IsErrOf};
-ghost use Rattle.psu_disk.specs.Disk.{IsCrashImage, Only, LeavesOnly, HasFailed};
-ghost use Rattle.psu_pages.specs.Finding.{AreFit, IsRefusal, HasReadableRoot, HasGates};
+ghost use Rattle.std.specs.Prelude.{◌≡◌, ◌≢◌, ◌+◌, ◌*◌, ◌<◌, ◌≤◌, [], OnOk, IfOk, IfErr, IsErrOf};
+ghost use Rattle.psu_disk.specs.Disk.{IsCrashImage, Only};
+ghost use Rattle.psu_disk.specs.Steps.{Step, Leaves};
+ghost use Rattle.psu_pages.specs.Finding.{AreFit, IfImage, IsRefusal, HasReadableRoot, HasGates};
 ghost use Rattle.psu_pages.specs.Free.{IsRoster};
 ghost use Rattle.psu_pages.specs.Shown.{items_in, Encodes};
 ghost use Rattle.psu_pages.specs.declared.open_cause.OpenCause.TheVariants.{Device, Memory};
@@ -11,7 +12,7 @@ use crate::checks::stand_together;
 use crate::choose::{Chosen, choose, read_roots};
 use crate::head::read_words;
 use crate::scan::scan;
-use crate::{FreeMap, Head, OpenCause, Pages, Refused, Standing};
+use crate::{BadImage, FreeMap, Head, OpenCause, Pages, Refused, Standing};
 use psu_disk::Disk;
 use std::alloc::Allocator;
 
@@ -33,21 +34,17 @@ impl<D: Disk, A: Allocator + Copy> Pages<D, A> {
         ensures sure { IfOk result (λ pages. pages.standing ≢ Unsure) }
         ensures fit { IfOk result (λ pages. AreFit pages.limit pages.heads.items pages.free) }
         ensures none_older { IfOk result (λ pages. pages.older.items ≡ []) }
-        ensures refused { D.honest → IfErr result (λ e. IsRefusal (D.state disk).bytes e.cause) }
-        ensures extent { D.extent (opened_disk result) ≡ D.extent disk }
-        ensures works { IfOk result (λ pages. D.failures pages.disk ≡ D.failures disk) }
-        ensures later { D.failures disk ≤ D.failures (opened_disk result) }
-        ensures device { IfErr result (λ e. e.cause ≡ Device → HasFailed (D.failures disk) (D.failures e.disk)) }
+        ensures refused { D.honest → IfErr result (λ e. IfImage e.cause (IsRefusal (D.state disk).bytes)) }
+        ensures step { Step D.Disk disk (opened_disk result) result (λ e. e.cause ≡ Device) }
         ensures quiet { IfErr result (λ e. e.cause ≢ Device → D.failures e.disk ≡ D.failures disk) }
         ensures memory { D.honest → IfErr result (λ e. e.cause ≡ Memory → HasReadableRoot (D.state disk).bytes) }
         ensures synced { D.honest → IfOk result (λ pages. Only (D.state pages.disk)) }
         ensures seen { D.honest → (D.state (opened_disk result)).bytes ≡ (D.state disk).bytes }
-        ensures left { D.honest → (x : List ℕ) → IsCrashImage (D.state (opened_disk result)) x → IsCrashImage (D.state disk) x }
-        ensures time { D.honest → D.records → LeavesOnly D.moment D.left_since disk (opened_disk result) (IsCrashImage (D.state disk)) }
+        ensures left { Leaves D.Disk disk (opened_disk result) (IsCrashImage (D.state disk)) }
     {
         if disk.size() < 1024 {
             return Err(Refused {
-                cause: OpenCause::NoRoot,
+                cause: OpenCause::Image(BadImage::NoRoot),
                 disk,
             });
         }
@@ -77,10 +74,7 @@ impl<D: Disk, A: Allocator + Copy> Pages<D, A> {
 // Finds the current root, and reads its heads.
 fn look<D: Disk, A: Allocator + Copy>(alloc: A, disk: &mut D) -> Result<Opened<A>, OpenCause>
     requires { 1024 ≤ D.extent disk.old }
-    ensures extent { D.extent disk.new ≡ D.extent disk.old }
-    ensures works { OnOk result (D.failures disk.new ≡ D.failures disk.old) }
-    ensures later { D.failures disk.old ≤ D.failures disk.new }
-    ensures device { IsErrOf result Device → HasFailed (D.failures disk.old) (D.failures disk.new) }
+    ensures step { Step D.Disk disk.old disk.new result (λ cause. cause ≡ Device) }
     ensures quiet { IfErr result (λ cause. cause ≢ Device → D.failures disk.new ≡ D.failures disk.old) }
     ensures memory { D.honest → IsErrOf result Memory → HasReadableRoot (D.state disk.old).bytes }
     ensures limit { IfOk result (λ o. (4 ≤ o.chosen.limit) × (o.chosen.limit ≤ 480) × (512 * (2 + 2 * o.chosen.limit) ≤ D.extent disk.old)) }
@@ -88,27 +82,23 @@ fn look<D: Disk, A: Allocator + Copy>(alloc: A, disk: &mut D) -> Result<Opened<A
     ensures fit { IfOk result (λ o. AreFit o.chosen.limit o.heads.items o.free) }
     ensures found { D.honest → IfOk result (λ o. Encodes o.chosen.root o.chosen.version o.chosen.limit o.chosen.number o.heads.items (items_in o.chosen.root (D.state disk.old).bytes) (D.state disk.old).bytes) }
     ensures gates { D.honest → IfOk result (λ o. HasGates o.chosen.root o.chosen.number o.chosen.both (D.state disk.old).bytes) }
-    ensures refused { D.honest → IfErr result (IsRefusal (D.state disk.old).bytes) }
+    ensures refused { D.honest → IfErr result (λ cause. IfImage cause (IsRefusal (D.state disk.old).bytes)) }
     ensures synced { D.honest → OnOk result (Only (D.state disk.new)) }
     ensures seen { D.honest → (D.state disk.new).bytes ≡ (D.state disk.old).bytes }
-    ensures left { D.honest → (x : List ℕ) → IsCrashImage (D.state disk.new) x → IsCrashImage (D.state disk.old) x }
-    ensures time { D.honest → D.records → LeavesOnly D.moment D.left_since disk.old disk.new (IsCrashImage (D.state disk.old)) }
+    ensures left { Leaves D.Disk disk.old disk.new (IsCrashImage (D.state disk.old)) }
 {
     let roots = read_roots(disk)?;
-    let chosen = match choose(&roots, disk.size()) {
-        Ok(chosen) => chosen,
-        Err(cause) => return Err(cause),
-    };
+    let chosen = choose(&roots, disk.size())?;
     let Ok(names) = read_words(alloc, chosen.count, &roots.page(chosen.root)[18..498]) else {
         return Err(OpenCause::Memory);
     };
     let found = match scan(alloc, disk, chosen.limit, &names) {
         Ok(Some(found)) => found,
-        Ok(None) => return Err(OpenCause::BadRoot),
+        Ok(None) => return Err(OpenCause::Image(BadImage::BadRoot)),
         Err(cause) => return Err(cause),
     };
     if !stand_together(&found.heads, chosen.limit, chosen.version) {
-        return Err(OpenCause::BadRoot);
+        return Err(OpenCause::Image(BadImage::BadRoot));
     }
     Ok(Opened {
         chosen,

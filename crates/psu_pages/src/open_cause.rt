@@ -1,22 +1,18 @@
 //! Why a disk isn't opened.
 ghost use Rattle.std.specs.Prelude.{◌≡◌};
-ghost use Rattle.psu_pages.specs.declared.open_cause.OpenCause.TheVariants.{Device, Memory};
+ghost use Rattle.psu_pages.specs.declared.open_cause.OpenCause.TheVariants.{Device, Image, Memory};
 
+use crate::BadImage;
 use psu_disk::DiskFault;
 use std::alloc::AllocError;
 
-/// Why a disk isn't opened, in the order in which the causes are looked for.
+/// Why a disk isn't opened.
 #[derive(Clone, Copy, Debug, PartialEq, Eq, Drop)]
 pub enum OpenCause {
     /// A call of the disk failed.
     Device,
-    /// The disk is too small for two roots, or neither of them is open.
-    NoRoot,
-    /// The current root isn't of this format, or its contents are invalid; or both roots are open and have the same
-    /// number.
-    BadRoot,
-    /// The current root is of a version that isn't supported.
-    BadVersion,
+    /// The image on the disk represents no items.
+    Image(BadImage),
     /// An allocation failed.
     Memory,
 }
@@ -26,6 +22,14 @@ impl From<DiskFault> for OpenCause {
 
     fn from(_: DiskFault) -> Self {
         OpenCause::Device
+    }
+}
+
+impl From<BadImage> for OpenCause {
+    ghost from_gives = { λ bad e. e ≡ Image bad };
+
+    fn from(bad: BadImage) -> Self {
+        OpenCause::Image(bad)
     }
 }
 

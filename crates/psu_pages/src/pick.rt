@@ -2,7 +2,7 @@
 ghost use Rattle.std.specs.Prelude.{◌≡◌, Some, IfOk, IfErr};
 ghost use Rattle.psu_pages.specs.Finding.{IsPicked, IsNonePicked};
 
-use crate::{OpenCause, Root};
+use crate::{BadImage, Root};
 
 /// The current root, its number, and whether the other gate is open too.
 #[derive(Clone, Copy, Debug, Drop)]
@@ -13,12 +13,12 @@ pub struct Picked {
 }
 
 /// Picks the current root by the numbers of the roots whose gates are open.
-pub fn pick(first: Option<u64>, second: Option<u64>) -> Result<Picked, OpenCause>
+pub fn pick(first: Option<u64>, second: Option<u64>) -> Result<Picked, BadImage>
     ensures picked { IfOk result (λ p. IsPicked first second p.root p.number p.both) }
     ensures none { IfErr result (IsNonePicked first second) }
 {
     match (first, second) {
-        (None, None) => Err(OpenCause::NoRoot),
+        (None, None) => Err(BadImage::NoRoot),
         (Some(number), None) => Ok(Picked {
             root: Root::First,
             number,
@@ -34,12 +34,12 @@ pub fn pick(first: Option<u64>, second: Option<u64>) -> Result<Picked, OpenCause
 }
 
 // Picks the current root of two that are open.
-fn between(first: u64, second: u64) -> Result<Picked, OpenCause>
+fn between(first: u64, second: u64) -> Result<Picked, BadImage>
     ensures picked { IfOk result (λ p. IsPicked (Some first) (Some second) p.root p.number p.both) }
     ensures none { IfErr result (IsNonePicked (Some first) (Some second)) }
 {
     if first == second {
-        return Err(OpenCause::BadRoot);
+        return Err(BadImage::BadRoot);
     }
     if first < second {
         return Ok(Picked {

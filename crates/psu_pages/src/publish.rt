@@ -1,10 +1,11 @@
 //! From the present items to those of other heads: items are written, a root is published, and the older one is closed.
-ghost use Rattle.std.specs.Prelude.{◌≡◌, ◌≢◌, ◌+◌, ◌<◌, ◌≤◌, ◌^◌, [], List, ℕ, true, length, map, OnOk, OnErr, IfErr, IsErrOf};
+ghost use Rattle.std.specs.Prelude.{◌≡◌, ◌≢◌, ◌+◌, ◌<◌, ◌^◌, List, ℕ, length, map, OnOk, IfErr, ⊤};
 ghost use Rattle.std.specs.List.{AllByRecursion};
-ghost use Rattle.psu_disk.specs.Disk.{IsCrashImage, SameBut, Follows, LeavesOnly, HasFailed};
-ghost use Rattle.psu_pages.specs.Free.{is_free, AreClaimed, IsRoster};
+ghost use Rattle.psu_disk.specs.Disk.{IsCrashImage, SameBut};
+ghost use Rattle.psu_disk.specs.Steps.{Step, Leaves};
+ghost use Rattle.psu_pages.specs.Free.{AreClaimed, IsRoster};
 ghost use Rattle.psu_pages.specs.Finding.{page_of};
-ghost use Rattle.psu_pages.specs.Image.{AreClear, IsNone, IsInPool, gate, gate_at, head_at, other, pages_of, taken, Head as HeadOf};
+ghost use Rattle.psu_pages.specs.Image.{AreClear, IsInPool, gate, gate_at, head_at, other, pages_of, taken, Head as HeadOf};
 ghost use Rattle.psu_pages.specs.Shown.{item_in, items_in, Encodes, EncodesEither};
 ghost use Rattle.psu_pages.specs.Spelling.{head_drafts, open_root};
 ghost use Rattle.psu_pages.specs.Writing.{Misses, Reaches, AreWritten, IsWritten};
@@ -30,10 +31,8 @@ impl<D: Disk, A: Allocator + Copy> Pages<D, A> {
         requires planned { IsPlanned self.old head.now }
         requires size { length value.now ≡ head.now.size }
         requires sure { self.old.standing ≢ Unsure }
-        ensures extent { D.extent self.new.disk ≡ D.extent self.old.disk }
-        ensures works { OnOk result (D.failures self.new.disk ≡ D.failures self.old.disk) }
-        ensures later { D.failures self.old.disk ≤ D.failures self.new.disk }
-        ensures device { IfErr result (λ cause. (cause ≡ Device) × HasFailed (D.failures self.old.disk) (D.failures self.new.disk)) }
+        ensures step { Step D.Disk self.old.disk self.new.disk result (λ cause. ⊤) }
+        ensures device { IfErr result (λ cause. cause ≡ Device) }
 
         ensures same { HasSameHeads self.old self.new }
         ensures standing { OnOk result (self.new.standing ≡ self.old.standing) }
@@ -45,12 +44,8 @@ impl<D: Disk, A: Allocator + Copy> Pages<D, A> {
 
         // At every moment the disk represents the same items, and no page but those of the head is written.
         ensures shown { D.honest → items_in self.new.root (D.state self.new.disk).bytes ≡ items_in self.old.root (D.state self.old.disk).bytes }
-        ensures left { D.honest → (image : List ℕ) → IsCrashImage (D.state self.new.disk) image
-            → Encodes self.old.root self.old.version self.old.limit self.old.number self.old.heads.items (items_in self.old.root (D.state self.old.disk).bytes) image }
-        ensures time { D.honest → D.records → LeavesOnly D.moment D.left_since self.old.disk self.new.disk
-            (Encodes self.old.root self.old.version self.old.limit self.old.number self.old.heads.items (items_in self.old.root (D.state self.old.disk).bytes)) }
-        ensures touched { D.honest → Follows (Misses (pages_of head.now)) (IsCrashImage (D.state self.old.disk)) (IsCrashImage (D.state self.new.disk)) }
-        ensures touched_time { D.honest → D.records → LeavesOnly D.moment D.left_since self.old.disk self.new.disk (Reaches (Misses (pages_of head.now)) (IsCrashImage (D.state self.old.disk))) }
+        ensures left { Leaves D.Disk self.old.disk self.new.disk (Encodes self.old.root self.old.version self.old.limit self.old.number self.old.heads.items (items_in self.old.root (D.state self.old.disk).bytes)) }
+        ensures touched { Leaves D.Disk self.old.disk self.new.disk (Reaches (Misses (pages_of head.now)) (IsCrashImage (D.state self.old.disk))) }
     {
         let standing = self.standing;
         self.standing = Standing::Unsure;
@@ -67,10 +62,8 @@ impl<D: Disk, A: Allocator + Copy> Pages<D, A> {
         requires roster { IsRoster self.old.limit heads.items }
         requires claimed { AreClaimed self.old.free (taken heads.items) }
         requires there { D.honest → AllByRecursion (λ head. head_at (D.state self.old.disk).bytes head.at ≡ head) heads.items }
-        ensures extent { D.extent self.new.disk ≡ D.extent self.old.disk }
-        ensures works { OnOk result (D.failures self.new.disk ≡ D.failures self.old.disk) }
-        ensures later { D.failures self.old.disk ≤ D.failures self.new.disk }
-        ensures device { IfErr result (λ cause. (cause ≡ Device) × HasFailed (D.failures self.old.disk) (D.failures self.new.disk)) }
+        ensures step { Step D.Disk self.old.disk self.new.disk result (λ cause. ⊤) }
+        ensures device { IfErr result (λ cause. cause ≡ Device) }
 
         ensures published { OnOk result (HasPublished self.old self.new heads.items) }
         ensures limit { self.new.limit ≡ self.old.limit }
@@ -80,12 +73,8 @@ impl<D: Disk, A: Allocator + Copy> Pages<D, A> {
 
         // At every moment the disk represents the items from before, or those of the heads, and no page but the next
         // root's is written.
-        ensures left { D.honest → (image : List ℕ) → IsCrashImage (D.state self.new.disk) image
-            → EncodesEither (other self.old.root) self.old.version self.old.limit self.old.number self.old.heads.items (items_in self.old.root (D.state self.old.disk).bytes) heads.items (map (item_in (D.state self.old.disk).bytes) heads.items) image }
-        ensures time { D.honest → D.records → LeavesOnly D.moment D.left_since self.old.disk self.new.disk
-            (EncodesEither (other self.old.root) self.old.version self.old.limit self.old.number self.old.heads.items (items_in self.old.root (D.state self.old.disk).bytes) heads.items (map (item_in (D.state self.old.disk).bytes) heads.items)) }
-        ensures touched { D.honest → Follows (SameBut (gate_at (other self.old.root)) 512) (IsCrashImage (D.state self.old.disk)) (IsCrashImage (D.state self.new.disk)) }
-        ensures touched_time { D.honest → D.records → LeavesOnly D.moment D.left_since self.old.disk self.new.disk (Reaches (SameBut (gate_at (other self.old.root)) 512) (IsCrashImage (D.state self.old.disk))) }
+        ensures left { Leaves D.Disk self.old.disk self.new.disk (EncodesEither (other self.old.root) self.old.version self.old.limit self.old.number self.old.heads.items (items_in self.old.root (D.state self.old.disk).bytes) heads.items (map (item_in (D.state self.old.disk).bytes) heads.items)) }
+        ensures touched { Leaves D.Disk self.old.disk self.new.disk (Reaches (SameBut (gate_at (other self.old.root)) 512) (IsCrashImage (D.state self.old.disk))) }
     {
         let next = self.root.other();
         let page = spell_root(self.limit, self.number + 1, &heads);
@@ -102,10 +91,8 @@ impl<D: Disk, A: Allocator + Copy> Pages<D, A> {
     /// Closes the gate of the older root if it is open, and releases the pages that only the older root names.
     pub fn close_old(&mut self) -> Result<(), PageFault>
         requires sure { self.old.standing ≢ Unsure }
-        ensures extent { D.extent self.new.disk ≡ D.extent self.old.disk }
-        ensures works { OnOk result (D.failures self.new.disk ≡ D.failures self.old.disk) }
-        ensures later { D.failures self.old.disk ≤ D.failures self.new.disk }
-        ensures device { IfErr result (λ cause. (cause ≡ Device) × HasFailed (D.failures self.old.disk) (D.failures self.new.disk)) }
+        ensures step { Step D.Disk self.old.disk self.new.disk result (λ cause. ⊤) }
+        ensures device { IfErr result (λ cause. cause ≡ Device) }
 
         ensures closed { OnOk result (HasClosed self.old self.new) }
         ensures limit { self.new.limit ≡ self.old.limit }
@@ -115,12 +102,8 @@ impl<D: Disk, A: Allocator + Copy> Pages<D, A> {
 
         // At every moment the disk represents the same items, and nothing but the older gate is written.
         ensures shown { D.honest → OnOk result (items_in self.new.root (D.state self.new.disk).bytes ≡ items_in self.old.root (D.state self.old.disk).bytes) }
-        ensures left { D.honest → (image : List ℕ) → IsCrashImage (D.state self.new.disk) image
-            → Encodes self.old.root self.old.version self.old.limit self.old.number self.old.heads.items (items_in self.old.root (D.state self.old.disk).bytes) image }
-        ensures time { D.honest → D.records → LeavesOnly D.moment D.left_since self.old.disk self.new.disk
-            (Encodes self.old.root self.old.version self.old.limit self.old.number self.old.heads.items (items_in self.old.root (D.state self.old.disk).bytes)) }
-        ensures touched { D.honest → Follows (SameBut (gate_at (other self.old.root)) 1) (IsCrashImage (D.state self.old.disk)) (IsCrashImage (D.state self.new.disk)) }
-        ensures touched_time { D.honest → D.records → LeavesOnly D.moment D.left_since self.old.disk self.new.disk (Reaches (SameBut (gate_at (other self.old.root)) 1) (IsCrashImage (D.state self.old.disk))) }
+        ensures left { Leaves D.Disk self.old.disk self.new.disk (Encodes self.old.root self.old.version self.old.limit self.old.number self.old.heads.items (items_in self.old.root (D.state self.old.disk).bytes)) }
+        ensures touched { Leaves D.Disk self.old.disk self.new.disk (Reaches (SameBut (gate_at (other self.old.root)) 1) (IsCrashImage (D.state self.old.disk))) }
     {
         let Standing::Both = self.standing else {
             return Ok(());

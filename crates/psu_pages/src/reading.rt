@@ -1,6 +1,7 @@
 //! Reading pages, each by one call of the disk.
-ghost use Rattle.std.specs.Prelude.{◌≡◌, ◌+◌, ◌*◌, ◌≤◌, List, ℕ, length, OnOk};
-ghost use Rattle.psu_disk.specs.Disk.{IsCrashImage, LeavesOnly, HasCause};
+ghost use Rattle.std.specs.Prelude.{◌≡◌, ◌+◌, ◌*◌, ◌≤◌, length, OnOk, ⊤};
+ghost use Rattle.psu_disk.specs.Disk.{IsCrashImage};
+ghost use Rattle.psu_disk.specs.Steps.{Step, Leaves};
 ghost use Rattle.psu_pages.specs.Image.{page_in};
 
 use psu_disk::{Disk, DiskFault};
@@ -9,12 +10,10 @@ use psu_disk::{Disk, DiskFault};
 pub fn read_page<D: Disk>(disk: &mut D, page: u16, into: &mut [u8]) -> Result<(), DiskFault>
     requires room { 512 * page + 512 ≤ D.extent disk.old }
     requires whole { length into.old ≡ 512 }
-    ensures extent { D.extent disk.new ≡ D.extent disk.old }
-    ensures cause { HasCause (D.failures disk.old) (D.failures disk.new) result }
+    ensures step { Step D.Disk disk.old disk.new result (λ fault. ⊤) }
     ensures bytes { D.honest → OnOk result (into.new ≡ page_in page (D.state disk.old).bytes) }
     ensures seen { D.honest → (D.state disk.new).bytes ≡ (D.state disk.old).bytes }
-    ensures left { D.honest → (x : List ℕ) → IsCrashImage (D.state disk.new) x → IsCrashImage (D.state disk.old) x }
-    ensures time { D.honest → D.records → LeavesOnly D.moment D.left_since disk.old disk.new (IsCrashImage (D.state disk.old)) }
+    ensures left { Leaves D.Disk disk.old disk.new (IsCrashImage (D.state disk.old)) }
 {
     disk.read(512 * u64::from(page), into)?;
     Ok(())

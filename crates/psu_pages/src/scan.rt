@@ -1,9 +1,10 @@
 //! Reading the heads that a root names.
-ghost use Rattle.std.specs.Prelude.{◌≡◌, ◌≢◌, ◌+◌, ◌*◌, ◌≤◌, ◌++◌, ◌∷◌, [], List, ℕ, true, false, length, map, slice_set, OnOk, IfOk, IfErr, IfSome, IsNone, IsErrOf};
-ghost use Rattle.psu_disk.specs.Disk.{IsCrashImage, LeavesOnly, HasFailed};
+ghost use Rattle.std.specs.Prelude.{◌≡◌, ◌≢◌, ◌⊎◌, ◌+◌, ◌*◌, ◌≤◌, ◌++◌, ◌∷◌, [], true, false, length, map, slice_set, OnOk, IfOk, IfErr, IfSome, IsNone, IsErrOf};
+ghost use Rattle.psu_disk.specs.Disk.{IsCrashImage};
+ghost use Rattle.psu_disk.specs.Steps.{Step, Leaves};
 ghost use Rattle.psu_pages.specs.Image.{head_at, pages_of, IsHead};
 ghost use Rattle.psu_pages.specs.Free.{is_free, Marks};
-ghost use Rattle.psu_pages.specs.Finding.{IsFit, AreFit, CanStand, IsScanCause};
+ghost use Rattle.psu_pages.specs.Finding.{IsFit, AreFit, CanStand};
 
 use crate::pool::pool;
 use crate::reading::read_page;
@@ -28,19 +29,15 @@ pub fn scan<D: Disk, A: Allocator + Copy>(
 ) -> Result<Option<Found<A>>, OpenCause>
     requires limit { limit ≤ 480 }
     requires room { 512 * (2 + 2 * limit) ≤ D.extent disk.old }
-    ensures extent { D.extent disk.new ≡ D.extent disk.old }
-    ensures works { OnOk result (D.failures disk.new ≡ D.failures disk.old) }
-    ensures later { D.failures disk.old ≤ D.failures disk.new }
-    ensures device { IsErrOf result OpenCause.Device → HasFailed (D.failures disk.old) (D.failures disk.new) }
+    ensures step { Step D.Disk disk.old disk.new result (λ cause. cause ≡ OpenCause.Device) }
     ensures quiet { IfErr result (λ cause. cause ≢ OpenCause.Device → D.failures disk.new ≡ D.failures disk.old) }
-    ensures cause { IfErr result IsScanCause }
+    ensures cause { IfErr result (λ cause. (cause ≡ OpenCause.Device) ⊎ (cause ≡ OpenCause.Memory)) }
     ensures many { IfOk result (λ all. IfSome all (λ found. length found.heads.items ≡ length names.now)) }
     ensures fit { IfOk result (λ all. IfSome all (λ found. AreFit limit found.heads.items found.free)) }
     ensures found { D.honest → IfOk result (λ all. IfSome all (λ found. found.heads.items ≡ map (head_at (D.state disk.old).bytes) names.now)) }
     ensures none { D.honest → IfOk result (λ all. IsNone all → CanStand limit (map (head_at (D.state disk.old).bytes) names.now) → ⊥) }
     ensures seen { D.honest → (D.state disk.new).bytes ≡ (D.state disk.old).bytes }
-    ensures left { D.honest → (x : List ℕ) → IsCrashImage (D.state disk.new) x → IsCrashImage (D.state disk.old) x }
-    ensures time { D.honest → D.records → LeavesOnly D.moment D.left_since disk.old disk.new (IsCrashImage (D.state disk.old)) }
+    ensures left { Leaves D.Disk disk.old disk.new (IsCrashImage (D.state disk.old)) }
 {
     let mut free = pool(alloc, limit)?;
     let mut heads = Vec::with_capacity(alloc, names.len())?;
@@ -64,12 +61,9 @@ fn read_head<D: Disk, A: Allocator + Copy>(
     name: u16,
 ) -> Result<Option<Head<A>>, OpenCause>
     requires { 512 * length free.old ≤ D.extent disk.old }
-    ensures extent { D.extent disk.new ≡ D.extent disk.old }
-    ensures works { OnOk result (D.failures disk.new ≡ D.failures disk.old) }
-    ensures later { D.failures disk.old ≤ D.failures disk.new }
-    ensures device { IsErrOf result OpenCause.Device → HasFailed (D.failures disk.old) (D.failures disk.new) }
+    ensures step { Step D.Disk disk.old disk.new result (λ cause. cause ≡ OpenCause.Device) }
     ensures quiet { IfErr result (λ cause. cause ≢ OpenCause.Device → D.failures disk.new ≡ D.failures disk.old) }
-    ensures cause { IfErr result IsScanCause }
+    ensures cause { IfErr result (λ cause. (cause ≡ OpenCause.Device) ⊎ (cause ≡ OpenCause.Memory)) }
     ensures fit { IfOk result (λ found. IfSome found (IsFit free.old)) }
     ensures claimed { IfOk result (λ found. IfSome found (λ head. Marks false (pages_of head) free.old free.new)) }
     ensures found { D.honest → IfOk result (λ found. IfSome found (λ head. head ≡ head_at (D.state disk.old).bytes name)) }
@@ -77,8 +71,7 @@ fn read_head<D: Disk, A: Allocator + Copy>(
     ensures memory { D.honest → IsErrOf result OpenCause.Memory → IsHead (head_at (D.state disk.old).bytes name) }
     ensures unclaimed { IsErrOf result OpenCause.Memory → (is_free free.old name ≡ true) × (free.new ≡ slice_set free.old name false) }
     ensures seen { D.honest → (D.state disk.new).bytes ≡ (D.state disk.old).bytes }
-    ensures left { D.honest → (x : List ℕ) → IsCrashImage (D.state disk.new) x → IsCrashImage (D.state disk.old) x }
-    ensures time { D.honest → D.records → LeavesOnly D.moment D.left_since disk.old disk.new (IsCrashImage (D.state disk.old)) }
+    ensures left { Leaves D.Disk disk.old disk.new (IsCrashImage (D.state disk.old)) }
 {
     if !free.take(name) {
         return Ok(None);

@@ -1,6 +1,7 @@
 //! The switch from the current root to the next one.
-ghost use Rattle.std.specs.Prelude.{◌≡◌, ◌+◌, ◌≤◌, ◌∷◌, List, ℕ, length, map, OnOk};
-ghost use Rattle.psu_disk.specs.Disk.{IsCrashImage, SameBut, Follows, LeavesOnly, HasCause};
+ghost use Rattle.std.specs.Prelude.{◌≡◌, ◌+◌, ◌≤◌, ◌∷◌, List, ℕ, length, map, OnOk, ⊤};
+ghost use Rattle.psu_disk.specs.Disk.{IsCrashImage, SameBut};
+ghost use Rattle.psu_disk.specs.Steps.{Step, Leaves};
 ghost use Rattle.psu_pages.specs.Finding.{page_of};
 ghost use Rattle.psu_pages.specs.Image.{Head, gate_at, other};
 ghost use Rattle.psu_pages.specs.Shown.{Item, item_in, EachEncodes, EachLower, EncodesEither};
@@ -15,8 +16,7 @@ use psu_disk::{Disk, DiskFault};
 pub fn switch<D: Disk>(disk: &mut D, next: Root, contents: &[u8]) -> Result<(), DiskFault>
     requires roots { 1024 ≤ D.extent disk.old }
     requires contents { length contents.now ≡ 511 }
-    ensures extent { D.extent disk.new ≡ D.extent disk.old }
-    ensures cause { HasCause (D.failures disk.old) (D.failures disk.new) result }
+    ensures step { Step D.Disk disk.old disk.new result (λ fault. ⊤) }
 
     ensures spelled { D.honest → OnOk result (page_of next (D.state disk.new).bytes ≡ 165 ∷ contents.now) }
     ensures encoded { D.honest → (version limit number : ℕ) (before heads : List Head) (items : List Item)
@@ -25,16 +25,10 @@ pub fn switch<D: Disk>(disk: &mut D, next: Root, contents: &[u8]) -> Result<(), 
     ensures lower { D.honest → (version limit number : ℕ) (before heads : List Head) (items : List Item)
         → IsReady (D.state disk.old) next version limit number before heads items contents.now
         → OnOk result (EachLower (D.state disk.new) (other next) (number + 1)) }
-    ensures left { D.honest → (version limit number : ℕ) (before heads : List Head) (items : List Item)
-        → IsReady (D.state disk.old) next version limit number before heads items contents.now
-        → (image : List ℕ) → IsCrashImage (D.state disk.new) image → EncodesEither next version limit number before items heads (map (item_in (D.state disk.old).bytes) heads) image }
-    ensures time { D.honest → D.records → (version limit number : ℕ) (before heads : List Head) (items : List Item)
-        → IsReady (D.state disk.old) next version limit number before heads items contents.now
-        → LeavesOnly D.moment D.left_since disk.old disk.new (EncodesEither next version limit number before items heads (map (item_in (D.state disk.old).bytes) heads)) }
+    ensures left { (version limit number : ℕ) (before heads : List Head) (items : List Item) → IsReady (D.state disk.old) next version limit number before heads items contents.now → Leaves D.Disk disk.old disk.new (EncodesEither next version limit number before items heads (map (item_in (D.state disk.old).bytes) heads)) }
 
     // No other page is written.
-    ensures touched { D.honest → Follows (SameBut (gate_at next) 512) (IsCrashImage (D.state disk.old)) (IsCrashImage (D.state disk.new)) }
-    ensures touched_time { D.honest → D.records → LeavesOnly D.moment D.left_since disk.old disk.new (Reaches (SameBut (gate_at next) 512) (IsCrashImage (D.state disk.old))) }
+    ensures touched { Leaves D.Disk disk.old disk.new (Reaches (SameBut (gate_at next) 512) (IsCrashImage (D.state disk.old))) }
 {
     write_contents(disk, next, contents)?;
     set_gate(disk, next, OPEN)?;

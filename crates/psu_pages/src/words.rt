@@ -4,7 +4,7 @@ ghost use Rattle.std.specs.Int.{w16, w32, w64, from_be_bytes};
 ghost use Rattle.psu_disk.specs.Disk.{Range};
 ghost use Rattle.psu_pages.specs.Finding.{IsSound, IsUnsound};
 
-use crate::OpenCause;
+use crate::BadImage;
 use crate::gates::OPEN;
 use crate::version::is_known;
 
@@ -78,19 +78,19 @@ fn word_at(page: &[u8], at: usize) -> u16
 }
 
 /// Checks that the fields are those of a root of this format, of a supported version, on a disk of this size.
-pub fn check(words: &Words, size: u64) -> Result<(), OpenCause>
+pub fn check(words: &Words, size: u64) -> Result<(), BadImage>
     ensures sound { OnOk result (IsSound words.now size) }
     ensures unsound { IfErr result (IsUnsound words.now size) }
 {
     if words.mark != *b"PSU" {
-        return Err(OpenCause::BadRoot);
+        return Err(BadImage::BadRoot);
     }
     if !is_known(words.version) {
-        return Err(OpenCause::BadVersion);
+        return Err(BadImage::BadVersion);
     }
     let limit = u64::from(words.limit);
     if limit < 4 || limit > 480 || size < 512 * (2 + 2 * limit) || words.count > 240 {
-        return Err(OpenCause::BadRoot);
+        return Err(BadImage::BadRoot);
     }
     Ok(())
 }

@@ -75,6 +75,13 @@ impl<'a, 'c, 'r, R: Wait, D: Disk + Drop, G: Gate + Drop> Executor<Global>
 
     ghost stops = { λ x stop y. (y.caller.ghost_name ≡ x.caller.ghost_name) × (y.member ≡ x.member) × IsBrokenOff D.honest x.member.now.session x.caller.now.seat y.caller.now.seat };
 
+    ghost yields = { λ _. ⊥ };
+
+    // It never yields.
+    fn may_continue(&self) -> bool {
+        true
+    }
+
     fn execute(&mut self, request: &Request<'_>) -> Result<Outcome<Global>, Stop> {
         let core = self.admitted()?;
         let (outcome, notifications) = self.caller.execute(self.rt, self.member.session, request);

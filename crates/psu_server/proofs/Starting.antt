@@ -8,10 +8,12 @@ use Rattle.psu_disk.specs.Ranges.{reads_left}
 use Rattle.psu_disk.specs.declared.disk.Disk.{Ghosts}
 use Rattle.psu_map.specs.Map.{Item}
 use Rattle.psu_items.specs.Image.{HasReadableRoot, Represents, EachRepresents, IsRefusal}
+use Rattle.psu_pages.specs.Finding.{IfImage}
+use Rattle.psu_pages.specs.declared.bad_image.BadImage.TheVariants as BadImage
 use Rattle.psu_pages.specs.declared.open_cause.OpenCause.{OpenCause}
 use Rattle.psu_pages.specs.declared.open_cause.OpenCause.TheVariants as refused
 use Rattle.psu_items.specs.Standing.{MapOn}
-use Rattle.psu_items.proofs.Fitting.{represents_by_version, represents_readable, represents_rooted, represents_within}
+use Rattle.psu_items.proofs.Fitting.{represents_readable, represents_unrefused, represents_within}
 use Rattle.psu_items.proofs.Standing.{represents_one}
 use Rattle.psu_exec.specs.Calls.{Opened, Allows, least_free, opened}
 use Rattle.psu_exec.specs.Consistent.{IsConsistent}
@@ -105,15 +107,15 @@ worn_number exec store there why worn = why (idle_store.Whole store) there worn
 
 -- ---- why a disk doesn't power on
 
-opened_not : (cause : OpenCause) (image : List ℕ) (before now : ℕ) → IsRefusal image cause → (cause ≡ refused.Device → HasFailed before now) → (cause ≢ refused.Device → now ≡ before)
+opened_not : (cause : OpenCause) (image : List ℕ) (before now : ℕ) → IfImage cause (IsRefusal image) → (cause ≡ refused.Device → HasFailed before now) → (cause ≢ refused.Device → now ≡ before)
     → (cause ≡ refused.Memory → HasReadableRoot image) → NotStarted image before now (cause_of_open cause)
 opened_not refused.Device image before now is failed quiet memory = failed refl
-opened_not refused.NoRoot image before now is failed quiet memory = is
-opened_not refused.BadRoot image before now is failed quiet memory = is
-opened_not refused.BadVersion image before now is failed quiet memory = is
+opened_not (refused.Image BadImage.NoRoot) image before now is failed quiet memory = is
+opened_not (refused.Image BadImage.BadRoot) image before now is failed quiet memory = is
+opened_not (refused.Image BadImage.BadVersion) image before now is failed quiet memory = is
 opened_not refused.Memory image before now is failed quiet memory = (quiet (λ e. cc), memory refl)
 
-pub not_opened : (cause : OpenCause) (told : RunCause) (image : List ℕ) (before now : ℕ) → IsRefusal image cause → (cause ≡ refused.Device → HasFailed before now)
+pub not_opened : (cause : OpenCause) (told : RunCause) (image : List ℕ) (before now : ℕ) → IfImage cause (IsRefusal image) → (cause ≡ refused.Device → HasFailed before now)
     → (cause ≢ refused.Device → now ≡ before) → (cause ≡ refused.Memory → HasReadableRoot image) → told ≡ cause_of_open cause → NotStarted image before now told
 not_opened cause told image before now why failed quiet memory is =
     subst (λ (t : RunCause). NotStarted image before now t) (sym is) (opened_not cause image before now why failed quiet memory)
@@ -141,9 +143,9 @@ fits_on image limit contents sound stands =
 stands_stops : (by_input : RunCause → Type 0) (before now : ℕ) (rest : List Message) (last : World) (image left : List ℕ) (limit : ℕ) (contents : Contents) (cause : RunCause) → IsContents contents
     → Represents image limit (items_of contents) → NotStarted image before now cause → StopsFor by_input before now (Message.Power ∷ rest) last left cause
 stands_stops by_input before now rest last image left limit contents (Open start.Device) sound stands why = (tt, why)
-stands_stops by_input before now rest last image left limit contents (Open start.NoRoot) sound stands why = absurd (represents_rooted image limit (items_of contents) stands why)
-stands_stops by_input before now rest last image left limit contents (Open start.BadRoot) sound stands why = absurd (why.represents_none limit (items_of contents) stands)
-stands_stops by_input before now rest last image left limit contents (Open start.BadVersion) sound stands why = absurd (represents_by_version image limit (items_of contents) stands why)
+stands_stops by_input before now rest last image left limit contents (Open start.NoRoot) sound stands why = absurd (represents_unrefused image limit (items_of contents) BadImage.NoRoot stands why)
+stands_stops by_input before now rest last image left limit contents (Open start.BadRoot) sound stands why = absurd (represents_unrefused image limit (items_of contents) BadImage.BadRoot stands why)
+stands_stops by_input before now rest last image left limit contents (Open start.BadVersion) sound stands why = absurd (represents_unrefused image limit (items_of contents) BadImage.BadVersion stands why)
 stands_stops by_input before now rest last image left limit contents (Open start.BadItems) sound stands why =
     let one = represents_one limit why.limit (items_of contents) why.map image stands why.stands in
     absurd (why.none contents sound (subst (λ (n : ℕ). fits n contents ≡ true) one.0 (fits_on image limit contents sound stands)) one.1)

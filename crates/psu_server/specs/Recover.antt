@@ -2,6 +2,7 @@
 use Rattle.std.specs.Prelude.{◌≡◌, ℕ, ◌==◌, true, if◌then◌else◌, List, [], ◌∷◌, length, map, ⊤}
 use Rattle.psu_map.specs.Map.{Item, cost}
 use Rattle.psu_items.specs.Image.{current_root, number_in, version_in, HasReadableRoot, Represents, IsRefusal}
+use Rattle.psu_pages.specs.declared.bad_image.BadImage.TheVariants as BadImage
 use Rattle.psu_pages.specs.declared.open_cause.OpenCause.{OpenCause}
 use Rattle.psu_pages.specs.declared.open_cause.OpenCause.TheVariants as opening
 use Rattle.psu_nv.specs.Contents.{items_of, fits, IsContents, Contents}
@@ -19,9 +20,9 @@ use Rattle.psu_server.specs.declared.recover_fault.RecoverFault.TheVariants.{Dev
 
 abbrev pub recover_open : OpenCause → RecoverFault
 recover_open opening.Device = Device
-recover_open opening.NoRoot = NoRoot
-recover_open opening.BadRoot = BadRoot
-recover_open opening.BadVersion = BadVersion
+recover_open (opening.Image BadImage.NoRoot) = NoRoot
+recover_open (opening.Image BadImage.BadRoot) = BadRoot
+recover_open (opening.Image BadImage.BadVersion) = BadVersion
 recover_open opening.Memory = Memory
 
 abbrev pub recover_power : PowerCause → RecoverFault
@@ -93,8 +94,8 @@ pub record Reports {A : Type 0} (s : State) (version root limit pages : ℕ) (re
 -- root can be read.
 abbrev pub IsRecoverRefusal : List ℕ → RecoverFault → Type 0
 IsRecoverRefusal image Device = ⊤
-IsRecoverRefusal image NoRoot = IsRefusal image opening.NoRoot
-IsRecoverRefusal image BadRoot = IsRefusal image opening.BadRoot
-IsRecoverRefusal image BadVersion = IsRefusal image opening.BadVersion
+IsRecoverRefusal image NoRoot = IsRefusal image BadImage.NoRoot
+IsRecoverRefusal image BadRoot = IsRefusal image BadImage.BadRoot
+IsRecoverRefusal image BadVersion = IsRefusal image BadImage.BadVersion
 IsRecoverRefusal image Memory = HasReadableRoot image
 IsRecoverRefusal image BadItems = HasBadItems image

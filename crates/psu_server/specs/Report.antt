@@ -2,6 +2,7 @@
 use Rattle.std.specs.Prelude.{ℕ, Bool, true, false, Option, Some, None, List, [], ◌∷◌, ◌++◌, codes, decimal}
 use Rattle.psu_nv.specs.declared.file_kind.FileKind.{FileKind}
 use Rattle.psu_nv.specs.declared.file_kind.FileKind.TheVariants.{Binary, State, Macro}
+use Rattle.psu_status.specs.declared.enables.Enables.{Enables}
 use Rattle.psu_server.specs.declared.report.Report.{Report}
 use Rattle.psu_server.specs.declared.reported_file.ReportedFile.{ReportedFile}
 
@@ -11,9 +12,9 @@ image_line version root = codes "image version " ++ decimal version ++ codes " r
 abbrev pub pages_line : ℕ → ℕ → List ℕ
 pages_line pages limit = codes "pages " ++ decimal pages ++ codes " of " ++ decimal limit ++ codes "\n"
 
-abbrev pub enables_line : Option (ℕ × ℕ) → List ℕ
+abbrev pub enables_line : Option Enables → List ℕ
 enables_line None = codes "enables none\n"
-enables_line (Some enables) = codes "enables " ++ decimal enables.0 ++ codes " " ++ decimal enables.1 ++ codes "\n"
+enables_line (Some enables) = codes "enables " ++ decimal enables.sre ++ codes " " ++ decimal enables.ese ++ codes "\n"
 
 -- some words and a number
 abbrev pub count_line : List ℕ → ℕ → List ℕ

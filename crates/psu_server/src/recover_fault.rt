@@ -3,7 +3,7 @@ ghost use Rattle.std.specs.Prelude.{◌≡◌};
 ghost use Rattle.psu_server.specs.Recover.{recover_open, recover_power};
 
 use psu_exec::PowerCause;
-use psu_items::OpenCause;
+use psu_items::{BadImage, OpenCause};
 use thiserror::Error;
 
 /// Why an image isn't reported.
@@ -34,9 +34,9 @@ impl From<OpenCause> for RecoverFault {
     fn from(cause: OpenCause) -> Self {
         match cause {
             OpenCause::Device => RecoverFault::Device,
-            OpenCause::NoRoot => RecoverFault::NoRoot,
-            OpenCause::BadRoot => RecoverFault::BadRoot,
-            OpenCause::BadVersion => RecoverFault::BadVersion,
+            OpenCause::Image(BadImage::NoRoot) => RecoverFault::NoRoot,
+            OpenCause::Image(BadImage::BadRoot) => RecoverFault::BadRoot,
+            OpenCause::Image(BadImage::BadVersion) => RecoverFault::BadVersion,
             OpenCause::Memory => RecoverFault::Memory,
         }
     }

@@ -5,6 +5,7 @@ ghost use Rattle.psu_server.specs.Report.{image_line, pages_line, enables_line, 
 use crate::ReportedFile;
 use itoa::Buffer;
 use psu_nv::FileKind;
+use psu_status::Enables;
 use std::alloc::{AllocError, Allocator};
 
 /// What a restart would find in an image.
@@ -19,7 +20,7 @@ pub struct Report<A: Allocator + Copy> {
     /// The number of pages that they may cost.
     pub limit: u16,
     /// SRE and ESE, where they are kept.
-    pub enables: Option<(u8, u8)>,
+    pub enables: Option<Enables>,
     /// The status byte of the first service request, if power-on makes one.
     pub request: Option<u8>,
     /// The number of bytes of user data that are kept.
@@ -85,11 +86,11 @@ fn put_pages<A: Allocator + Copy>(
 
 fn put_enables<A: Allocator + Copy>(
     text: &mut Vec<u8, A>,
-    enables: Option<(u8, u8)>,
+    enables: Option<Enables>,
 ) -> Result<(), AllocError>
     ensures { OnOk result (text.new.items ≡ text.old.items ++ enables_line enables) }
 {
-    let Some((sre, ese)) = enables else {
+    let Some(Enables { sre, ese }) = enables else {
         text.extend_from_slice(b"enables none\n")?;
         return Ok(());
     };

@@ -3,6 +3,7 @@ use Rattle.std.proofs.Common.{◌≡◌, ℕ, ◌+◌, Bool, true, false, not, e
 use Rattle.std.specs.Prelude.{bit_and, ◌&&◌}
 use Rattle.std.specs.Int.Bits.{and_zero_l}
 use Rattle.std.proofs.lemmas.Nat.{and_comm, and_assoc}
+use Rattle.psu_status.specs.declared.enables.Enables.{Enables}
 use Rattle.psu_status.specs.Status.{power_on, first_request, prescribed, bit}
 
 -- the first service request for this status byte; none where it misses all bits that SRE enables
@@ -33,8 +34,8 @@ by_event sre true = ap (λ (n : ℕ). requested 32 (eqb n 0)) (bit_of_sre sre) �
 by_event sre false = ap (λ (n : ℕ). requested 0 (eqb n 0)) (and_zero_l (bit_and sre 191)) ∙ sym (without_event (not (eqb (bit_and sre 32) 0)))
 
 -- the first service request is the prescribed one, whatever the condition
-pub request_at_power_on : (enables : Option (ℕ × ℕ)) (bits : ℕ) → first_request (power_on enables bits) ≡ prescribed enables
+pub request_at_power_on : (enables : Option Enables) (bits : ℕ) → first_request (power_on enables bits) ≡ prescribed enables
 request_at_power_on None bits = refl
 request_at_power_on (Some enables) bits =
-    by_event enables.0 (not (eqb (bit_and 128 enables.1) 0))
-    ∙ ap (λ (n : ℕ). cond (not (eqb (bit_and enables.0 32) 0) && not (eqb n 0)) (Some 96) no_request) (and_comm 128 enables.1)
+    by_event enables.sre (not (eqb (bit_and 128 enables.ese) 0))
+    ∙ ap (λ (n : ℕ). cond (not (eqb (bit_and enables.sre 32) 0) && not (eqb n 0)) (Some 96) no_request) (and_comm 128 enables.ese)

@@ -4,6 +4,7 @@ use Rattle.std.specs.Prelude.{◌≡◌, ◌≤◌, ℕ, ◌+◌, ◌^◌, ◌==
 use Rattle.psu_lex.specs.Errors.{event_bit}
 use Rattle.psu_lex.specs.declared.scpi_error.ScpiError.{ScpiError}
 use Rattle.psu_lex.specs.declared.scpi_error.ScpiError.TheVariants.{QueueOverflow}
+use Rattle.psu_status.specs.declared.enables.Enables.{Enables}
 use Rattle.psu_status.specs.declared.group.Group.{Group}
 use Rattle.psu_status.specs.declared.group.Group.TheVariants.{Operation, Questionable}
 use Rattle.psu_status.specs.declared.registers.Registers.{Registers}
@@ -101,13 +102,13 @@ cleared s = record s { esr = 0; operation = without_events s.operation; question
 abbrev pub no_registers : Registers
 no_registers = record { condition = 0; event = 0; enable = 0; positive = 0; negative = 0 }
 
-abbrev pub sre_kept : Option (ℕ × ℕ) → ℕ
+abbrev pub sre_kept : Option Enables → ℕ
 sre_kept None = 0
-sre_kept (Some enables) = without_mss enables.0
+sre_kept (Some enables) = without_mss enables.sre
 
-abbrev pub ese_kept : Option (ℕ × ℕ) → ℕ
+abbrev pub ese_kept : Option Enables → ℕ
 ese_kept None = 0
-ese_kept (Some enables) = enables.1
+ese_kept (Some enables) = enables.ese
 
 -- a group as after PRESet, but with this condition from the start, so no bit of it has risen
 abbrev pub standing : ℕ → Registers
@@ -115,7 +116,7 @@ standing bits = record (preset no_registers) { condition = bits }
 
 -- PON alone in ESR (bit 7); the enables that were kept, or 0 where the power-on status clear flag is true; groups as
 -- after PRESet, with the present condition of QUEStionable; no event, no error
-abbrev pub power_on : Option (ℕ × ℕ) → ℕ → Reported
+abbrev pub power_on : Option Enables → ℕ → Reported
 power_on enables bits = record { esr = 128; sre = sre_kept enables; ese = ese_kept enables; operation = preset no_registers; questionable = standing (fifteen_bits bits); errors = [] }
 
 -- the service request of the present status with no message available: the status byte, where MSS is 1
@@ -124,6 +125,6 @@ first_request s = if is_enabled s false then Some (status_byte s false) else Non
 
 -- The first service request that is prescribed: 96 exactly where enables were kept, with ESB (bit 5) in SRE and PON
 -- (bit 7) in ESE.
-abbrev pub prescribed : Option (ℕ × ℕ) → Option ℕ
+abbrev pub prescribed : Option Enables → Option ℕ
 prescribed None = None
-prescribed (Some enables) = if has_bit enables.0 5 && has_bit enables.1 7 then Some 96 else None
+prescribed (Some enables) = if has_bit enables.sre 5 && has_bit enables.ese 7 then Some 96 else None

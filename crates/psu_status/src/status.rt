@@ -4,7 +4,7 @@ ghost use Rattle.psu_status.specs.Registers.{filter_of, with_filter, with_condit
 ghost use Rattle.psu_status.specs.Status.{without_mss, raised, group_of, with_group, all_preset, status_byte, with_error, oldest, cleared, power_on, first_request, prescribed, summaries, enabled, polled, IsReported};
 
 use crate::registers::Registers;
-use crate::{Filter, Group};
+use crate::{Enables, Filter, Group};
 use arrayvec::ArrayVec;
 use psu_lex::ScpiError;
 use std::marker::Model;
@@ -63,17 +63,17 @@ impl Status {
     /// The status at power-on: PON alone in the event status register, SRE and ESE as kept or 0 where none are kept
     /// (the power-on status clear flag is true), the groups as after PRESet with no event, no error. The QUEStionable
     /// condition is this one, without bit 15.
-    pub fn power_on(enables: Option<(u8, u8)>, condition: u16) -> Status
+    pub fn power_on(enables: Option<Enables>, condition: u16) -> Status
         ensures status { result ≡ power_on enables condition }
 
         // The first service request is the one that IEEE 488.2 prescribes for the flag, whatever the condition.
         ensures request { first_request result ≡ prescribed enables }
     {
-        let (sre, ese) = enables.unwrap_or((0, 0));
+        let kept = enables.unwrap_or(Enables { sre: 0, ese: 0 });
         Status {
             esr: PON,
-            sre: sre & ENABLE_BITS,
-            ese,
+            sre: kept.sre & ENABLE_BITS,
+            ese: kept.ese,
             operation: Registers::new(),
             questionable: Registers::standing(condition),
             errors: ArrayVec::new(),

@@ -2,7 +2,7 @@
 // parts over an image.
 use crate::spelled::{spelled, with_parts};
 use psu_disk::Disk;
-use psu_items::{OpenCause, Store};
+use psu_items::{BadImage, OpenCause, Store};
 use std::alloc::Allocator;
 use std::process::Abort;
 
@@ -24,9 +24,9 @@ pub const IMAGE: &str = "
 fn is_wanted(found: Result<usize, OpenCause>, wanted: &str) -> bool {
     match found {
         Ok(count) => wanted.parse() == Ok(count),
-        Err(OpenCause::NoRoot) => wanted == "no root",
-        Err(OpenCause::BadVersion) => wanted == "bad version",
-        Err(OpenCause::BadRoot) => wanted == "bad root",
+        Err(OpenCause::Image(BadImage::NoRoot)) => wanted == "no root",
+        Err(OpenCause::Image(BadImage::BadVersion)) => wanted == "bad version",
+        Err(OpenCause::Image(BadImage::BadRoot)) => wanted == "bad root",
         Err(_) => false,
     }
 }

@@ -134,20 +134,20 @@ fn an_answer_in_parts(rt: HostRuntime) {
 }
 
 // Whether this is the response to a lock request.
-fn is_told(asked: Result<Grant, LockRefusal>, response: LockResponse) -> bool {
-    match lock_response(asked) {
+fn is_answered(outcome: Result<Grant, LockRefusal>, response: LockResponse) -> bool {
+    match lock_response(outcome) {
         Some(header) => header.bytes() == bare(5, response.code()),
         None => false,
     }
 }
 
 // Whether this is the response to a release.
-fn is_told_free(released: Result<Freed, LockRefusal>, response: LockResponse) -> bool {
+fn is_release_answered(released: Result<Freed, LockRefusal>, response: LockResponse) -> bool {
     release_response(released).bytes() == bare(5, response.code())
 }
 
 // Whether this is the response to a query of the locks.
-fn is_told_info(exclusive: bool, holders: u8, control: u8) -> bool {
+fn is_info_answered(exclusive: bool, holders: u8, control: u8) -> bool {
     let mut wanted = bare(25, control);
     wanted[7] = holders;
     lock_info_response(Info { exclusive, holders }).bytes() == wanted
@@ -167,19 +167,21 @@ fn codes_of_lock_responses(rt: HostRuntime) {
 #[test]
 fn answers_of_the_locks(rt: HostRuntime) {
     assert!(rt;
-        is_told(Ok(Grant::Granted), LockResponse::Success)
-            && is_told(Ok(Grant::Failed), LockResponse::Failure)
+        is_answered(Ok(Grant::Granted), LockResponse::Success)
+            && is_answered(Ok(Grant::Failed), LockResponse::Failure)
             && lock_response(Ok(Grant::Queued)).is_none()
-            && is_told(Err(LockRefusal::AlreadyHeld), LockResponse::Error)
-            && is_told(Err(LockRefusal::Waiting), LockResponse::Error)
+            && is_answered(Err(LockRefusal::AlreadyHeld), LockResponse::Error)
+            && is_answered(Err(LockRefusal::Waiting), LockResponse::Error)
     );
     assert!(rt;
-        is_told_free(Ok(Freed::Exclusive), LockResponse::Success)
-            && is_told_free(Ok(Freed::Shared), LockResponse::SharedReleased)
-            && is_told_free(Err(LockRefusal::NotHeld), LockResponse::Error)
+        is_release_answered(Ok(Freed::Exclusive), LockResponse::Success)
+            && is_release_answered(Ok(Freed::Shared), LockResponse::SharedReleased)
+            && is_release_answered(Err(LockRefusal::NotHeld), LockResponse::Error)
     );
     assert!(rt;
-        is_told_info(true, 2, 1) && is_told_info(false, 16, 0) && is_told_info(false, 0, 0)
+        is_info_answered(true, 2, 1)
+            && is_info_answered(false, 16, 0)
+            && is_info_answered(false, 0, 0)
     );
 }
 

@@ -1,6 +1,6 @@
 // Status reporting: the queue, the groups, and the first service request.
 use psu_lex::ScpiError;
-use psu_status::{Filter, Group, Status};
+use psu_status::{Enables, Filter, Group, Status};
 
 // Whether the queue returns this many undefined headers and an overflow, and then nothing.
 fn overflows(status: &mut Status, headers: u32) -> bool {
@@ -25,8 +25,8 @@ fn a_queue_that_overflows(rt: HostRuntime) {
 }
 
 // Returns the first service request with these enables.
-fn requested(ese: u8, sre: u8) -> Option<u8> {
-    Status::power_on(Some((ese, sre)), 3).first_request()
+fn requested(sre: u8, ese: u8) -> Option<u8> {
+    Status::power_on(Some(Enables { sre, ese }), 3).first_request()
 }
 
 #[test]
@@ -52,7 +52,7 @@ fn raise_alone(status: &mut Status) -> bool {
 
 #[test]
 fn the_status_byte(rt: HostRuntime) {
-    let mut status = Status::power_on(Some((255, 128)), 0);
+    let mut status = Status::power_on(Some(Enables { sre: 255, ese: 128 }), 0);
     assert!(rt; status.sre() == 191 && status.status_byte(true) == 16 + 32 + 64);
     assert!(rt; raise_alone(&mut status));
 }

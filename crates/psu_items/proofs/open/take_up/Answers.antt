@@ -19,7 +19,10 @@ pub returns-in-Err-clause-quiet : goal.returns-in-Err-clause-quiet
 returns-in-Err-clause-quiet g c = λ not. rw c.into_disk.ensures.value (c.in-Err.ensures.quiet (not_device c.in-Err.fault c.unread.result c.unread.ensures not))
 
 pub returns-in-Err-clause-left : goal.returns-in-Err-clause-left
-returns-in-Err-clause-left g c = rw c.into_disk.ensures.value c.read_back.ensures.left
+returns-in-Err-clause-left g c = record {
+  left = rw c.into_disk.ensures.value c.read_back.ensures.left.left;
+  time = rw c.into_disk.ensures.value c.read_back.ensures.left.time;
+}
 
 pub unread-requires : goal.unread-requires
 unread-requires g c = c.in-Err.ensures.pages

@@ -1,8 +1,8 @@
 use Rattle.std.proofs.Common.{◌≡◌, ◌∙◌, ℕ, List, refl, ap, sym, subst, arith}
-use Rattle.psu_disk.specs.Disk.{IsCrashImage, SameBut, Follows, LeavesOnly, HasFailed}
+use Rattle.psu_disk.specs.Disk.{IsCrashImage, SameBut, Follows, LeavesOnly}
+use Rattle.psu_disk.specs.Steps.{step_on, step_fails}
 use Rattle.psu_items.specs.Image.{listed, IsEitherRoot}
 use Rattle.psu_map.specs.Target.{aimed}
-use Rattle.psu_items.proofs.Opening.{err_any}
 use Rattle.psu_items.proofs.Placing.{heads_are}
 use Rattle.psu_items.proofs.Putting.{heads_there, heads_list, from_encodes, run_one, from_either, run_two, from_two, run_three, shown_last}
 use Rattle.psu_pages.specs.Free.{AreClaimed, IsRoster}
@@ -25,10 +25,10 @@ named : {A : Type 0} (layout : Layout A) → layout.heads.items ≡ heads_of (sl
 named {A = A} layout = sym (heads_are A 0 layout.heads.items layout.unwritten.items)
 
 pub returns-in_err-write_heads-clause-left : goal.returns-in_err-write_heads-clause-left
-returns-in_err-write_heads-clause-left g c = λ h before shows x l. from_encodes c.args.pages.now c.write_heads.new.pages before (aimed c.args.target.now) h shows x (c.write_heads.ensures.left h x l)
-
-pub returns-in_err-write_heads-clause-time : goal.returns-in_err-write_heads-clause-time
-returns-in_err-write_heads-clause-time g c = λ h t before shows. run_one c.args.pages.now c.write_heads.new.pages before (aimed c.args.target.now) h shows (c.write_heads.ensures.time h t)
+returns-in_err-write_heads-clause-left g c = λ before shows. record {
+  left = λ h x l. from_encodes c.args.pages.now c.write_heads.new.pages before (aimed c.args.target.now) h shows x (c.write_heads.ensures.left.left h x l);
+  time = λ h t. run_one c.args.pages.now c.write_heads.new.pages before (aimed c.args.target.now) h shows (c.write_heads.ensures.left.time h t);
+}
 
 pub publish_root-requires-clause-roster : goal.publish_root-requires-clause-roster
 publish_root-requires-clause-roster g c =
@@ -47,16 +47,6 @@ publish_root-requires-clause-there g c = λ h.
     let mid = c.write_heads.new.pages in
     heads_there (d.state old.disk).bytes (d.state mid.disk).bytes (aimed c.args.target.now) (slots_of c.args.layout) (slots_of c.args.layout) (let layout = c.args.layout in layout.heads.items) refl (named c.args.layout) (c.requires.kept h) (c.in_ok-write_heads.ensures.written h)
 
-pub returns-in_err-publish_root-clause-device : goal.returns-in_err-publish_root-clause-device
-returns-in_err-publish_root-clause-device g c =
-    let d = g.D.Disk in
-    err_any _ _ (λ e. subst (λ (n : ℕ). HasFailed n (d.failures (let p = c.publish_root.new.self in p.disk))) c.in_ok-write_heads.ensures.works c.in_err-publish_root.ensures.device.1)
-
-pub returns-in_err-close_old-clause-device : goal.returns-in_err-close_old-clause-device
-returns-in_err-close_old-clause-device g c =
-    let d = g.D.Disk in
-    err_any _ _ (λ e. subst (λ (n : ℕ). HasFailed n (d.failures (let p = c.close_old.new.self in p.disk))) (c.in_ok-publish_root.ensures.works ∙ c.in_ok-write_heads.ensures.works) c.in_err-close_old.ensures.device.1)
-
 -- the items of the published heads are the target
 are : (g : Over) (c : After-publish_root g) → g.D.Disk.honest → let mid = c.write_heads.new.pages in listed (g.D.Disk.state mid.disk).bytes (let layout = c.args.layout in layout.heads.items) ≡ aimed c.args.target.now
 are g c h =
@@ -69,12 +59,12 @@ are g c h =
 left : (g : Over) (c : After-close_old g) → g.D.Disk.honest → (let mid = c.write_heads.new.pages in listed (g.D.Disk.state mid.disk).bytes (let layout = c.args.layout in layout.heads.items) ≡ aimed c.args.target.now)
     → let old = c.args.pages.now in (before : List Item) → ShowsMap old before → (x : List ℕ) → IsCrashImage (g.D.Disk.state (let last = c.close_old.new.self in last.disk)) x → IsEitherRoot old.version old.number old.limit before (aimed c.args.target.now) x
 left g c h e before shows x l =
-    from_two c.args.pages.now c.write_heads.new.pages before (aimed c.args.target.now) h shows c.write_heads.ensures.same (c.write_heads.ensures.shown h) c.requires.sorted (let layout = c.args.layout in layout.heads.items) e c.publish_root.new.self c.in_ok-publish_root.ensures.published c.publish_root.ensures.limit (c.in_ok-publish_root.ensures.shown h) x (c.close_old.ensures.left h x l)
+    from_two c.args.pages.now c.write_heads.new.pages before (aimed c.args.target.now) h shows c.write_heads.ensures.same (c.write_heads.ensures.shown h) c.requires.sorted (let layout = c.args.layout in layout.heads.items) e c.publish_root.new.self c.in_ok-publish_root.ensures.published c.publish_root.ensures.limit (c.in_ok-publish_root.ensures.shown h) x (c.close_old.ensures.left.left h x l)
 
 time : (g : Over) (c : After-close_old g) → g.D.Disk.honest → g.D.Disk.records → (let mid = c.write_heads.new.pages in listed (g.D.Disk.state mid.disk).bytes (let layout = c.args.layout in layout.heads.items) ≡ aimed c.args.target.now)
     → let old = c.args.pages.now in (before : List Item) → ShowsMap old before → LeavesOnly g.D.Disk.moment g.D.Disk.left_since old.disk (let last = c.close_old.new.self in last.disk) (IsEitherRoot old.version old.number old.limit before (aimed c.args.target.now))
 time g c h t e before shows =
-    run_three c.args.pages.now c.write_heads.new.pages before (aimed c.args.target.now) h shows c.write_heads.ensures.same (c.write_heads.ensures.shown h) c.requires.sorted (let layout = c.args.layout in layout.heads.items) e c.publish_root.new.self c.in_ok-publish_root.ensures.published c.publish_root.ensures.limit (c.in_ok-publish_root.ensures.shown h) (let p = c.close_old.new.self in p.disk) (c.write_heads.ensures.time h t) (c.publish_root.ensures.time h t) (c.close_old.ensures.time h t)
+    run_three c.args.pages.now c.write_heads.new.pages before (aimed c.args.target.now) h shows c.write_heads.ensures.same (c.write_heads.ensures.shown h) c.requires.sorted (let layout = c.args.layout in layout.heads.items) e c.publish_root.new.self c.in_ok-publish_root.ensures.published c.publish_root.ensures.limit (c.in_ok-publish_root.ensures.shown h) (let p = c.close_old.new.self in p.disk) (c.write_heads.ensures.left.time h t) (c.publish_root.ensures.left.time h t) (c.close_old.ensures.left.time h t)
 
 -- nothing after the pool changes
 published_after_pool : (g : Over) (c : After-publish_root g) → g.D.Disk.honest
@@ -84,7 +74,7 @@ published_after_pool g c h =
     let old = c.args.pages.now in
     let mid = c.write_heads.new.pages in
     let two = c.publish_root.new.self in
-    after_pool_on d old.limit old.disk mid.disk (c.write_heads.ensures.after_pool h) two.disk (after_pool_step d old.limit mid.disk (SameBut (gate_at (other mid.root)) 512) (λ x y b. but_after_pool old.limit (other mid.root) 512 x y (omega arith) b) two.disk (c.publish_root.ensures.touched h))
+    after_pool_on d old.limit old.disk mid.disk (c.write_heads.ensures.after_pool.left h) two.disk (after_pool_step d old.limit mid.disk (SameBut (gate_at (other mid.root)) 512) (λ x y b. but_after_pool old.limit (other mid.root) 512 x y (omega arith) b) two.disk (c.publish_root.ensures.touched.left h))
 
 published_time : (g : Over) (c : After-publish_root g) → g.D.Disk.honest → g.D.Disk.records
     → let d = g.D.Disk in let old = c.args.pages.now in LeavesOnly d.moment d.left_since old.disk (let two = c.publish_root.new.self in two.disk) (Reaches (SameAfterPool old.limit) (IsCrashImage (d.state old.disk)))
@@ -93,77 +83,67 @@ published_time g c h t =
     let old = c.args.pages.now in
     let mid = c.write_heads.new.pages in
     let two = c.publish_root.new.self in
-    after_pool_run d old.limit old.disk mid.disk (c.write_heads.ensures.after_pool h) two.disk (c.write_heads.ensures.after_pool_time h t) (after_pool_step_run d old.limit mid.disk (SameBut (gate_at (other mid.root)) 512) (λ x y b. but_after_pool old.limit (other mid.root) 512 x y (omega arith) b) two.disk (c.publish_root.ensures.touched_time h t))
+    after_pool_run d old.limit old.disk mid.disk (c.write_heads.ensures.after_pool.left h) two.disk (c.write_heads.ensures.after_pool.time h t) (after_pool_step_run d old.limit mid.disk (SameBut (gate_at (other mid.root)) 512) (λ x y b. but_after_pool old.limit (other mid.root) 512 x y (omega arith) b) two.disk (c.publish_root.ensures.touched.time h t))
 
 pub returns-in_err-publish_root-clause-left : goal.returns-in_err-publish_root-clause-left
-returns-in_err-publish_root-clause-left g c = λ h before shows x l.
-    let at = goal.at.returns-in_err-publish_root-clause-left g c in
-    from_either c.args.pages.now c.write_heads.new.pages before (aimed c.args.target.now) h shows c.write_heads.ensures.same (c.write_heads.ensures.shown h) c.requires.sorted (let layout = c.args.layout in layout.heads.items) (are g at.After-publish_root h) x (c.publish_root.ensures.left h x l)
-
-pub returns-in_err-publish_root-clause-time : goal.returns-in_err-publish_root-clause-time
-returns-in_err-publish_root-clause-time g c = λ h t before shows.
-    let at = goal.at.returns-in_err-publish_root-clause-time g c in
-    run_two c.args.pages.now c.write_heads.new.pages before (aimed c.args.target.now) h shows c.write_heads.ensures.same (c.write_heads.ensures.shown h) c.requires.sorted (let layout = c.args.layout in layout.heads.items) (are g at.After-publish_root h) (let p = c.publish_root.new.self in p.disk) (c.write_heads.ensures.time h t) (c.publish_root.ensures.time h t)
+returns-in_err-publish_root-clause-left g c = λ before shows. record {
+  left = λ h x l.
+      let at = goal.at.returns-in_err-publish_root-clause-left g c in
+      from_either c.args.pages.now c.write_heads.new.pages before (aimed c.args.target.now) h shows c.write_heads.ensures.same (c.write_heads.ensures.shown h) c.requires.sorted (let layout = c.args.layout in layout.heads.items) (are g at.After-publish_root h) x (c.publish_root.ensures.left.left h x l);
+  time = λ h t.
+      let at = goal.at.returns-in_err-publish_root-clause-left g c in
+      run_two c.args.pages.now c.write_heads.new.pages before (aimed c.args.target.now) h shows c.write_heads.ensures.same (c.write_heads.ensures.shown h) c.requires.sorted (let layout = c.args.layout in layout.heads.items) (are g at.After-publish_root h) (let p = c.publish_root.new.self in p.disk) (c.write_heads.ensures.left.time h t) (c.publish_root.ensures.left.time h t);
+}
 
 pub returns-in_err-publish_root-clause-after_pool : goal.returns-in_err-publish_root-clause-after_pool
-returns-in_err-publish_root-clause-after_pool g c = published_after_pool g (goal.at.returns-in_err-publish_root-clause-after_pool g c).After-publish_root
-
-pub returns-in_err-publish_root-clause-after_pool_time : goal.returns-in_err-publish_root-clause-after_pool_time
-returns-in_err-publish_root-clause-after_pool_time g c = published_time g (goal.at.returns-in_err-publish_root-clause-after_pool_time g c).After-publish_root
+returns-in_err-publish_root-clause-after_pool g c = record {
+  left = published_after_pool g (goal.at.returns-in_err-publish_root-clause-after_pool g c).After-publish_root;
+  time = published_time g (goal.at.returns-in_err-publish_root-clause-after_pool g c).After-publish_root;
+}
 
 pub returns-in_err-close_old-clause-left : goal.returns-in_err-close_old-clause-left
-returns-in_err-close_old-clause-left g c = λ h.
+returns-in_err-close_old-clause-left g c = λ before shows.
     let at = goal.at.returns-in_err-close_old-clause-left g c in
-    left g at.After-close_old h (are g at.After-publish_root h)
-
-pub returns-in_err-close_old-clause-time : goal.returns-in_err-close_old-clause-time
-returns-in_err-close_old-clause-time g c = λ h t.
-    let at = goal.at.returns-in_err-close_old-clause-time g c in
-    time g at.After-close_old h t (are g at.After-publish_root h)
+    record { left = λ h. left g at.After-close_old h (are g at.After-publish_root h) before shows; time = λ h t. time g at.After-close_old h t (are g at.After-publish_root h) before shows }
 
 pub returns-in_err-close_old-clause-after_pool : goal.returns-in_err-close_old-clause-after_pool
-returns-in_err-close_old-clause-after_pool g c = λ h.
-    let d = g.D.Disk in
-    let old = c.args.pages.now in
-    let two = c.publish_root.new.self in
-    let last = c.close_old.new.self in
-    after_pool_on d old.limit old.disk two.disk (published_after_pool g (goal.at.returns-in_err-close_old-clause-after_pool g c).After-publish_root h) last.disk (after_pool_step d old.limit two.disk (SameBut (gate_at (other two.root)) 1) (λ x y b. but_after_pool old.limit (other two.root) 1 x y (omega arith) b) last.disk (c.close_old.ensures.touched h))
-
-pub returns-in_err-close_old-clause-after_pool_time : goal.returns-in_err-close_old-clause-after_pool_time
-returns-in_err-close_old-clause-after_pool_time g c = λ h t.
-    let d = g.D.Disk in
-    let old = c.args.pages.now in
-    let two = c.publish_root.new.self in
-    let last = c.close_old.new.self in
-    let at = (goal.at.returns-in_err-close_old-clause-after_pool_time g c).After-publish_root in
-    after_pool_run d old.limit old.disk two.disk (published_after_pool g at h) last.disk (published_time g at h t) (after_pool_step_run d old.limit two.disk (SameBut (gate_at (other two.root)) 1) (λ x y b. but_after_pool old.limit (other two.root) 1 x y (omega arith) b) last.disk (c.close_old.ensures.touched_time h t))
+returns-in_err-close_old-clause-after_pool g c = record {
+  left = λ h.
+      let d = g.D.Disk in
+      let old = c.args.pages.now in
+      let two = c.publish_root.new.self in
+      let last = c.close_old.new.self in
+      after_pool_on d old.limit old.disk two.disk (published_after_pool g (goal.at.returns-in_err-close_old-clause-after_pool g c).After-publish_root h) last.disk (after_pool_step d old.limit two.disk (SameBut (gate_at (other two.root)) 1) (λ x y b. but_after_pool old.limit (other two.root) 1 x y (omega arith) b) last.disk (c.close_old.ensures.touched.left h));
+  time = λ h t.
+      let d = g.D.Disk in
+      let old = c.args.pages.now in
+      let two = c.publish_root.new.self in
+      let last = c.close_old.new.self in
+      let at = (goal.at.returns-in_err-close_old-clause-after_pool g c).After-publish_root in
+      after_pool_run d old.limit old.disk two.disk (published_after_pool g at h) last.disk (published_time g at h t) (after_pool_step_run d old.limit two.disk (SameBut (gate_at (other two.root)) 1) (λ x y b. but_after_pool old.limit (other two.root) 1 x y (omega arith) b) last.disk (c.close_old.ensures.touched.time h t));
+}
 
 pub returns-clause-left : goal.returns-clause-left
-returns-clause-left g c = λ h.
+returns-clause-left g c = λ before shows.
     let at = goal.at.returns-clause-left g c in
-    left g at.After-close_old h (are g at.After-publish_root h)
-
-pub returns-clause-time : goal.returns-clause-time
-returns-clause-time g c = λ h t.
-    let at = goal.at.returns-clause-time g c in
-    time g at.After-close_old h t (are g at.After-publish_root h)
+    record { left = λ h. left g at.After-close_old h (are g at.After-publish_root h) before shows; time = λ h t. time g at.After-close_old h t (are g at.After-publish_root h) before shows }
 
 pub returns-clause-after_pool : goal.returns-clause-after_pool
-returns-clause-after_pool g c = λ h.
-    let d = g.D.Disk in
-    let old = c.args.pages.now in
-    let two = c.publish_root.new.self in
-    let last = c.close_old.new.self in
-    after_pool_on d old.limit old.disk two.disk (published_after_pool g (goal.at.returns-clause-after_pool g c).After-publish_root h) last.disk (after_pool_step d old.limit two.disk (SameBut (gate_at (other two.root)) 1) (λ x y b. but_after_pool old.limit (other two.root) 1 x y (omega arith) b) last.disk (c.close_old.ensures.touched h))
-
-pub returns-clause-after_pool_time : goal.returns-clause-after_pool_time
-returns-clause-after_pool_time g c = λ h t.
-    let d = g.D.Disk in
-    let old = c.args.pages.now in
-    let two = c.publish_root.new.self in
-    let last = c.close_old.new.self in
-    let at = (goal.at.returns-clause-after_pool_time g c).After-publish_root in
-    after_pool_run d old.limit old.disk two.disk (published_after_pool g at h) last.disk (published_time g at h t) (after_pool_step_run d old.limit two.disk (SameBut (gate_at (other two.root)) 1) (λ x y b. but_after_pool old.limit (other two.root) 1 x y (omega arith) b) last.disk (c.close_old.ensures.touched_time h t))
+returns-clause-after_pool g c = record {
+  left = λ h.
+      let d = g.D.Disk in
+      let old = c.args.pages.now in
+      let two = c.publish_root.new.self in
+      let last = c.close_old.new.self in
+      after_pool_on d old.limit old.disk two.disk (published_after_pool g (goal.at.returns-clause-after_pool g c).After-publish_root h) last.disk (after_pool_step d old.limit two.disk (SameBut (gate_at (other two.root)) 1) (λ x y b. but_after_pool old.limit (other two.root) 1 x y (omega arith) b) last.disk (c.close_old.ensures.touched.left h));
+  time = λ h t.
+      let d = g.D.Disk in
+      let old = c.args.pages.now in
+      let two = c.publish_root.new.self in
+      let last = c.close_old.new.self in
+      let at = (goal.at.returns-clause-after_pool g c).After-publish_root in
+      after_pool_run d old.limit old.disk two.disk (published_after_pool g at h) last.disk (published_time g at h t) (after_pool_step_run d old.limit two.disk (SameBut (gate_at (other two.root)) 1) (λ x y b. but_after_pool old.limit (other two.root) 1 x y (omega arith) b) last.disk (c.close_old.ensures.touched.time h t));
+}
 
 pub returns-clause-shows : goal.returns-clause-shows
 returns-clause-shows g c = record {
@@ -187,3 +167,10 @@ close_old-requires g c = record { sure = λ same. let no : Both ≡ Unsure = sym
 
 pub returns-clause-heads : goal.returns-clause-heads
 returns-clause-heads g c = ap (λ v. v.items) c.in_ok-close_old.ensures.closed.heads ∙ c.in_ok-publish_root.ensures.published.heads_are ∙ named c.args.layout
+
+pub returns-in_err-publish_root-clause-step : goal.returns-in_err-publish_root-clause-step
+returns-in_err-publish_root-clause-step g c = step_on c.in_ok-write_heads.ensures.step (step_fails _ c.from_residual-in_err-publish_root.ensures.0 c.in_err-publish_root.ensures.step (λ e is. tt))
+
+pub returns-in_err-close_old-clause-step : goal.returns-in_err-close_old-clause-step
+returns-in_err-close_old-clause-step g c =
+    step_on c.in_ok-write_heads.ensures.step (step_on c.in_ok-publish_root.ensures.step (step_fails _ c.from_residual-in_err-close_old.ensures.0 c.in_err-close_old.ensures.step (λ e is. tt)))

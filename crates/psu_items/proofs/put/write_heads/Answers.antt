@@ -72,10 +72,15 @@ write_head-requires-clause-has g c = let sized = its g (goal.at.write_head-requi
 pub write_head-requires-clause-size : goal.write_head-requires-clause-size
 write_head-requires-clause-size g c = let sized = its g (goal.at.write_head-requires-clause-size g c).After-index (IsSized (aimed c.args.target.now)) c.requires.sized in sized.size_is
 
-pub returns-in_err-write_head-clause-time : goal.returns-in_err-write_head-clause-time
-returns-in_err-write_head-clause-time g c = λ h t.
-    let l = c.loop-place in
-    encodes_on_run c.args.pages.now l.pages l.invariant.same (let p = c.write_head.new.pages in p.disk) (l.invariant.shown h) (l.invariant.time h t) (c.write_head.ensures.time h t)
+pub returns-in_err-write_head-clause-left : goal.returns-in_err-write_head-clause-left
+returns-in_err-write_head-clause-left g c = record {
+  left = λ h x l.
+      let now = c.loop-place in
+      encodes_on c.args.pages.now now.pages now.invariant.same (now.invariant.shown h) x (c.write_head.ensures.left.left h x l);
+  time = λ h t.
+      let l = c.loop-place in
+      encodes_on_run c.args.pages.now l.pages l.invariant.same (let p = c.write_head.new.pages in p.disk) (l.invariant.shown h) (l.invariant.time h t) (c.write_head.ensures.left.time h t);
+}
 
 pub loop-place-preserved : goal.loop-place-preserved
 loop-place-preserved g c =
@@ -89,40 +94,40 @@ loop-place-preserved g c =
     let named = heads_are g.row.A.Denot 0 (heads g at) (unwritten g at) in
     let others : d.honest → (o : Head) (its : List ℕ) → IsWritten (d.state mid.disk).bytes o its → AllByRecursion (IsInPool old.limit) (pages_of o) → AreClear (pages_of c.index.result.now) (pages_of o) → IsWritten (d.state new.disk).bytes o its =
     λ h o its w pool. e.others h o its w (subst (λ (n : ℕ). AllByRecursion (IsInPool n) (pages_of o)) (sym l.invariant.same.limit) pool) in
-    let step : d.honest → Follows (SameAfterPool old.limit) (IsCrashImage (d.state mid.disk)) (IsCrashImage (d.state new.disk)) = λ h. subst (λ (n : ℕ). Follows (SameAfterPool n) (IsCrashImage (d.state mid.disk)) (IsCrashImage (d.state new.disk))) l.invariant.same.limit (e.after_pool h) in
-    let step_run : d.honest → d.records → LeavesOnly d.moment d.left_since mid.disk new.disk (Reaches (SameAfterPool old.limit) (IsCrashImage (d.state mid.disk))) = λ h t. subst (λ (n : ℕ). LeavesOnly d.moment d.left_since mid.disk new.disk (Reaches (SameAfterPool n) (IsCrashImage (d.state mid.disk)))) l.invariant.same.limit (e.after_pool_time h t) in
+    let step : d.honest → Follows (SameAfterPool old.limit) (IsCrashImage (d.state mid.disk)) (IsCrashImage (d.state new.disk)) = λ h. subst (λ (n : ℕ). Follows (SameAfterPool n) (IsCrashImage (d.state mid.disk)) (IsCrashImage (d.state new.disk))) l.invariant.same.limit (e.after_pool.left h) in
+    let step_run : d.honest → d.records → LeavesOnly d.moment d.left_since mid.disk new.disk (Reaches (SameAfterPool old.limit) (IsCrashImage (d.state mid.disk))) = λ h t. subst (λ (n : ℕ). LeavesOnly d.moment d.left_since mid.disk new.disk (Reaches (SameAfterPool n) (IsCrashImage (d.state mid.disk)))) l.invariant.same.limit (e.after_pool.time h t) in
     record {
-      extent = e.extent ∙ l.invariant.extent;
-      works = c.in_ok-write_head.ensures.works ∙ l.invariant.works;
+      extent = e.step.extent ∙ l.invariant.extent;
+      works = c.in_ok-write_head.ensures.step.works ∙ l.invariant.works;
       same = same_on old mid new l.invariant.same e.same;
       standing = c.in_ok-write_head.ensures.standing ∙ l.invariant.standing;
       planned = λ other is. e.planned other (l.invariant.planned other is);
       stands = λ h kept. written_on g.row.A.Denot (aimed c.args.target.now) (d.state mid.disk).bytes (d.state new.disk).bytes old.limit (heads g at) (unwritten g at) l.place-index (place g at) c.index.result.now (left g at) (next g at) (within g at) c.index.ensures
           (subst (λ (hs : List Head). AllByRecursion (IsInPool old.limit) (taken hs)) named c.requires.pool) (subst (λ (hs : List Head). AreApart (taken hs)) named c.requires.apart) (others h) (c.in_ok-write_head.ensures.written h) (l.invariant.stands h kept);
       shown = λ h. e.shown h ∙ l.invariant.shown h;
-      left = λ h x i. encodes_on old mid l.invariant.same (l.invariant.shown h) x (e.left h x i);
-      time = λ h t. encodes_on_run old mid l.invariant.same new.disk (l.invariant.shown h) (l.invariant.time h t) (e.time h t);
+      left = λ h x i. encodes_on old mid l.invariant.same (l.invariant.shown h) x (e.left.left h x i);
+      time = λ h t. encodes_on_run old mid l.invariant.same new.disk (l.invariant.shown h) (l.invariant.time h t) (e.left.time h t);
       after_pool = λ h. after_pool_on d old.limit old.disk mid.disk (l.invariant.after_pool h) new.disk (step h);
       after_pool_time = λ h t. after_pool_run d old.limit old.disk mid.disk (l.invariant.after_pool h) new.disk (l.invariant.after_pool_time h t) (step_run h t);
     }
 
 pub returns-in_err-write_head-clause-after_pool : goal.returns-in_err-write_head-clause-after_pool
-returns-in_err-write_head-clause-after_pool g c = λ h.
-    let d = g.D.Disk in
-    let l = c.loop-place in
-    let old = c.args.pages.now in
-    let mid = l.pages in
-    let new = c.write_head.new.pages in
-    after_pool_on d old.limit old.disk mid.disk (l.invariant.after_pool h) new.disk (subst (λ (n : ℕ). Follows (SameAfterPool n) (IsCrashImage (d.state mid.disk)) (IsCrashImage (d.state new.disk))) l.invariant.same.limit (c.write_head.ensures.after_pool h))
-
-pub returns-in_err-write_head-clause-after_pool_time : goal.returns-in_err-write_head-clause-after_pool_time
-returns-in_err-write_head-clause-after_pool_time g c = λ h t.
-    let d = g.D.Disk in
-    let l = c.loop-place in
-    let old = c.args.pages.now in
-    let mid = l.pages in
-    let new = c.write_head.new.pages in
-    after_pool_run d old.limit old.disk mid.disk (l.invariant.after_pool h) new.disk (l.invariant.after_pool_time h t) (subst (λ (n : ℕ). LeavesOnly d.moment d.left_since mid.disk new.disk (Reaches (SameAfterPool n) (IsCrashImage (d.state mid.disk)))) l.invariant.same.limit (c.write_head.ensures.after_pool_time h t))
+returns-in_err-write_head-clause-after_pool g c = record {
+  left = λ h.
+      let d = g.D.Disk in
+      let l = c.loop-place in
+      let old = c.args.pages.now in
+      let mid = l.pages in
+      let new = c.write_head.new.pages in
+      after_pool_on d old.limit old.disk mid.disk (l.invariant.after_pool h) new.disk (subst (λ (n : ℕ). Follows (SameAfterPool n) (IsCrashImage (d.state mid.disk)) (IsCrashImage (d.state new.disk))) l.invariant.same.limit (c.write_head.ensures.after_pool.left h));
+  time = λ h t.
+      let d = g.D.Disk in
+      let l = c.loop-place in
+      let old = c.args.pages.now in
+      let mid = l.pages in
+      let new = c.write_head.new.pages in
+      after_pool_run d old.limit old.disk mid.disk (l.invariant.after_pool h) new.disk (l.invariant.after_pool_time h t) (subst (λ (n : ℕ). LeavesOnly d.moment d.left_since mid.disk new.disk (Reaches (SameAfterPool n) (IsCrashImage (d.state mid.disk)))) l.invariant.same.limit (c.write_head.ensures.after_pool.time h t));
+}
 
 pub returns-clause-written : goal.returns-clause-written
 returns-clause-written g c = λ h kept.

@@ -26,5 +26,8 @@ load-requires-clause-is_head g c =
     let is : c.in_ok-head.head ≡ get_or p.heads.items c.args.at c.index-heads-at.result = c.in_ok-head.ensures ∙ c.index-heads-at.is ∙ ap (λ (hs : List Head). get_or hs c.args.at c.index-heads-at.result) c.heads.ensures.value in
     subst IsHead (sym is) (all_at IsHead p.heads.items c.args.at c.index-heads-at.result c.requires p.roster.each)
 
-pub returns-in_err-head-clause-time : goal.returns-in_err-head-clause-time
-returns-in_err-head-clause-time g c = λ h t. quiet_none (let p = c.args.pages.now in g.met.D.Disk.only_now t p.disk)
+pub returns-in_err-head-clause-left : goal.returns-in_err-head-clause-left
+returns-in_err-head-clause-left g c = record {
+  left = λ h x l. l;
+  time = λ h t. quiet_none (let p = c.args.pages.now in g.met.D.Disk.only_now t p.disk);
+}

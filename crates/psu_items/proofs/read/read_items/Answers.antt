@@ -37,24 +37,27 @@ loop-at-preserved g c =
     let e = c.read_item.ensures in
     record {
       within = omega (arith, l.invariant.within);
-      extent = e.extent ∙ l.invariant.extent;
-      works = c.in_ok-read_item.ensures.works ∙ l.invariant.works;
+      extent = e.step.extent ∙ l.invariant.extent;
+      works = c.in_ok-read_item.ensures.step.works ∙ l.invariant.works;
       found = λ h. read_step (d.state old.disk).bytes (d.state mid.disk).bytes old.heads.items mid.heads.items l.at l.items c.read_item.new.items c.loop-at-test.true (l.invariant.seen h) (heads_still old mid l.invariant.same) (c.in_ok-read_item.ensures.found h) (l.invariant.found h);
       same = record { root = e.same.root ∙ l.invariant.same.root; version = e.same.version ∙ l.invariant.same.version; limit = e.same.limit ∙ l.invariant.same.limit; number = e.same.number ∙ l.invariant.same.number; heads = e.same.heads ∙ l.invariant.same.heads; older = e.same.older ∙ l.invariant.same.older; free = e.same.free ∙ l.invariant.same.free };
       standing = e.standing ∙ l.invariant.standing;
       seen = λ h. e.seen h ∙ l.invariant.seen h;
-      left = λ h x i. l.invariant.left h x (e.left h x i);
-      time = λ h t. quiet_runs (l.invariant.time h t) (l.invariant.left h) (e.time h t);
+      left = λ h x i. l.invariant.left h x (e.left.left h x i);
+      time = λ h t. quiet_runs (l.invariant.time h t) (l.invariant.left h) (e.left.time h t);
     }
 
-pub returns-in_err-read_item-clause-time : goal.returns-in_err-read_item-clause-time
-returns-in_err-read_item-clause-time g c = λ h t.
-    let d = g.D.Disk in
-    let l = c.loop-at in
-    let old = c.args.pages.now in
-    let mid = l.pages in
-    let new = c.read_item.new.pages in
-    quiet_runs (l.invariant.time h t) (l.invariant.left h) (c.read_item.ensures.time h t)
+pub returns-in_err-read_item-clause-left : goal.returns-in_err-read_item-clause-left
+returns-in_err-read_item-clause-left g c = record {
+  left = λ h x l. c.loop-at.invariant.left h x (c.read_item.ensures.left.left h x l);
+  time = λ h t.
+      let d = g.D.Disk in
+      let l = c.loop-at in
+      let old = c.args.pages.now in
+      let mid = l.pages in
+      let new = c.read_item.new.pages in
+      quiet_runs (l.invariant.time h t) (l.invariant.left h) (c.read_item.ensures.left.time h t);
+}
 
 pub returns-clause-found : goal.returns-clause-found
 returns-clause-found g c = λ h.

@@ -8,7 +8,7 @@ pub returns-in-Err-clause-refused : goal.returns-in-Err-clause-refused
 returns-in-Err-clause-refused c = λ x are sized.
     let first : c.open_number.result ≡ open_number First x = c.open_number.ensures ∙ number_on First x c.args.roots.now.first are.size are.first in
     let second : c.open_number-2.result ≡ open_number Second x = c.open_number-2.ensures ∙ number_on Second x c.args.roots.now.second are.size are.second in
-    unpicked x c.in-Err.cause are.size (subst (λ (o : Option ℕ). IsNonePicked (open_number First x) o c.in-Err.cause) second (subst (λ (o : Option ℕ). IsNonePicked o c.open_number-2.result c.in-Err.cause) first c.in-Err.ensures.none))
+    unpicked x c.in-Err.bad are.size (subst (λ (o : Option ℕ). IsNonePicked (open_number First x) o c.in-Err.bad) second (subst (λ (o : Option ℕ). IsNonePicked o c.open_number-2.result c.in-Err.bad) first c.in-Err.ensures.none))
 
 pub returns-in-Err-check-clause-refused : goal.returns-in-Err-check-clause-refused
 returns-in-Err-check-clause-refused c = λ x are sized.
@@ -17,8 +17,8 @@ returns-in-Err-check-clause-refused c = λ x are sized.
     let p = c.in-Ok.picked in
     let picked : IsPickedIn x p.root p.number p.both = subst (λ (o : Option ℕ). IsPicked (open_number First x) o p.root p.number p.both) second (subst (λ (o : Option ℕ). IsPicked o c.open_number-2.result p.root p.number p.both) first c.in-Ok.ensures.picked) in
     let w = c.words_on-words in
-    unsound p.root x c.page.result.now are.size (c.page.ensures.value x are) w.result w.ensures.mark w.ensures.version w.ensures.limit w.ensures.count c.in-Err-check.cause (picked_current p.root p.number p.both x picked)
-    (subst (λ (n : ℕ). IsUnsound w.result n c.in-Err-check.cause) (sym sized) c.in-Err-check.ensures.unsound)
+    unsound p.root x c.page.result.now are.size (c.page.ensures.value x are) w.result w.ensures.mark w.ensures.version w.ensures.limit w.ensures.count c.in-Err-check.bad (picked_current p.root p.number p.both x picked)
+    (subst (λ (n : ℕ). IsUnsound w.result n c.in-Err-check.bad) (sym sized) c.in-Err-check.ensures.unsound)
 
 pub returns-clause-chosen : goal.returns-clause-chosen
 returns-clause-chosen c = λ x are sized.

@@ -14,7 +14,7 @@ returns-clause-spelled g c = λ h.
     let head = c.args.head.now in
     let mid = (d.state c.write_page.new.disk).bytes in
     let new = (d.state c.write_value.new.disk).bytes in
-    let sized : length mid ≡ d.extent c.args.disk.now = g.met.D.Disk.sized h c.write_page.new.disk ∙ c.write_page.ensures.extent in
+    let sized : length mid ≡ d.extent c.args.disk.now = g.met.D.Disk.sized h c.write_page.new.disk ∙ c.write_page.ensures.step.extent in
     let at_is : c.at.result ≡ head.at = c.at.ensures in
     let first : page_in head.at mid ≡ filled 512 c.spell.result = ap (λ (p : ℕ). page_in p mid) (sym at_is) ∙ c.in_ok-write_page.ensures.written h in
     let misses = subst (λ (ps : List ℕ). Misses ps mid new) c.pages.ensures (c.write_value.ensures.seen h) in
@@ -32,35 +32,35 @@ first g c x y misses = let head = c.args.head.now in misses_first head.at head.p
 rest : (g : Over) (c : After-write_value g) (x y : List ℕ) → Misses c.pages.result.now x y → Misses (pages_of c.args.head.now) x y
 rest g c x y misses = let head = c.args.head.now in misses_rest head.at head.pages x y (subst (λ (ps : List ℕ). Misses ps x y) c.pages.ensures misses)
 
-pub returns-in_err-write_value-clause-time : goal.returns-in_err-write_value-clause-time
-returns-in_err-write_value-clause-time g c = λ h t.
-    let pages = pages_of c.args.head.now in
-    let at = goal.at.returns-in_err-write_value-clause-time g c in
-    run_on pages (rest g at.After-write_value) (c.write_value.ensures.time h t) (run_weaker pages (first g at.After-write_page) (c.write_page.ensures.time h t)) (follows_weaker pages (first g at.After-write_page) (c.write_page.ensures.left h))
-
-pub returns-clause-time : goal.returns-clause-time
-returns-clause-time g c = λ h t.
-    let pages = pages_of c.args.head.now in
-    let at = goal.at.returns-clause-time g c in
-    run_on pages (rest g at.After-write_value) (c.write_value.ensures.time h t) (run_weaker pages (first g at.After-write_page) (c.write_page.ensures.time h t)) (follows_weaker pages (first g at.After-write_page) (c.write_page.ensures.left h))
-
 pub returns-clause-left : goal.returns-clause-left
-returns-clause-left g c = λ h.
-    let pages = pages_of c.args.head.now in
-    let at = goal.at.returns-clause-left g c in
-    follows_on pages (rest g at.After-write_value) (follows_weaker pages (first g at.After-write_page) (c.write_page.ensures.left h)) (c.write_value.ensures.left h)
+returns-clause-left g c = record {
+  left = λ h.
+      let pages = pages_of c.args.head.now in
+      let at = goal.at.returns-clause-left g c in
+      follows_on pages (rest g at.After-write_value) (follows_weaker pages (first g at.After-write_page) (c.write_page.ensures.left.left h)) (c.write_value.ensures.left.left h);
+  time = λ h t.
+      let pages = pages_of c.args.head.now in
+      let at = goal.at.returns-clause-left g c in
+      run_on pages (rest g at.After-write_value) (c.write_value.ensures.left.time h t) (run_weaker pages (first g at.After-write_page) (c.write_page.ensures.left.time h t)) (follows_weaker pages (first g at.After-write_page) (c.write_page.ensures.left.left h));
+}
 
 pub returns-in_err-write_value-clause-left : goal.returns-in_err-write_value-clause-left
-returns-in_err-write_value-clause-left g c = λ h.
-    let pages = pages_of c.args.head.now in
-    let at = goal.at.returns-in_err-write_value-clause-left g c in
-    follows_on pages (rest g at.After-write_value) (follows_weaker pages (first g at.After-write_page) (c.write_page.ensures.left h)) (c.write_value.ensures.left h)
-
-pub returns-in_err-write_page-clause-time : goal.returns-in_err-write_page-clause-time
-returns-in_err-write_page-clause-time g c = λ h t. run_weaker (pages_of c.args.head.now) (first g (goal.at.returns-in_err-write_page-clause-time g c).After-write_page) (c.write_page.ensures.time h t)
+returns-in_err-write_value-clause-left g c = record {
+  left = λ h.
+      let pages = pages_of c.args.head.now in
+      let at = goal.at.returns-in_err-write_value-clause-left g c in
+      follows_on pages (rest g at.After-write_value) (follows_weaker pages (first g at.After-write_page) (c.write_page.ensures.left.left h)) (c.write_value.ensures.left.left h);
+  time = λ h t.
+      let pages = pages_of c.args.head.now in
+      let at = goal.at.returns-in_err-write_value-clause-left g c in
+      run_on pages (rest g at.After-write_value) (c.write_value.ensures.left.time h t) (run_weaker pages (first g at.After-write_page) (c.write_page.ensures.left.time h t)) (follows_weaker pages (first g at.After-write_page) (c.write_page.ensures.left.left h));
+}
 
 pub returns-in_err-write_page-clause-left : goal.returns-in_err-write_page-clause-left
-returns-in_err-write_page-clause-left g c = λ h. follows_weaker (pages_of c.args.head.now) (first g (goal.at.returns-in_err-write_page-clause-left g c).After-write_page) (c.write_page.ensures.left h)
+returns-in_err-write_page-clause-left g c = record {
+  left = λ h. follows_weaker (pages_of c.args.head.now) (first g (goal.at.returns-in_err-write_page-clause-left g c).After-write_page) (c.write_page.ensures.left.left h);
+  time = λ h t. run_weaker (pages_of c.args.head.now) (first g (goal.at.returns-in_err-write_page-clause-left g c).After-write_page) (c.write_page.ensures.left.time h t);
+}
 
 pub write_value-requires-clause-room : goal.write_value-requires-clause-room
-write_value-requires-clause-room g c = rw (c.pages.ensures, c.write_page.ensures.extent) c.requires.room.1
+write_value-requires-clause-room g c = rw (c.pages.ensures, c.write_page.ensures.step.extent) c.requires.room.1

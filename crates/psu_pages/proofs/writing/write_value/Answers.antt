@@ -1,4 +1,4 @@
-use Rattle.std.proofs.Common.{◌≡◌, ◌*◌, ◌+◌, ◌≤◌, ℕ, ◌∙◌, ap, arith, length, rules}
+use Rattle.std.proofs.Common.{◌≡◌, ◌*◌, ◌+◌, ◌≤◌, ℕ, ◌∙◌, ap, arith, length}
 use Rattle.std.specs.List.{AllByRecursion}
 use Rattle.psu_pages.specs.Spelling.{filled}
 use Rattle.psu_pages.proofs.Lists.{all_map}
@@ -6,16 +6,16 @@ use Rattle.psu_pages.proofs.Steps.{misses_trans, misses_one, follows_on, run_on,
 use Rattle.psu_pages.proofs.writing.write_value.Goals as goal
 
 pub returns-in_err-write_page-clause-left : goal.returns-in_err-write_page-clause-left
-returns-in_err-write_page-clause-left g c = λ h.
-    let pages = c.args.pages.now in
-    let l = c.loop-page in
-    follows_on pages (λ x y. misses_one pages l.page-index 0 x y c.loop-page-test.true) (l.invariant.left h) (c.write_page.ensures.left h)
-
-pub returns-in_err-write_page-clause-time : goal.returns-in_err-write_page-clause-time
-returns-in_err-write_page-clause-time g c = λ h t.
-    let pages = c.args.pages.now in
-    let l = c.loop-page in
-    run_on pages (λ x y. misses_one pages l.page-index 0 x y c.loop-page-test.true) (c.write_page.ensures.time h t) (l.invariant.time h t) (l.invariant.left h)
+returns-in_err-write_page-clause-left g c = record {
+  left = λ h.
+      let pages = c.args.pages.now in
+      let l = c.loop-page in
+      follows_on pages (λ x y. misses_one pages l.page-index 0 x y c.loop-page-test.true) (l.invariant.left h) (c.write_page.ensures.left.left h);
+  time = λ h t.
+      let pages = c.args.pages.now in
+      let l = c.loop-page in
+      run_on pages (λ x y. misses_one pages l.page-index 0 x y c.loop-page-test.true) (c.write_page.ensures.left.time h t) (l.invariant.time h t) (l.invariant.left h);
+}
 
 pub loop-page-preserved : goal.loop-page-preserved
 loop-page-preserved g c =
@@ -25,8 +25,8 @@ loop-page-preserved g c =
     let i = l.page-index in
     let lt = c.loop-page-test.true in
     record {
-      extent = c.write_page.ensures.extent ∙ l.invariant.extent;
-      works = c.write_page.ensures.cause.works (search rules) ∙ l.invariant.works;
+      extent = c.write_page.ensures.step.extent ∙ l.invariant.extent;
+      works = c.in_ok-write_page.ensures.step.works ∙ l.invariant.works;
       rest = rest_more i c.args.value.now l.rest.now _ l.invariant.rest c.first_page.ensures.rest;
       written = λ h.
           let sized : length (d.state l.disk).bytes ≡ d.extent c.args.disk.now = g.met.D.Disk.sized h l.disk ∙ l.invariant.extent in
@@ -34,8 +34,8 @@ loop-page-preserved g c =
           written_more pages c.args.value.now l.rest.now i 0 (d.state l.disk).bytes (d.state c.write_page.new.disk).bytes lt c.requires.apart fits l.invariant.rest (c.write_page.ensures.seen h)
           (c.in_ok-write_page.ensures.written h ∙ ap (filled 512) (c.of.ensures ∙ c.first_page.ensures.first)) (l.invariant.written h);
       seen = λ h. misses_trans pages _ _ _ (l.invariant.seen h) (misses_one pages i 0 _ _ lt (c.write_page.ensures.seen h));
-      left = λ h. follows_on pages (λ x y. misses_one pages i 0 x y lt) (l.invariant.left h) (c.write_page.ensures.left h);
-      time = λ h t. run_on pages (λ x y. misses_one pages i 0 x y lt) (c.write_page.ensures.time h t) (l.invariant.time h t) (l.invariant.left h);
+      left = λ h. follows_on pages (λ x y. misses_one pages i 0 x y lt) (l.invariant.left h) (c.write_page.ensures.left.left h);
+      time = λ h t. run_on pages (λ x y. misses_one pages i 0 x y lt) (c.write_page.ensures.left.time h t) (l.invariant.time h t) (l.invariant.left h);
     }
 
 pub returns-in_err-write_page-clause-seen : goal.returns-in_err-write_page-clause-seen

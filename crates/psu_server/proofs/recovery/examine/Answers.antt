@@ -1,6 +1,8 @@
 use Rattle.std.proofs.Common.{◌≡◌, ◌∙◌, ℕ, true, List, refl, sym, ap, subst, Result, Ok, Err, IfOk, IfErr}
 use Rattle.psu_map.specs.Map.{Item, cost}
 use Rattle.psu_items.specs.Image.{EachRepresents, HasReadableRoot, IsRefusal, Represents}
+use Rattle.psu_pages.specs.Finding.{IfImage}
+use Rattle.psu_pages.specs.declared.bad_image.BadImage.TheVariants as BadImage
 use Rattle.psu_pages.specs.declared.open_cause.OpenCause.{OpenCause}
 use Rattle.psu_pages.specs.declared.open_cause.OpenCause.TheVariants as opening
 use Rattle.psu_items.proofs.Fitting.{represents_readable}
@@ -57,11 +59,11 @@ returns-in-Ok-power_on-clause-refused g c = λ h.
 pub returns-in-Ok-power_on-clause-device : goal.returns-in-Ok-power_on-clause-device
 returns-in-Ok-power_on-clause-device g c = only_memory c.report_of.result _ c.report_of.ensures.wants (λ e. cc)
 
-by_open : (image : List ℕ) (cause : OpenCause) → IsRefusal image cause → (cause ≡ opening.Memory → HasReadableRoot image) → IsRecoverRefusal image (recover_open cause)
+by_open : (image : List ℕ) (cause : OpenCause) → IfImage cause (IsRefusal image) → (cause ≡ opening.Memory → HasReadableRoot image) → IsRecoverRefusal image (recover_open cause)
 by_open image opening.Device is memory = tt
-by_open image opening.NoRoot is memory = is
-by_open image opening.BadRoot is memory = is
-by_open image opening.BadVersion is memory = is
+by_open image (opening.Image BadImage.NoRoot) is memory = is
+by_open image (opening.Image BadImage.BadRoot) is memory = is
+by_open image (opening.Image BadImage.BadVersion) is memory = is
 by_open image opening.Memory is memory = memory refl
 
 -- bad items are not those of any contents
@@ -83,12 +85,12 @@ returns-in-Err-power_on-clause-refused g c = λ h.
 
 pub returns-in-Ok-power_on-clause-left : goal.returns-in-Ok-power_on-clause-left
 returns-in-Ok-power_on-clause-left g c = λ h limit map each.
-    subst (λ d. EachRepresents (g.D.Disk.state d) limit map) (sym (c.disk_of.ensures (idle_store.Whole c.in-Ok.store) c.in-Ok-power_on.ensures.idle_store)) (c.in-Ok.ensures.left h limit map each)
+    subst (λ d. EachRepresents (g.D.Disk.state d) limit map) (sym (c.disk_of.ensures (idle_store.Whole c.in-Ok.store) c.in-Ok-power_on.ensures.idle_store)) ((c.in-Ok.ensures.left limit map each).left h)
 
 pub returns-in-Err-power_on-clause-left : goal.returns-in-Err-power_on-clause-left
 returns-in-Err-power_on-clause-left g c = λ h limit map each.
     subst (λ d. EachRepresents (g.D.Disk.state d) limit map) (sym c.into_disk.ensures.value)
-    (subst (λ s. EachRepresents (g.D.Disk.state s.disk) limit map) (sym c.in-Err-power_on.ensures.back) (c.in-Ok.ensures.left h limit map each))
+    (subst (λ s. EachRepresents (g.D.Disk.state s.disk) limit map) (sym c.in-Err-power_on.ensures.back) ((c.in-Ok.ensures.left limit map each).left h))
 
 -- no cause of a failed power-on is a failed call
 not_device : (cause : PowerCause) → recover_power cause ≡ Device → ⊥
@@ -97,3 +99,6 @@ not_device power.Memory is = cc
 
 pub returns-in-Err-power_on-clause-device : goal.returns-in-Err-power_on-clause-device
 returns-in-Err-power_on-clause-device g c = λ is. absurd (not_device c.in-Err-power_on.fault.cause (sym c.from-in-Err-power_on.ensures ∙ is))
+
+pub returns-in-Err-clause-left : goal.returns-in-Err-clause-left
+returns-in-Err-clause-left g c = λ h limit map each. (c.in-Err.ensures.left limit map each).left h

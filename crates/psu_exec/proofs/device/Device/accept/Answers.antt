@@ -9,4 +9,4 @@ pub returns-in-Err-clause-may : goal.returns-in-Err-clause-may
 returns-in-Err-clause-may g c =
     let found = ap (λ (s : State). refused s.flush.contents (command_of c.args.change.now)) (sym c.self.view_is) ∙ (sym c.refusal.ensures ∙ c.in_default.is) in
     let whole = ap (λ (s : State). is_whole s.flush.store) (sym c.self.view_is) ∙ sym (c.if-not-is_whole.ensures) in
-    rw c.refuse-in-Err.ensures.value (not_made c.args.self.now.flush _ c.in-Err.error found whole c.in-Err.ensures.full)
+    rw c.refuse-in-Err.ensures.value (not_made c.args.self.now.flush _ c.in-Err.error found whole c.in-Err.ensures.full c.in-Err.ensures.memory)

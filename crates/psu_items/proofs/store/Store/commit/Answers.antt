@@ -24,19 +24,19 @@ pub returns-then-is_worn-clause-represents_unstarted : goal.returns-then-is_worn
 returns-then-is_worn-clause-represents_unstarted g c = λ h. let s = c.self.inside in rw (← c.self.view_is) (pages_on_disk s.pages s.items c.self.invariant.shows h)
 
 pub returns-then-is_worn-clause-roots : goal.returns-then-is_worn-clause-roots
-returns-then-is_worn-clause-roots g c = λ h. let s = c.self.inside in rw (← c.self.view_is) (λ x l. inl (pages_as s.pages s.items c.self.invariant.shows h x l))
-
-pub returns-then-is_worn-clause-roots_time : goal.returns-then-is_worn-clause-roots_time
-returns-then-is_worn-clause-roots_time g c = λ h t. let s = c.self.inside in rw (← c.self.view_is) (none_run s.pages s.items (changed s.items c.args.batch) c.self.invariant.shows h (g.met.D.Disk.only_now t s.pages.disk))
+returns-then-is_worn-clause-roots g c = record {
+  left = λ h. let s = c.self.inside in rw (← c.self.view_is) (λ x l. inl (pages_as s.pages s.items c.self.invariant.shows h x l));
+  time = λ h t. let s = c.self.inside in rw (← c.self.view_is) (none_run s.pages s.items (changed s.items c.args.batch) c.self.invariant.shows h (g.met.D.Disk.only_now t s.pages.disk));
+}
 
 pub returns-then-is_worn-clause-time : goal.returns-then-is_worn-clause-time
 returns-then-is_worn-clause-time g c = λ h t. let s = c.self.inside in rw (← c.self.view_is) (either_run g.D.Disk s.pages.version s.pages.number s.pages.limit s.items (changed s.items c.args.batch) s.pages.disk s.pages.disk (none_run s.pages s.items (changed s.items c.args.batch) c.self.invariant.shows h (g.met.D.Disk.only_now t s.pages.disk)))
 
 pub returns-then-is_worn-clause-after_pool : goal.returns-then-is_worn-clause-after_pool
-returns-then-is_worn-clause-after_pool g c = λ h. let s = c.self.inside in rw (← c.self.view_is) (after_pool_none g.D.Disk s.pages.limit s.pages.disk)
-
-pub returns-then-is_worn-clause-after_pool_time : goal.returns-then-is_worn-clause-after_pool_time
-returns-then-is_worn-clause-after_pool_time g c = λ h t. let s = c.self.inside in rw (← c.self.view_is) (after_pool_still g.D.Disk s.pages.limit s.pages.disk (g.met.D.Disk.only_now t s.pages.disk))
+returns-then-is_worn-clause-after_pool g c = record {
+  left = λ h. let s = c.self.inside in rw (← c.self.view_is) (after_pool_none g.D.Disk s.pages.limit s.pages.disk);
+  time = λ h t. let s = c.self.inside in rw (← c.self.view_is) (after_pool_still g.D.Disk s.pages.limit s.pages.disk (g.met.D.Disk.only_now t s.pages.disk));
+}
 
 -- ---- an allocation for the plan of the batch failed
 
@@ -50,19 +50,19 @@ returns-in-Err-clause-represents_unstarted g c =
     pages_on_disk s.pages c.in-Err.items kept.shows
 
 pub returns-in-Err-clause-roots : goal.returns-in-Err-clause-roots
-returns-in-Err-clause-roots g c = λ h. let s = c.self.inside in rw (← c.self.view_is) (λ x l. inl (pages_as s.pages s.items c.self.invariant.shows h x l))
-
-pub returns-in-Err-clause-roots_time : goal.returns-in-Err-clause-roots_time
-returns-in-Err-clause-roots_time g c = λ h t. let s = c.self.inside in rw (← c.self.view_is) (none_run s.pages s.items (changed s.items c.args.batch) c.self.invariant.shows h (g.met.D.Disk.only_now t s.pages.disk))
+returns-in-Err-clause-roots g c = record {
+  left = λ h. let s = c.self.inside in rw (← c.self.view_is) (λ x l. inl (pages_as s.pages s.items c.self.invariant.shows h x l));
+  time = λ h t. let s = c.self.inside in rw (← c.self.view_is) (none_run s.pages s.items (changed s.items c.args.batch) c.self.invariant.shows h (g.met.D.Disk.only_now t s.pages.disk));
+}
 
 pub returns-in-Err-clause-time : goal.returns-in-Err-clause-time
 returns-in-Err-clause-time g c = λ h t. let s = c.self.inside in rw (← c.self.view_is) (either_run g.D.Disk s.pages.version s.pages.number s.pages.limit s.items (changed s.items c.args.batch) s.pages.disk s.pages.disk (none_run s.pages s.items (changed s.items c.args.batch) c.self.invariant.shows h (g.met.D.Disk.only_now t s.pages.disk)))
 
 pub returns-in-Err-clause-after_pool : goal.returns-in-Err-clause-after_pool
-returns-in-Err-clause-after_pool g c = λ h. let s = c.self.inside in rw (← c.self.view_is) (after_pool_none g.D.Disk s.pages.limit s.pages.disk)
-
-pub returns-in-Err-clause-after_pool_time : goal.returns-in-Err-clause-after_pool_time
-returns-in-Err-clause-after_pool_time g c = λ h t. let s = c.self.inside in rw (← c.self.view_is) (after_pool_still g.D.Disk s.pages.limit s.pages.disk (g.met.D.Disk.only_now t s.pages.disk))
+returns-in-Err-clause-after_pool g c = record {
+  left = λ h. let s = c.self.inside in rw (← c.self.view_is) (after_pool_none g.D.Disk s.pages.limit s.pages.disk);
+  time = λ h t. let s = c.self.inside in rw (← c.self.view_is) (after_pool_still g.D.Disk s.pages.limit s.pages.disk (g.met.D.Disk.only_now t s.pages.disk));
+}
 
 -- ---- the map before and after the writing
 
@@ -74,13 +74,13 @@ edits_are g c = let s = c.self.inside in edits_called s.items c.pairs.result.now
 
 roots : (g : Over) (c : After-renew g) → g.D.Disk.honest → (x : List ℕ) → IsCrashImage (g.D.Disk.state (let p = c.renew.new.pages in p.disk)) x
     → let s = c.self.inside in IsEitherRoot s.pages.version s.pages.number s.pages.limit s.items (changed s.items c.args.batch) x
-roots g c h x l = let s = c.self.inside in either_called s.items c.pairs.result.now c.args.batch c.edits.result.now (map_is g c) (edits_are g c) s.pages.version s.pages.number s.pages.limit x (c.renew.ensures.left h x l)
+roots g c h x l = let s = c.self.inside in either_called s.items c.pairs.result.now c.args.batch c.edits.result.now (map_is g c) (edits_are g c) s.pages.version s.pages.number s.pages.limit x (c.renew.ensures.left.left h x l)
 
 roots_time : (g : Over) (c : After-renew g) → g.D.Disk.honest → g.D.Disk.records
     → let s = c.self.inside in LeavesOnly g.D.Disk.moment g.D.Disk.left_since s.pages.disk (let p = c.renew.new.pages in p.disk) (IsEitherRoot s.pages.version s.pages.number s.pages.limit s.items (changed s.items c.args.batch))
 roots_time g c h t =
     let s = c.self.inside in
-    time_called s.items c.pairs.result.now c.args.batch c.edits.result.now (map_is g c) (edits_are g c) g.D.Disk s.pages.version s.pages.number s.pages.limit s.pages.disk (let p = c.renew.new.pages in p.disk) (c.renew.ensures.time h t)
+    time_called s.items c.pairs.result.now c.args.batch c.edits.result.now (map_is g c) (edits_are g c) g.D.Disk s.pages.version s.pages.number s.pages.limit s.pages.disk (let p = c.renew.new.pages in p.disk) (c.renew.ensures.left.time h t)
 
 time : (g : Over) (c : After-renew g) → g.D.Disk.honest → g.D.Disk.records
     → let s = c.self.inside in LeavesOnly g.D.Disk.moment g.D.Disk.left_since s.pages.disk (let p = c.renew.new.pages in p.disk) (IsEither s.pages.limit s.items (changed s.items c.args.batch))
@@ -98,10 +98,10 @@ pub returns-in-Ok-renew-clause-worn : goal.returns-in-Ok-renew-clause-worn
 returns-in-Ok-renew-clause-worn g c = λ w. absurd (not_true (c.if-is_worn.ensures.1 w))
 
 pub returns-in-Ok-renew-clause-roots : goal.returns-in-Ok-renew-clause-roots
-returns-in-Ok-renew-clause-roots g c = λ h x l. rw (← c.self.view_is) (roots g (goal.at.returns-in-Ok-renew-clause-roots g c).After-renew h x l)
-
-pub returns-in-Ok-renew-clause-roots_time : goal.returns-in-Ok-renew-clause-roots_time
-returns-in-Ok-renew-clause-roots_time g c = λ h t. rw (← c.self.view_is) (roots_time g (goal.at.returns-in-Ok-renew-clause-roots_time g c).After-renew h t)
+returns-in-Ok-renew-clause-roots g c = record {
+  left = λ h x l. rw (← c.self.view_is) (roots g (goal.at.returns-in-Ok-renew-clause-roots g c).After-renew h x l);
+  time = λ h t. rw (← c.self.view_is) (roots_time g (goal.at.returns-in-Ok-renew-clause-roots g c).After-renew h t);
+}
 
 pub returns-in-Ok-renew-clause-time : goal.returns-in-Ok-renew-clause-time
 returns-in-Ok-renew-clause-time g c = λ h t. rw (← c.self.view_is) (time g (goal.at.returns-in-Ok-renew-clause-time g c).After-renew h t)
@@ -115,10 +115,10 @@ returns-in-Ok-renew-clause-heads g c = λ h.
     rw (← c.self.view_is) (each_kept h s.pages new s.items (changed c.pairs.result.now c.edits.result.now) c.self.invariant.shows c.in-Ok-renew.ensures.keeps.shows c.args.batch have)
 
 pub returns-in-Ok-renew-clause-after_pool : goal.returns-in-Ok-renew-clause-after_pool
-returns-in-Ok-renew-clause-after_pool g c = λ h. rw (← c.self.view_is) (c.renew.ensures.after_pool h)
-
-pub returns-in-Ok-renew-clause-after_pool_time : goal.returns-in-Ok-renew-clause-after_pool_time
-returns-in-Ok-renew-clause-after_pool_time g c = λ h t. rw (← c.self.view_is) (c.renew.ensures.after_pool_time h t)
+returns-in-Ok-renew-clause-after_pool g c = record {
+  left = λ h. rw (← c.self.view_is) (c.renew.ensures.after_pool.left h);
+  time = λ h t. rw (← c.self.view_is) (c.renew.ensures.after_pool.time h t);
+}
 
 pub returns-in-Ok-renew-clause-represents_stored : goal.returns-in-Ok-renew-clause-represents_stored
 returns-in-Ok-renew-clause-represents_stored g c =
@@ -156,19 +156,19 @@ pub returns-in-Err-Memory-clause-represents_unstarted : goal.returns-in-Err-Memo
 returns-in-Err-Memory-clause-represents_unstarted g c = let kept = kept_there g c in pages_on_disk c.renew.new.pages c.into_parts-items.result.0 kept.shows
 
 pub returns-in-Err-Memory-clause-roots : goal.returns-in-Err-Memory-clause-roots
-returns-in-Err-Memory-clause-roots g c = λ h x l. rw (← c.self.view_is) (roots g (goal.at.returns-in-Err-Memory-clause-roots g c).After-renew h x l)
-
-pub returns-in-Err-Memory-clause-roots_time : goal.returns-in-Err-Memory-clause-roots_time
-returns-in-Err-Memory-clause-roots_time g c = λ h t. rw (← c.self.view_is) (roots_time g (goal.at.returns-in-Err-Memory-clause-roots_time g c).After-renew h t)
+returns-in-Err-Memory-clause-roots g c = record {
+  left = λ h x l. rw (← c.self.view_is) (roots g (goal.at.returns-in-Err-Memory-clause-roots g c).After-renew h x l);
+  time = λ h t. rw (← c.self.view_is) (roots_time g (goal.at.returns-in-Err-Memory-clause-roots g c).After-renew h t);
+}
 
 pub returns-in-Err-Memory-clause-time : goal.returns-in-Err-Memory-clause-time
 returns-in-Err-Memory-clause-time g c = λ h t. rw (← c.self.view_is) (time g (goal.at.returns-in-Err-Memory-clause-time g c).After-renew h t)
 
 pub returns-in-Err-Memory-clause-after_pool : goal.returns-in-Err-Memory-clause-after_pool
-returns-in-Err-Memory-clause-after_pool g c = λ h. rw (← c.self.view_is) (c.renew.ensures.after_pool h)
-
-pub returns-in-Err-Memory-clause-after_pool_time : goal.returns-in-Err-Memory-clause-after_pool_time
-returns-in-Err-Memory-clause-after_pool_time g c = λ h t. rw (← c.self.view_is) (c.renew.ensures.after_pool_time h t)
+returns-in-Err-Memory-clause-after_pool g c = record {
+  left = λ h. rw (← c.self.view_is) (c.renew.ensures.after_pool.left h);
+  time = λ h t. rw (← c.self.view_is) (c.renew.ensures.after_pool.time h t);
+}
 
 -- ---- the disk failed
 
@@ -180,7 +180,7 @@ invariant_of-result-in-Err-Device g c =
     let edits_are : c.edits.result.now ≡ c.into_parts-before.result.1 = c.edits.ensures ∙ sym c.into_parts-before.ensures.edits in
     record {
       either = λ h x l.
-          let e = to_either s.pages.version s.pages.number s.pages.limit c.pairs.result.now (changed c.pairs.result.now c.edits.result.now) x (c.renew.ensures.left h x (left_out g.D.Disk p.disk c.into_disk.result x c.into_disk.ensures.value l)) in
+          let e = to_either s.pages.version s.pages.number s.pages.limit c.pairs.result.now (changed c.pairs.result.now c.edits.result.now) x (c.renew.ensures.left.left h x (left_out g.D.Disk p.disk c.into_disk.result x c.into_disk.ensures.value l)) in
           ∣ weakly_called c.into_parts-before.result.0 c.pairs.result.now c.into_parts-before.result.1 c.edits.result.now map_is edits_are c.limit.result x
           (subst (λ (n : ℕ). IsEither n c.pairs.result.now (changed c.pairs.result.now c.edits.result.now) x) (sym (c.limit.ensures.value ∙ c.renew.ensures.limit)) e) ∣₁;
     }
@@ -196,7 +196,7 @@ returns-in-Err-Device-clause-broken g c =
       batch_is = c.into_parts-before.ensures.edits ∙ ap (λ (p : Planned). p.edits) c.in-Ok.ensures.ok;
       limit = c.limit.ensures.value ∙ c.renew.ensures.limit ∙ limit_back s.pages s.items c.args.self c.self.view_is;
       cause = refl;
-      failures = failed_back s.pages s.items c.args.self s.pages.disk (let p = c.renew.new.pages in p.disk) c.into_disk.result c.self.view_is refl c.into_disk.ensures.value (c.in-Err-Device.ensures.device (ap Err c.in-Err-Device.field-0-is));
+      failures = failed_back s.pages s.items c.args.self s.pages.disk (let p = c.renew.new.pages in p.disk) c.into_disk.result c.self.view_is refl c.into_disk.ensures.value (c.in-Err-Device.ensures.step.device c.in-Err-Device.field-0-is);
     }
 
 pub returns-in-Err-Device-clause-left_broken : goal.returns-in-Err-Device-clause-left_broken
@@ -206,19 +206,19 @@ returns-in-Err-Device-clause-left_broken g c = λ h x l.
     rw (← c.self.view_is) (to_either s.pages.version s.pages.number s.pages.limit s.items (changed s.items c.args.batch) x (roots g (goal.at.returns-in-Err-Device-clause-left_broken g c).After-renew h x left))
 
 pub returns-in-Err-Device-clause-roots : goal.returns-in-Err-Device-clause-roots
-returns-in-Err-Device-clause-roots g c = λ h x l. rw (← c.self.view_is) (roots g (goal.at.returns-in-Err-Device-clause-roots g c).After-renew h x (left_out g.D.Disk (let p = c.renew.new.pages in p.disk) c.into_disk.result x c.into_disk.ensures.value l))
-
-pub returns-in-Err-Device-clause-roots_time : goal.returns-in-Err-Device-clause-roots_time
-returns-in-Err-Device-clause-roots_time g c = λ h t. rw (← c.self.view_is, c.into_disk.ensures.value) (roots_time g (goal.at.returns-in-Err-Device-clause-roots_time g c).After-renew h t)
+returns-in-Err-Device-clause-roots g c = record {
+  left = λ h x l. rw (← c.self.view_is) (roots g (goal.at.returns-in-Err-Device-clause-roots g c).After-renew h x (left_out g.D.Disk (let p = c.renew.new.pages in p.disk) c.into_disk.result x c.into_disk.ensures.value l));
+  time = λ h t. rw (← c.self.view_is, c.into_disk.ensures.value) (roots_time g (goal.at.returns-in-Err-Device-clause-roots g c).After-renew h t);
+}
 
 pub returns-in-Err-Device-clause-time : goal.returns-in-Err-Device-clause-time
 returns-in-Err-Device-clause-time g c = λ h t. rw (← c.self.view_is, c.into_disk.ensures.value) (time g (goal.at.returns-in-Err-Device-clause-time g c).After-renew h t)
 
 pub returns-in-Err-Device-clause-after_pool : goal.returns-in-Err-Device-clause-after_pool
-returns-in-Err-Device-clause-after_pool g c = λ h. rw (← c.self.view_is, c.into_disk.ensures.value) (c.renew.ensures.after_pool h)
-
-pub returns-in-Err-Device-clause-after_pool_time : goal.returns-in-Err-Device-clause-after_pool_time
-returns-in-Err-Device-clause-after_pool_time g c = λ h t. rw (← c.self.view_is, c.into_disk.ensures.value) (c.renew.ensures.after_pool_time h t)
+returns-in-Err-Device-clause-after_pool g c = record {
+  left = λ h. rw (← c.self.view_is, c.into_disk.ensures.value) (c.renew.ensures.after_pool.left h);
+  time = λ h t. rw (← c.self.view_is, c.into_disk.ensures.value) (c.renew.ensures.after_pool.time h t);
+}
 
 pub returns-in-Err-clause-extent : goal.returns-in-Err-clause-extent
 returns-in-Err-clause-extent g c = rw (← c.self.view_is) refl
@@ -227,16 +227,16 @@ pub returns-in-Err-clause-later : goal.returns-in-Err-clause-later
 returns-in-Err-clause-later g c = rw (← c.self.view_is) (omega arith)
 
 pub returns-in-Ok-renew-clause-extent : goal.returns-in-Ok-renew-clause-extent
-returns-in-Ok-renew-clause-extent g c = rw (← c.self.view_is) c.renew.ensures.extent
+returns-in-Ok-renew-clause-extent g c = rw (← c.self.view_is) c.renew.ensures.step.extent
 
 pub returns-in-Ok-renew-clause-later : goal.returns-in-Ok-renew-clause-later
-returns-in-Ok-renew-clause-later g c = rw (← c.self.view_is) c.renew.ensures.later
+returns-in-Ok-renew-clause-later g c = rw (← c.self.view_is) c.renew.ensures.step.later
 
 pub returns-in-Err-Memory-clause-extent : goal.returns-in-Err-Memory-clause-extent
-returns-in-Err-Memory-clause-extent g c = rw (← c.self.view_is) c.renew.ensures.extent
+returns-in-Err-Memory-clause-extent g c = rw (← c.self.view_is) c.renew.ensures.step.extent
 
 pub returns-in-Err-Memory-clause-later : goal.returns-in-Err-Memory-clause-later
-returns-in-Err-Memory-clause-later g c = rw (← c.self.view_is) c.renew.ensures.later
+returns-in-Err-Memory-clause-later g c = rw (← c.self.view_is) c.renew.ensures.step.later
 
 pub returns-in-Ok-renew-clause-works : goal.returns-in-Ok-renew-clause-works
-returns-in-Ok-renew-clause-works g c = rw (← c.self.view_is) c.in-Ok-renew.ensures.works
+returns-in-Ok-renew-clause-works g c = rw (← c.self.view_is) c.in-Ok-renew.ensures.step.works

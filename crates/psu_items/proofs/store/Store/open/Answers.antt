@@ -1,5 +1,6 @@
 use Rattle.std.proofs.Common.{inr, refl}
 use Rattle.psu_disk.specs.Moments.{weaken}
+use Rattle.psu_disk.specs.Steps.{step_on}
 use Rattle.psu_items.specs.Image.{Represents}
 use Rattle.psu_items.specs.Finding.{IsOldOrSame}
 use Rattle.psu_items.specs.Outcome.{opened_disk}
@@ -22,35 +23,34 @@ returns-in-Ok-clause-memory g c = λ h.
     err_any c.take_up.result _ (λ e is. readable p.root p.version p.limit p.number p.heads.items (g.D.Disk.state c.args.disk).bytes (c.in-Ok.ensures.found h))
 
 pub returns-in-Ok-clause-images : goal.returns-in-Ok-clause-images
-returns-in-Ok-clause-images g c = λ h x l. inr (closed c.in-Ok.pages (g.D.Disk.state c.args.disk).bytes (c.in-Ok.ensures.found h) (c.in-Ok.ensures.seen h) (c.in-Ok.ensures.synced h) x (c.take_up.ensures.left h x l) (c.take_up.ensures.touched h x l))
-
-pub returns-in-Ok-clause-moments : goal.returns-in-Ok-clause-moments
-returns-in-Ok-clause-moments g c = λ h t.
-    let old = g.D.Disk.state c.args.disk in
-    closed_run c.in-Ok.pages old.bytes (c.in-Ok.ensures.found h) (c.in-Ok.ensures.seen h) (c.in-Ok.ensures.synced h) old c.args.disk (opened_disk c.take_up.result) refl (c.in-Ok.ensures.time h t) (c.take_up.ensures.time h t) (c.take_up.ensures.touched_time h t)
+returns-in-Ok-clause-images g c = record {
+  left = λ h x l. inr (closed c.in-Ok.pages (g.D.Disk.state c.args.disk).bytes (c.in-Ok.ensures.found h) (c.in-Ok.ensures.seen h) (c.in-Ok.ensures.synced h) x (c.take_up.ensures.left.left h x l) (c.take_up.ensures.touched.left h x l));
+  time = λ h t.
+      let old = g.D.Disk.state c.args.disk in
+      closed_run c.in-Ok.pages old.bytes (c.in-Ok.ensures.found h) (c.in-Ok.ensures.seen h) (c.in-Ok.ensures.synced h) old c.args.disk (opened_disk c.take_up.result) refl (c.in-Ok.ensures.left.time h t) (c.take_up.ensures.left.time h t) (c.take_up.ensures.touched.time h t);
+}
 
 pub returns-in-Ok-clause-finds : goal.returns-in-Ok-clause-finds
 returns-in-Ok-clause-finds g c = λ h limit m all. found_one (g.D.Disk.state c.args.disk) limit m all c.take_up.result (returns-in-Ok-clause-represented g c h)
 
 pub returns-in-Ok-clause-left : goal.returns-in-Ok-clause-left
-returns-in-Ok-clause-left g c = λ h limit m all x l. still_represents (g.D.Disk.state c.args.disk) limit m all x (returns-in-Ok-clause-images g c h x l)
-
-pub returns-in-Ok-clause-time : goal.returns-in-Ok-clause-time
-returns-in-Ok-clause-time g c = λ h t limit m all.
+returns-in-Ok-clause-left g c = λ limit m all.
     let d = g.D.Disk in
-    weaken d.moment d.left_since c.args.disk (opened_disk c.take_up.result) (IsOldOrSame (d.state c.args.disk)) (λ x. Represents x limit m) (returns-in-Ok-clause-moments g c h t) (still_represents (d.state c.args.disk) limit m all)
+    let images = returns-in-Ok-clause-images g c in
+    let represents = still_represents (d.state c.args.disk) limit m all in
+    record {
+      left = λ h x l. represents x (images.left h x l);
+      time = λ h t. weaken d.moment d.left_since c.args.disk (opened_disk c.take_up.result) (IsOldOrSame (d.state c.args.disk)) (λ x. Represents x limit m) (images.time h t) represents;
+    }
 
 pub returns-in-Err-clause-refused : goal.returns-in-Err-clause-refused
 returns-in-Err-clause-refused g c = λ h. pages_refused (g.D.Disk.state c.args.disk).bytes c.in-Err.refused.cause (c.in-Err.ensures.refused h)
 
-pub returns-in-Ok-clause-works : goal.returns-in-Ok-clause-works
-returns-in-Ok-clause-works g c = rw (← c.in-Ok.ensures.works) c.take_up.ensures.works
-
 pub returns-in-Ok-clause-quiet : goal.returns-in-Ok-clause-quiet
-returns-in-Ok-clause-quiet g c = rw (← c.in-Ok.ensures.works) c.take_up.ensures.quiet
-
-pub returns-in-Ok-clause-device : goal.returns-in-Ok-clause-device
-returns-in-Ok-clause-device g c = rw (← c.in-Ok.ensures.works) c.take_up.ensures.device
+returns-in-Ok-clause-quiet g c = rw (← c.in-Ok.ensures.step.works) c.take_up.ensures.quiet
 
 pub returns-in-Ok-clause-untouched : goal.returns-in-Ok-clause-untouched
 returns-in-Ok-clause-untouched g c = λ h. rw (← c.in-Ok.ensures.seen h) (c.take_up.ensures.untouched h)
+
+pub returns-in-Ok-clause-step : goal.returns-in-Ok-clause-step
+returns-in-Ok-clause-step g c = step_on c.in-Ok.ensures.step c.take_up.ensures.step

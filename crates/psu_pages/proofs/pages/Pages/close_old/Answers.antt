@@ -1,4 +1,4 @@
-use Rattle.std.proofs.Common.{List, sym, ◌∙◌, arith, subst, ◌≡◌, length, rules}
+use Rattle.std.proofs.Common.{List, sym, ◌∙◌, arith, subst, ◌≡◌, length}
 use Rattle.psu_disk.specs.Disk.{SameBut}
 use Rattle.psu_disk.specs.Moments.{started}
 use Rattle.psu_pages.specs.Free.{IsRoster, AreClaimed}
@@ -20,36 +20,42 @@ keeps g c h =
     let now = g.D.Disk.state p.disk in
     record {
       each = closing now p.root p.version p.limit p.number p.heads.items (items_in p.root now.bytes) (p.encodes h c.requires.sure) (p.lower h c.in-Both.is);
-      step = rw (← c.other.ensures) (c.set_gate.ensures.left h);
+      step = rw (← c.other.ensures) (c.set_gate.ensures.left.left h);
       seen = rw (← c.other.ensures) (c.set_gate.ensures.seen h);
     }
 
-pub returns-in_default-clause-time : goal.returns-in_default-clause-time
-returns-in_default-clause-time g c = λ h t.
-    let d = g.D.Disk in
-    let p = c.args.self.now in
-    started d.moment d.left_since p.disk (Encodes p.root p.version p.limit p.number p.heads.items (items_in p.root (d.state p.disk).bytes)) (λ x l. p.encodes h c.requires.sure x (g.met.D.Disk.only_now t p.disk x l))
+pub returns-in_default-clause-left : goal.returns-in_default-clause-left
+returns-in_default-clause-left g c = record {
+  left = λ h x l. let p = c.args.self.now in p.encodes h c.requires.sure x l;
+  time = λ h t.
+      let d = g.D.Disk in
+      let p = c.args.self.now in
+      started d.moment d.left_since p.disk (Encodes p.root p.version p.limit p.number p.heads.items (items_in p.root (d.state p.disk).bytes)) (λ x l. p.encodes h c.requires.sure x (g.met.D.Disk.only_now t p.disk x l));
+}
 
 pub returns-in_err-set_gate-clause-left : goal.returns-in_err-set_gate-clause-left
-returns-in_err-set_gate-clause-left g c = λ h. still_left (keeps g (goal.at.returns-in_err-set_gate-clause-left g c).After-set_gate h)
+returns-in_err-set_gate-clause-left g c = record {
+  left = λ h. still_left (keeps g (goal.at.returns-in_err-set_gate-clause-left g c).After-set_gate h);
+  time = λ h t. still_run (keeps g (goal.at.returns-in_err-set_gate-clause-left g c).After-set_gate h) (rw (← c.other.ensures) (c.set_gate.ensures.left.time h t));
+}
 
-pub returns-in_err-set_gate-clause-time : goal.returns-in_err-set_gate-clause-time
-returns-in_err-set_gate-clause-time g c = λ h t. still_run (keeps g (goal.at.returns-in_err-set_gate-clause-time g c).After-set_gate h) (rw (← c.other.ensures) (c.set_gate.ensures.time h t))
-
-pub returns-in_err-set_gate-clause-touched_time : goal.returns-in_err-set_gate-clause-touched_time
-returns-in_err-set_gate-clause-touched_time g c = λ h t. rw (← c.other.ensures) (c.set_gate.ensures.time h t)
+pub returns-in_err-set_gate-clause-touched : goal.returns-in_err-set_gate-clause-touched
+returns-in_err-set_gate-clause-touched g c = record {
+  left = λ h. rw (← c.other.ensures) (c.set_gate.ensures.left.left h);
+  time = λ h t. rw (← c.other.ensures) (c.set_gate.ensures.left.time h t);
+}
 
 pub returns-clause-left : goal.returns-clause-left
-returns-clause-left g c = λ h. still_left (keeps g (goal.at.returns-clause-left g c).After-set_gate h)
-
-pub returns-clause-time : goal.returns-clause-time
-returns-clause-time g c = λ h t. still_run (keeps g (goal.at.returns-clause-time g c).After-set_gate h) (rw (← c.other.ensures) (c.set_gate.ensures.time h t))
+returns-clause-left g c = record {
+  left = λ h. still_left (keeps g (goal.at.returns-clause-left g c).After-set_gate h);
+  time = λ h t. still_run (keeps g (goal.at.returns-clause-left g c).After-set_gate h) (rw (← c.other.ensures) (c.set_gate.ensures.left.time h t));
+}
 
 pub returns-clause-touched : goal.returns-clause-touched
-returns-clause-touched g c = λ h. rw (← c.other.ensures) (c.set_gate.ensures.left h)
-
-pub returns-clause-touched_time : goal.returns-clause-touched_time
-returns-clause-touched_time g c = λ h t. rw (← c.other.ensures) (c.set_gate.ensures.time h t)
+returns-clause-touched g c = record {
+  left = λ h. rw (← c.other.ensures) (c.set_gate.ensures.left.left h);
+  time = λ h t. rw (← c.other.ensures) (c.set_gate.ensures.left.time h t);
+}
 
 pub returns-clause-shown : goal.returns-clause-shown
 returns-clause-shown g c = λ h. still_shown (keeps g (goal.at.returns-clause-shown g c).After-set_gate h)
@@ -99,9 +105,6 @@ invariant_of-self-2-clause-claimed g c = subst (λ (hs : List Head). AreClaimed 
 
 pub invariant_of-self-2-clause-lower : goal.invariant_of-self-2-clause-lower
 invariant_of-self-2-clause-lower g c = λ h both. let no : One ≡ Both = both in absurd (cc)
-
-pub returns-clause-works : goal.returns-clause-works
-returns-clause-works g c = c.in_ok-set_gate.ensures.cause.works (search rules)
 
 pub returns-clause-zero : goal.returns-clause-zero
 returns-clause-zero g c = λ h both. rw (← c.other.ensures) (c.in_ok-set_gate.ensures.done h)

@@ -1,4 +1,4 @@
-use Rattle.std.proofs.Common.{◌≡◌, ℕ, List, ◌∷◌, [], drop, sym, ◌∙◌, ap, arith, subst, rules}
+use Rattle.std.proofs.Common.{◌≡◌, ℕ, List, ◌∷◌, [], drop, sym, ◌∙◌, ap, arith, subst}
 use Rattle.psu_disk.specs.Ranges.{reads_left}
 use Rattle.psu_pages.specs.declared.root.Root.TheVariants.{First}
 use Rattle.psu_pages.specs.Free.{IsRoster}
@@ -40,9 +40,6 @@ invariant_of-result-clause-shut g c = λ h one. c.in-Ok-lay_out.ensures.shut h
 
 pub invariant_of-result-clause-lower : goal.invariant_of-result-clause-lower
 invariant_of-result-clause-lower g c = λ h both. let no : One ≡ Both = both in absurd (cc)
-
-pub returns-in-Ok-lay_out-clause-works : goal.returns-in-Ok-lay_out-clause-works
-returns-in-Ok-lay_out-clause-works g c = c.in-Ok-lay_out.ensures.cause.works (search rules)
 
 pub returns-in-Ok-lay_out-clause-zero : goal.returns-in-Ok-lay_out-clause-zero
 returns-in-Ok-lay_out-clause-zero g c = λ h. c.in-Ok-lay_out.ensures.zero h

@@ -1,4 +1,4 @@
-use Rattle.std.proofs.Common.{◌≡◌, ◌≢◌, ◌+◌, ℕ, List, ◌∷◌, drop, refl, sym, ◌∙◌, ap, subst, arith, rules}
+use Rattle.std.proofs.Common.{◌≡◌, ◌≢◌, ◌+◌, ℕ, List, ◌∷◌, drop, refl, sym, ◌∙◌, ap, subst, arith}
 use Rattle.psu_disk.specs.Ranges.{reads_left}
 use Rattle.psu_pages.specs.declared.root.Root.{Root}
 use Rattle.psu_pages.specs.declared.standing.Standing.TheVariants.{One, Both, Unsure}
@@ -51,28 +51,28 @@ invariant_of-self-2-clause-encodes g c = λ h sure.
     (subst (EachEncodes new next 2 p.limit (p.number + 1) c.args.heads.items) (sym (encoded new.bytes (reads_left new)).has_contents.items_are) encoded)
 
 pub returns-in_err-switch-clause-left : goal.returns-in_err-switch-clause-left
-returns-in_err-switch-clause-left g c = λ h. rw (← c.other-next.ensures) (c.switch.ensures.left h _ _ _ _ _ _ (ready g (goal.at.returns-in_err-switch-clause-left g c).After-switch h))
-
-pub returns-in_err-switch-clause-time : goal.returns-in_err-switch-clause-time
-returns-in_err-switch-clause-time g c = λ h t. rw (← c.other-next.ensures) (c.switch.ensures.time h t _ _ _ _ _ _ (ready g (goal.at.returns-in_err-switch-clause-time g c).After-switch h))
+returns-in_err-switch-clause-left g c = record {
+  left = λ h. rw (← c.other-next.ensures) ((c.switch.ensures.left _ _ _ _ _ _ (ready g (goal.at.returns-in_err-switch-clause-left g c).After-switch h)).left h);
+  time = λ h t. rw (← c.other-next.ensures) ((c.switch.ensures.left _ _ _ _ _ _ (ready g (goal.at.returns-in_err-switch-clause-left g c).After-switch h)).time h t);
+}
 
 pub returns-in_err-switch-clause-touched : goal.returns-in_err-switch-clause-touched
-returns-in_err-switch-clause-touched g c = λ h. rw (← c.other-next.ensures) (c.switch.ensures.touched h)
-
-pub returns-in_err-switch-clause-touched_time : goal.returns-in_err-switch-clause-touched_time
-returns-in_err-switch-clause-touched_time g c = λ h t. rw (← c.other-next.ensures) (c.switch.ensures.touched_time h t)
+returns-in_err-switch-clause-touched g c = record {
+  left = λ h. rw (← c.other-next.ensures) (c.switch.ensures.touched.left h);
+  time = λ h t. rw (← c.other-next.ensures) (c.switch.ensures.touched.time h t);
+}
 
 pub returns-clause-left : goal.returns-clause-left
-returns-clause-left g c = λ h. rw (← c.other-next.ensures) (c.switch.ensures.left h _ _ _ _ _ _ (ready g (goal.at.returns-clause-left g c).After-switch h))
-
-pub returns-clause-time : goal.returns-clause-time
-returns-clause-time g c = λ h t. rw (← c.other-next.ensures) (c.switch.ensures.time h t _ _ _ _ _ _ (ready g (goal.at.returns-clause-time g c).After-switch h))
+returns-clause-left g c = record {
+  left = λ h. rw (← c.other-next.ensures) ((c.switch.ensures.left _ _ _ _ _ _ (ready g (goal.at.returns-clause-left g c).After-switch h)).left h);
+  time = λ h t. rw (← c.other-next.ensures) ((c.switch.ensures.left _ _ _ _ _ _ (ready g (goal.at.returns-clause-left g c).After-switch h)).time h t);
+}
 
 pub returns-clause-touched : goal.returns-clause-touched
-returns-clause-touched g c = λ h. rw (← c.other-next.ensures) (c.switch.ensures.touched h)
-
-pub returns-clause-touched_time : goal.returns-clause-touched_time
-returns-clause-touched_time g c = λ h t. rw (← c.other-next.ensures) (c.switch.ensures.touched_time h t)
+returns-clause-touched g c = record {
+  left = λ h. rw (← c.other-next.ensures) (c.switch.ensures.touched.left h);
+  time = λ h t. rw (← c.other-next.ensures) (c.switch.ensures.touched.time h t);
+}
 
 pub returns-clause-spelled : goal.returns-clause-spelled
 returns-clause-spelled g c = λ h. c.in_ok-switch.ensures.spelled h ∙ ap (λ (b : List ℕ). 165 ∷ b) (contents g (goal.at.returns-clause-spelled g c).After-switch)
@@ -88,7 +88,7 @@ invariant_of-self g c =
     record {
       limit_least = p.limit_least;
       limit_most = p.limit_most;
-      room = omega (arith, p.room, c.switch.ensures.extent);
+      room = omega (arith, p.room, c.switch.ensures.step.extent);
       sized = p.sized;
       first_kept = p.first_kept;
       second_kept = p.second_kept;
@@ -104,6 +104,3 @@ invariant_of-self g c =
 
 pub invariant_of-self-2-clause-shut : goal.invariant_of-self-2-clause-shut
 invariant_of-self-2-clause-shut g c = λ h same. let no : Both ≡ One = same in absurd (cc)
-
-pub returns-clause-works : goal.returns-clause-works
-returns-clause-works g c = c.in_ok-switch.ensures.cause.works (search rules)

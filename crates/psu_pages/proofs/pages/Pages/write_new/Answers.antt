@@ -14,7 +14,7 @@ keeps g c h =
     let r = c.requires.planned in
     record {
       each = missed g.D.Disk.state p.root p.version p.limit p.number p.heads.items (pages_of c.args.head.now) p.disk r.pool r.unnamed (p.encodes h c.requires.sure);
-      step = c.write_item.ensures.left h;
+      step = c.write_item.ensures.left.left h;
       seen = c.write_item.ensures.seen h;
     }
 
@@ -31,10 +31,10 @@ pub returns-in_err-write_item-clause-shown : goal.returns-in_err-write_item-clau
 returns-in_err-write_item-clause-shown g c = λ h. still_shown (keeps g (goal.at.returns-in_err-write_item-clause-shown g c).After-write_item h)
 
 pub returns-in_err-write_item-clause-left : goal.returns-in_err-write_item-clause-left
-returns-in_err-write_item-clause-left g c = λ h. still_left (keeps g (goal.at.returns-in_err-write_item-clause-left g c).After-write_item h)
-
-pub returns-in_err-write_item-clause-time : goal.returns-in_err-write_item-clause-time
-returns-in_err-write_item-clause-time g c = λ h t. still_run (keeps g (goal.at.returns-in_err-write_item-clause-time g c).After-write_item h) (c.write_item.ensures.time h t)
+returns-in_err-write_item-clause-left g c = record {
+  left = λ h. still_left (keeps g (goal.at.returns-in_err-write_item-clause-left g c).After-write_item h);
+  time = λ h t. still_run (keeps g (goal.at.returns-in_err-write_item-clause-left g c).After-write_item h) (c.write_item.ensures.left.time h t);
+}
 
 pub invariant_of-self-2-clause-encodes : goal.invariant_of-self-2-clause-encodes
 invariant_of-self-2-clause-encodes g c = λ h sure. still_encodes (keeps g (goal.at.invariant_of-self-2-clause-encodes g c).After-write_item h)
@@ -42,13 +42,13 @@ invariant_of-self-2-clause-encodes g c = λ h sure. still_encodes (keeps g (goal
 pub invariant_of-self-2-clause-shut : goal.invariant_of-self-2-clause-shut
 invariant_of-self-2-clause-shut g c = λ h one.
     let p = c.args.self.now in
-    shut_missed p.limit (pages_of c.args.head.now) (g.D.Disk.state p.disk) (g.D.Disk.state c.write_item.new.disk) c.requires.planned.pool (c.write_item.ensures.left h) (other p.root) (p.shut h one)
+    shut_missed p.limit (pages_of c.args.head.now) (g.D.Disk.state p.disk) (g.D.Disk.state c.write_item.new.disk) c.requires.planned.pool (c.write_item.ensures.left.left h) (other p.root) (p.shut h one)
 
 pub invariant_of-self-2-clause-lower : goal.invariant_of-self-2-clause-lower
 invariant_of-self-2-clause-lower g c = λ h both.
     let p = c.args.self.now in
     let r = c.requires.planned in
-    lower_missed g.D.Disk.state p.root p.version p.limit p.number p.heads.items (pages_of c.args.head.now) p.disk r.pool r.unnamed (p.encodes h c.requires.sure) c.write_item.new.disk (c.write_item.ensures.left h) (other p.root) p.number (p.lower h both)
+    lower_missed g.D.Disk.state p.root p.version p.limit p.number p.heads.items (pages_of c.args.head.now) p.disk r.pool r.unnamed (p.encodes h c.requires.sure) c.write_item.new.disk (c.write_item.ensures.left.left h) (other p.root) p.number (p.lower h both)
 
 pub returns-clause-others : goal.returns-clause-others
 returns-clause-others g c = others g (goal.at.returns-clause-others g c).After-write_item
@@ -57,10 +57,10 @@ pub returns-clause-shown : goal.returns-clause-shown
 returns-clause-shown g c = λ h. still_shown (keeps g (goal.at.returns-clause-shown g c).After-write_item h)
 
 pub returns-clause-left : goal.returns-clause-left
-returns-clause-left g c = λ h. still_left (keeps g (goal.at.returns-clause-left g c).After-write_item h)
-
-pub returns-clause-time : goal.returns-clause-time
-returns-clause-time g c = λ h t. still_run (keeps g (goal.at.returns-clause-time g c).After-write_item h) (c.write_item.ensures.time h t)
+returns-clause-left g c = record {
+  left = λ h. still_left (keeps g (goal.at.returns-clause-left g c).After-write_item h);
+  time = λ h t. still_run (keeps g (goal.at.returns-clause-left g c).After-write_item h) (c.write_item.ensures.left.time h t);
+}
 
 pub write_item-requires-clause-low : goal.write_item-requires-clause-low
 write_item-requires-clause-low g c = let p = c.args.self.now in pool_words p.limit (let head = c.args.head.now in head.pages) p.limit_most c.requires.planned.pool.1

@@ -13,7 +13,7 @@ returns-clause-request c = ap first_request (returns-clause-status c) ∙ reques
 
 pub invariant_of-result : goal.invariant_of-result
 invariant_of-result c = record {
-  sre = bit_6_of_sre c.unwrap_or-sre.result.0;
+  sre = bit_6_of_sre c.unwrap_or-kept.result.sre;
   operation = c.new.ensures.fifteen;
   questionable = c.standing.ensures.fifteen;
   idle = ap (λ (r : Registers). r.condition) c.new.ensures.registers;

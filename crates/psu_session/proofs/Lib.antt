@@ -1,0 +1,16 @@
+pub mod Serving
+pub mod ReceivedMessages
+pub mod Executing
+pub mod Stepping
+pub mod Splitting
+pub mod ExchangeEvents
+pub mod Settling
+pub mod Keeping
+pub mod StepKeeping
+pub mod Outputs
+pub mod Streams
+pub mod Exchanging
+pub mod Requests
+pub mod Places
+pub mod Releases
+pub mod Waits

@@ -1,0 +1,45 @@
+-- Messages, one after another.
+use Rattle.std.proofs.Common.{◌≡◌, ℕ, List, [], ◌∷◌, ◌++◌, refl, sym, ap, subst, append_assoc, length, arith}
+use Rattle.std.specs.Prelude.{map}
+use Rattle.std.proofs.lemmas.List.{append-nil}
+use Rattle.psu_hislip.specs.Channel.{Awaited, Fed}
+use Rattle.psu_hislip.specs.Rest.{all_received}
+use Rattle.psu_hislip.specs.Stream.{Received, received}
+use Rattle.psu_hislip.specs.declared.message.Message.{Message}
+use Rattle.psu_hislip.specs.declared.side.Side.{Side}
+use Rattle.psu_session.specs.Events.{Call, Event, calls}
+use Rattle.psu_session.specs.Step.{EachReceived, IsMessageReceived}
+use Rattle.psu_session.specs.Serving.{PerformsStep, Runs}
+use Rattle.psu_session.specs.State.{State}
+use Rattle.psu_session.proofs.Serving.{runs_after}
+
+pub are_received : {A : Type 0} (messages : List (Message A)) → all_received messages ≡ map received messages
+are_received [] = refl
+are_received (message ∷ messages) = ap (λ (z : List Received). received message ∷ z) (are_received messages)
+
+module _ {X : Type 0} (does : X → Call → X → Type 0) (now : ℕ) (side : Side) where
+  -- the messages that were received, and then those that are left, are all messages
+  pub record Receiving (all left : List Received) (s : State) (x : X) (t : State) (y : X) : Type 0 where
+    pub done : List Event
+    pub runs : Runs does x (calls done) y
+    pub completes : (more : List Event) (u : State) → EachReceived now side left t more u → EachReceived now side all s (done ++ more) u
+
+  pub begins : (all : List Received) (s : State) (x : X) → Receiving all all s x s x
+  begins all s x = record { done = []; runs = refl; completes = λ more u each. each }
+
+  pub receives : (all : List Received) (message : Received) (left : List Received) (s : State) (x : X) (t : State) (y : X) (u : State) (z : X) → Receiving all (message ∷ left) s x t y → PerformsStep does (IsMessageReceived now side message) t y u z
+      → Receiving all left s x u z
+  receives all message left s x t y u z r m = record {
+    done = r.done ++ m.done;
+    runs = runs_after does r.done m.done x y z r.runs m.runs;
+    completes = λ more v each. subst (λ (w : List Event). EachReceived now side all s w v) (sym (append_assoc r.done m.done more)) (r.completes (m.done ++ more) v (u, m.done, more, refl, m.is, each));
+  }
+
+  pub received_all : (all : List Received) (s : State) (x : X) (t : State) (y : X) → Receiving all [] s x t y → PerformsStep does (EachReceived now side all) s x t y
+  received_all all s x t y r = record { done = r.done; is = subst (λ (w : List Event). EachReceived now side all s w t) (append-nil r.done) (r.completes [] t (refl, refl)); runs = r.runs }
+
+-- a channel that has returned one message
+pub only_one : {A : Type 0} (messages : List (Message A)) (channel : Awaited) (stream : List ℕ) → length messages ≡ 1 → Fed channel stream (all_received messages) → (first : Received) × Fed channel stream (first ∷ [])
+only_one [] channel stream one fed = absurd (omega (arith, one))
+only_one (message ∷ []) channel stream one fed = (received message, fed)
+only_one (message ∷ next ∷ messages) channel stream one fed = absurd (omega (arith, one))

@@ -1,0 +1,20 @@
+use Rattle.std.proofs.Common.{ap, refl}
+use Rattle.psu_messages.proofs.Going.{kept_advances, kept_interrupted}
+use Rattle.psu_session.proofs.Executing.{advanced}
+use Rattle.psu_session.proofs.execution.Execution.advance.Goals as goal
+
+pub returns-in_err-need-clause-output : goal.returns-in_err-need-clause-output
+returns-in_err-need-clause-output g c = kept_interrupted c.in_err-need.ensures.stops (λ x. x.output.ghost_name) (λ x y effect d. d.0) (λ x y request stop d. absurd d) (λ x y stop d. d.0)
+
+pub returns-in_err-need-clause-device : goal.returns-in_err-need-clause-device
+returns-in_err-need-clause-device g c = kept_interrupted c.in_err-need.ensures.stops (λ x. x.device.ghost_name) (λ x y effect d. d.1) (λ x y request stop d. absurd d) (λ x y stop d. d.1)
+
+pub returns-clause-advances : goal.returns-clause-advances
+returns-clause-advances g c =
+    advanced g.D.Device.does (λ x. x.core.now) (λ x. x.origin) (λ x. x.output.now.items) (λ x. x.device.now) (λ x y effect d. (ap (λ k. k.now) d.2, d.3, d.4, d.5)) c.in_ok-need.ensures.advances c.args.self.now.origin refl
+
+pub returns-clause-output : goal.returns-clause-output
+returns-clause-output g c = kept_advances c.in_ok-need.ensures.advances (λ x. x.output.ghost_name) (λ x y effect d. d.0)
+
+pub returns-clause-device : goal.returns-clause-device
+returns-clause-device g c = kept_advances c.in_ok-need.ensures.advances (λ x. x.device.ghost_name) (λ x y effect d. d.1)

@@ -1,0 +1,8 @@
+use Rattle.psu_session.proofs.Waits.{answered_once, wait_is_known}
+use Rattle.psu_session.proofs.laws.each_wait_is_answered.Goals as goal
+
+pub returns-clause-known : goal.returns-clause-known
+returns-clause-known c = wait_is_known
+
+pub returns-clause-once : goal.returns-clause-once
+returns-clause-once c = answered_once

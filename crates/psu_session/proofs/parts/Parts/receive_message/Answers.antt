@@ -1,0 +1,39 @@
+use Rattle.std.proofs.Common.{◌≡◌, ◌∙◌, ℕ, Bool, Option, List, ◌∷◌, ap, refl, subst, flat_map}
+use Rattle.psu_hislip.specs.Action.{Act, acts}
+use Rattle.psu_hislip.specs.Core.{Core, outcome_of}
+use Rattle.psu_hislip.specs.Stream.{received}
+use Rattle.psu_hislip.specs.declared.action.Action.{Action}
+use Rattle.psu_sides.specs.Messages.{clears, parameter}
+use Rattle.psu_session.specs.Events.{Came}
+use Rattle.psu_session.specs.Step.{Each, arrived, number_on, release_in, works_in}
+use Rattle.psu_session.specs.Shown.{state_of}
+use Rattle.psu_session.specs.State.{State, added, numbered, settled, with_core}
+use Rattle.psu_session.proofs.Serving.{on_ok}
+use Rattle.psu_session.proofs.parts.Parts.receive_message.Goals as goal
+
+pub returns : goal.returns
+returns g c =
+    let message = received c.args.message.now in
+    let outcome = outcome_of c.args.self.now.core c.args.side message in
+    let requested = acts c.in_ok-actions.actions.items in
+    let is : requested ≡ outcome.actions = c.in_ok-actions.ensures.done in
+    let did = c.in_ok-act_all.ensures in
+    let s = state_of c.args.self.now in
+    let all : c.clears-all.result ≡ clears requested = c.clears-all.ensures ∙ ap (λ (xs : List (Action _)). clears (acts xs)) c.as_slice.ensures.value in
+    let begun : state_of c.act_all.new.self ≡ added (with_core s outcome.core) (flat_map works_in requested) (flat_map (release_in c.args.now (parameter message)) requested) did.done
+    = did.then ∙ ap (λ (z : Core). added (with_core s z) (flat_map works_in requested) (flat_map (release_in c.args.now c.parameter.result) requested) did.done) c.in_ok-actions.ensures.core
+    ∙ ap (λ (z : ℕ). added (with_core s outcome.core) (flat_map works_in requested) (flat_map (release_in c.args.now z) requested) did.done) c.parameter.ensures in
+    let counted : state_of c.count.new.self ≡ numbered (added (with_core s outcome.core) (flat_map works_in requested) (flat_map (release_in c.args.now (parameter message)) requested) did.done) (number_on c.args.side message)
+    = c.count.ensures ∙ ap (λ (z : Option ℕ). numbered (state_of c.act_all.new.self) z) c.number_on.ensures ∙ ap (λ (z : State). numbered z (number_on c.args.side message)) begun in
+    on_ok c.settle.result (λ last. record {
+      done = Came c.args.side message ∷ did.done;
+      is = record {
+        immediate = did.done;
+        each = subst (λ (z : List Act). Each z did.done) is did.are;
+        are = refl;
+        then = last ∙ ap (λ (z : State). settled c.clears-all.result c.args.now z) counted
+            ∙ ap (λ (z : Bool). settled z c.args.now (numbered (added (with_core s outcome.core) (flat_map works_in requested) (flat_map (release_in c.args.now (parameter message)) requested) did.done) (number_on c.args.side message))) all
+            ∙ ap (λ (z : List Act). arrived c.args.now c.args.side message z (with_core s outcome.core) did.done) is;
+      };
+      runs = did.runs;
+    }) c.settle.ensures

@@ -1,0 +1,202 @@
+-- The events of a session. Source: IVI-6.1 (the two channels of a session, and what is sent on each).
+use Rattle.std.specs.Prelude.{ℕ, Bool, true, false, Option, Some, None, Result, Ok, List, [], ◌∷◌, flat_map}
+use Rattle.psu_locks.specs.declared.freed.Freed.{Freed}
+use Rattle.psu_locks.specs.declared.grant.Grant.{Grant}
+use Rattle.psu_locks.specs.declared.info.Info.{Info}
+use Rattle.psu_locks.specs.declared.kind.Kind.{Kind}
+use Rattle.psu_locks.specs.declared.lock_refusal.LockRefusal.{LockRefusal}
+use Rattle.psu_hislip.specs.Frame.{header_of}
+use Rattle.psu_hislip.specs.Header.{header_bytes}
+use Rattle.psu_hislip.specs.LockResponses.{lock_response, release_response}
+use Rattle.psu_hislip.specs.Stream.{Received}
+use Rattle.psu_hislip.specs.declared.header.Header.{Header}
+use Rattle.psu_hislip.specs.declared.message_type.MessageType.TheVariants.{AsyncServiceRequest}
+use Rattle.psu_hislip.specs.declared.origin.Origin.{Origin}
+use Rattle.psu_hislip.specs.declared.side.Side.{Side}
+use Rattle.psu_hislip.specs.declared.side.Side.TheVariants.{Sync, Async}
+use Rattle.psu_tree.specs.declared.unit_request.Request.{Request}
+use Rattle.psu_exec.specs.Device.{Reply}
+use Rattle.psu_messages.specs.Effects as messages
+use Rattle.psu_messages.specs.Effects.{Effect}
+use Rattle.psu_exchange.specs.Life as exchange
+
+-- a call of the device, with its reply
+pub data Call : Type 0 where
+  -- a unit is executed, or the wait of one that was accepted is settled
+  Executed : Request → Reply → Call
+  Settled : Reply → Call
+  -- a response is sent; the client has read the last one whole
+  Sent : Call
+  Delivered : Call
+  -- the status byte of a status query, and of a service request
+  Queried : ℕ → Call
+  Fetched : Option ℕ → Call
+  -- a lock is requested, with a timeout in milliseconds, or released; which locks are held
+  Locked : Kind → ℕ → Result Grant LockRefusal → Call
+  Released : Result Freed LockRefusal → Call
+  Informed : Info → Call
+  -- a device clear begins
+  Cleared : Call
+
+-- the call that an effect makes
+abbrev pub call_of : Effect → Call
+call_of (messages.Executed request reply) = Executed request reply
+call_of (messages.Settled reply) = Settled reply
+call_of (messages.Sent text last) = Sent
+
+pub data Event : Type 0 where
+  -- the next bytes of a channel's stream are received
+  BytesReceived : Side → List ℕ → Event
+  -- a lock request that waited has this result, and its response is appended to the output of the asynchronous connection
+  LockGranted : Grant → Event
+  -- a service request is fetched from the device, and appended there if there is one
+  ServiceRequested : Option ℕ → Event
+  -- a lock is released with this reply of the device, and the response is appended there
+  LockReleased : Result Freed LockRefusal → Event
+  -- a message of a channel is passed to the session's core
+  Came : Side → Received → Event
+  -- a call of the device for a message, immediately
+  DeviceCalled : Call → Event
+  -- frames are appended to the output of a connection for a message, immediately: a reply of the core, or the response to
+  -- a call of the device
+  Put : Side → List ℕ → Event
+  -- an effect of the transmission of an origin, with the frames that it appends to the output of the synchronous connection
+  Did : Origin → Effect → List ℕ → Event
+  -- bytes are taken from the output of a connection, to be written next
+  Took : Side → List ℕ → Event
+
+-- ---- calls of the device
+
+abbrev pub calls_in : Event → List Call
+calls_in (BytesReceived side received_bytes) = []
+calls_in (LockGranted grant) = []
+calls_in (ServiceRequested request) = Fetched request ∷ []
+calls_in (LockReleased reply) = Released reply ∷ []
+calls_in (Came side message) = []
+calls_in (DeviceCalled call) = call ∷ []
+calls_in (Put side frames) = []
+calls_in (Did origin effect frames) = call_of effect ∷ []
+calls_in (Took side bytes) = []
+
+abbrev pub calls : List Event → List Call
+calls history = flat_map calls_in history
+
+-- ---- a lock request that waits
+
+-- a request that has no response yet waits
+abbrev pub waits_if : Bool → Option Header → Bool
+waits_if waits None = true
+waits_if waits (Some header) = waits
+
+abbrev pub waits_by_call : Bool → Call → Bool
+waits_by_call waits (Executed request reply) = waits
+waits_by_call waits (Settled reply) = waits
+waits_by_call waits Sent = waits
+waits_by_call waits Delivered = waits
+waits_by_call waits (Queried byte) = waits
+waits_by_call waits (Fetched request) = waits
+waits_by_call waits (Locked kind timeout reply) = waits_if waits (lock_response reply)
+waits_by_call waits (Released reply) = waits
+waits_by_call waits (Informed info) = waits
+waits_by_call waits Cleared = waits
+
+-- whether a lock request waits after an event
+abbrev pub waits_by : Bool → Event → Bool
+waits_by waits (BytesReceived side received_bytes) = waits
+waits_by waits (LockGranted grant) = false
+waits_by waits (ServiceRequested request) = waits
+waits_by waits (LockReleased reply) = waits
+waits_by waits (Came side message) = waits
+waits_by waits (DeviceCalled call) = waits_by_call waits call
+waits_by waits (Put side frames) = waits
+waits_by waits (Did origin effect frames) = waits
+waits_by waits (Took side bytes) = waits
+
+-- and after events, one after another
+abbrev pub waits_after : Bool → List Event → Bool
+waits_after waits [] = waits
+waits_after waits (event ∷ events) = waits_after (waits_by waits event) events
+
+-- ---- output
+
+abbrev pub if_same : Side → Side → List ℕ → List ℕ
+if_same Sync Sync bytes = bytes
+if_same Async Async bytes = bytes
+if_same one other bytes = []
+
+-- the bytes of a message without payload, if there is one
+abbrev pub bytes_of_any : Option Header → List ℕ
+bytes_of_any None = []
+bytes_of_any (Some header) = header_bytes header
+
+-- a service request has the status byte that the device returned
+abbrev pub service_request : Option ℕ → Option Header
+service_request None = None
+service_request (Some byte) = Some (header_of AsyncServiceRequest byte 0 0)
+
+-- what an event appends to the output of a connection
+abbrev pub put_by : Side → Event → List ℕ
+put_by side (BytesReceived on received_bytes) = []
+put_by side (LockGranted grant) = if_same side Async (bytes_of_any (lock_response (Ok grant)))
+put_by side (ServiceRequested request) = if_same side Async (bytes_of_any (service_request request))
+put_by side (LockReleased reply) = if_same side Async (header_bytes (release_response reply))
+put_by side (Came on message) = []
+put_by side (DeviceCalled call) = []
+put_by side (Put on frames) = if_same side on frames
+put_by side (Did origin effect frames) = if_same side Sync frames
+put_by side (Took on bytes) = []
+
+abbrev pub put : Side → List Event → List ℕ
+put side history = flat_map (put_by side) history
+
+-- what is taken from the output of a connection
+abbrev pub taken_by : Side → Event → List ℕ
+taken_by side (BytesReceived on received_bytes) = []
+taken_by side (LockGranted grant) = []
+taken_by side (ServiceRequested request) = []
+taken_by side (LockReleased reply) = []
+taken_by side (Came on message) = []
+taken_by side (DeviceCalled call) = []
+taken_by side (Put on frames) = []
+taken_by side (Did origin effect frames) = []
+taken_by side (Took on bytes) = if_same side on bytes
+
+abbrev pub taken : Side → List Event → List ℕ
+taken side history = flat_map (taken_by side) history
+
+-- ---- received bytes
+
+abbrev pub bytes_received_by : Side → Event → List ℕ
+bytes_received_by side (BytesReceived on received_bytes) = if_same side on received_bytes
+bytes_received_by side (LockGranted grant) = []
+bytes_received_by side (ServiceRequested request) = []
+bytes_received_by side (LockReleased reply) = []
+bytes_received_by side (Came on message) = []
+bytes_received_by side (DeviceCalled call) = []
+bytes_received_by side (Put on frames) = []
+bytes_received_by side (Did origin effect frames) = []
+bytes_received_by side (Took on bytes) = []
+
+-- the bytes of a channel's stream
+abbrev pub bytes_received : Side → List Event → List ℕ
+bytes_received side history = flat_map (bytes_received_by side) history
+
+-- ---- the events as the laws of an exchange see them
+
+abbrev pub put_as : Side → List ℕ → List exchange.Happening
+put_as Sync frames = exchange.Replied frames ∷ []
+put_as Async frames = []
+
+abbrev pub exchange_view : Event → List exchange.Happening
+exchange_view (BytesReceived side received_bytes) = []
+exchange_view (LockGranted grant) = []
+exchange_view (ServiceRequested request) = []
+exchange_view (LockReleased reply) = []
+exchange_view (Came side message) = exchange.Came side message ∷ []
+exchange_view (DeviceCalled call) = []
+exchange_view (Put side frames) = put_as side frames
+exchange_view (Did origin effect frames) = exchange.Did origin effect frames ∷ []
+exchange_view (Took side bytes) = []
+
+abbrev pub exchange_history : List Event → List exchange.Happening
+exchange_history history = flat_map exchange_view history

@@ -1,0 +1,13 @@
+pub mod Events
+pub mod State
+pub mod Step
+pub mod Shown
+pub mod Serving
+pub mod Proceeding
+pub mod History
+pub mod Releasing
+pub mod Feeding
+pub mod Served
+pub mod Requests
+pub mod Releases
+pub mod Waiting

@@ -1,0 +1,94 @@
+-- The execution of what is queued, and the result of a call that continues it.
+use Rattle.std.specs.Prelude.{◌≡◌, ◌⊎◌, Bool, Some, None, Result, List, [], ◌∷◌}
+use Rattle.psu_locks.specs.declared.freed.Freed.{Freed}
+use Rattle.psu_locks.specs.declared.lock_refusal.LockRefusal.{LockRefusal}
+use Rattle.psu_tree.specs.declared.unit_request.Request.{Request}
+use Rattle.psu_exec.specs.Device.{Reply}
+use Rattle.psu_messages.specs.Executions.{Progress}
+use Rattle.psu_messages.specs.Effects.{Effect, IsTry, needs}
+use Rattle.psu_messages.specs.declared.need.Need.{Need}
+use Rattle.psu_messages.specs.declared.need.Need.TheVariants.{Turn}
+use Rattle.psu_exchange.specs.Exchange.{Order}
+use Rattle.psu_session.specs.Events.{Call, Event, LockReleased, Released, call_of}
+use Rattle.psu_session.specs.Step.{Steps, running}
+use Rattle.psu_session.specs.State.{Running, State, Work, Execute, ReleaseLock, added, with_work}
+use Rattle.psu_session.specs.Shown.{one_running}
+use Rattle.psu_session.specs.declared.next.Next.{Next}
+use Rattle.psu_session.specs.declared.next.Next.TheVariants as next
+use Rattle.psu_session.specs.declared.proceeded.Proceeded.{Proceeded}
+use Rattle.psu_session.specs.declared.proceeded.Proceeded.TheVariants.{Idle, Completed, Waits}
+
+-- the transmission in execution, or else the first one of the queue, and the rest of the queue
+abbrev pub IsFirst : State → Order → List Work → Type 0
+IsFirst s order later = ((progress : Progress) × (s.running ≡ Some (running order progress)) × (s.waiting ≡ later)) ⊎ ((s.running ≡ None) × (s.waiting ≡ Execute order ∷ later))
+
+-- the next transmission was taken, with its progress
+pub record IsNext (s : State) (next : Running) (t : State) : Type 0 where
+  pub later : List Work
+  pub first : IsFirst s next.order later
+  pub then : t ≡ with_work s later None
+  pub steps : Steps s [] (with_work s later (Some next))
+
+-- the next item of the queue is a release, which was taken
+pub record IsNextRelease (s : State) (t : State) : Type 0 where
+  pub later : List Work
+  pub none : s.running ≡ None
+  pub first : s.waiting ≡ ReleaseLock ∷ later
+  pub then : t ≡ with_work s later None
+
+-- a transmission is over or was dropped
+pub record IsCompleted (s : State) (t : State) : Type 0 where
+  pub order : Order
+  pub later : List Work
+  pub first : IsFirst s order later
+  pub none : t.running ≡ None
+  pub left : t.waiting ≡ later
+
+-- a lock was released
+pub record IsFreed (s : State) (t : State) : Type 0 where
+  pub later : List Work
+  pub none : s.running ≡ None
+  pub first : s.waiting ≡ ReleaseLock ∷ later
+  pub still : t.running ≡ None
+  pub left : t.waiting ≡ later
+
+-- a transmission waits
+pub record IsWaiting (s : State) (t : State) : Type 0 where
+  pub order : Order
+  pub later : List Work
+  pub first : IsFirst s order later
+  pub progress : Progress
+  pub same : t.running ≡ Some (running order progress)
+  pub left : t.waiting ≡ later
+
+-- others are let in, or the last call of the device tried a unit, which waits for this need
+abbrev pub IsAwaited : {X : Type 0} → (X → Call → X → Type 0) → X → Need → Type 0
+IsAwaited {X} does now need =
+    (need ≡ Turn)
+    ⊎ ((was : X) × (effect : Effect) × (parked : Bool) × (request : Request) × (reply : Reply) × does was (call_of effect) now × IsTry parked request effect reply × (needs reply ≡ Some need))
+
+abbrev pub Awaits : {X : Type 0} → (X → Call → X → Type 0) → Proceeded → X → Type 0
+Awaits does Idle now = Unit {0}
+Awaits does Completed now = Unit {0}
+Awaits does (Waits need) now = IsAwaited does now need
+
+abbrev pub Ends : Proceeded → State → State → Type 0
+Ends Idle s t = (t ≡ s) × (s.running ≡ None) × (s.waiting ≡ [])
+Ends Completed s t = IsCompleted s t ⊎ IsFreed s t
+Ends (Waits need) s t = IsWaiting s t
+
+-- What is next is executed, with this result.
+pub record Proceeds (proceeded : Proceeded) (s : State) (done : List Event) (t : State) : Type 0 where
+  pub steps : Steps s done t
+  pub ends : Ends proceeded s t
+
+-- this was taken
+abbrev pub IsNextWork : State → Next → State → Type 0
+IsNextWork s (next.Order running) t = IsNext s (one_running running) t
+IsNextWork s next.Release t = IsNextRelease s t
+
+-- the device releases a lock, and the response to its reply is appended to the output
+pub record Frees {X : Type 0} (does : X → Call → X → Type 0) (s : State) (x : X) (t : State) (y : X) : Type 0 where
+  pub reply : Result Freed LockRefusal
+  pub call : does x (Released reply) y
+  pub then : t ≡ added s [] [] (LockReleased reply ∷ [])

@@ -1,0 +1,131 @@
+-- The state of a session between its calls.
+use Rattle.std.specs.Prelude.{ℕ, ◌-◌, ◌||◌, not, nat_le, Bool, false, Option, Some, None, List, [], ◌∷◌, ◌++◌, flat_map, if◌then◌else◌}
+use Rattle.psu_hislip.specs.Channel.{Awaited}
+use Rattle.psu_hislip.specs.Core.{Core}
+use Rattle.psu_hislip.specs.Runs.{started}
+use Rattle.psu_hislip.specs.declared.side.Side.{Side}
+use Rattle.psu_hislip.specs.declared.side.Side.TheVariants.{Sync, Async}
+use Rattle.psu_sessions.specs.Order.{is_ahead}
+use Rattle.psu_messages.specs.Executions.{Progress}
+use Rattle.psu_exchange.specs.Exchange.{Order}
+use Rattle.psu_session.specs.Events.{Event, put, waits_after}
+
+-- a transmission in execution, and its progress
+pub record Running : Type 0 where
+  pub order : Order
+  pub progress : Progress
+
+-- an item of the queue: a transmission that is to be executed, or a lock that is to be released
+pub data Work : Type 0 where
+  Execute : Order → Work
+  ReleaseLock : Work
+
+abbrev pub order_of_work : Work → List Order
+order_of_work (Execute order) = order ∷ []
+order_of_work ReleaseLock = []
+
+-- the transmissions of a queue
+abbrev pub orders_in : List Work → List Order
+orders_in works = flat_map order_of_work works
+
+-- a release that waits for the message of a number, and when it was requested
+pub record Release : Type 0 where
+  pub number : ℕ
+  pub requested_at : ℕ
+
+-- The frame readers of the two channels; the core of the protocol; the queue of what was received and has not begun, in
+-- the order of arrival; the releases that wait for a message, and the number of the message that was received last; the
+-- transmission in execution; whether a lock request waits for its result; and the bytes that are to be sent on each
+-- connection.
+pub record State : Type 0 where
+  pub sync_channel : Awaited
+  pub async_channel : Awaited
+  pub core : Core
+  pub waiting : List Work
+  pub releases : List Release
+  pub last : ℕ
+  pub running : Option Running
+  pub lock_waits : Bool
+  pub sync : List ℕ
+  pub async : List ℕ
+
+-- the start of a session: its number and its channels
+pub record Start : Type 0 where
+  pub session : ℕ
+  pub sync : Awaited
+  pub async : Awaited
+
+-- A session that has only its synchronous connection, after its Initialize. A client's first message has the number
+-- ffffff00.
+abbrev pub fresh : Start → State
+fresh start = record {
+  sync_channel = start.sync;
+  async_channel = start.async;
+  core = started start.session;
+  waiting = [];
+  releases = [];
+  last = 4294967038;
+  running = None;
+  lock_waits = false;
+  sync = [];
+  async = [];
+}
+
+abbrev pub channel_of : Side → State → Awaited
+channel_of Sync s = s.sync_channel
+channel_of Async s = s.async_channel
+
+abbrev pub with_channel : Side → State → Awaited → State
+with_channel Sync s channel = record s { sync_channel = channel }
+with_channel Async s channel = record s { async_channel = channel }
+
+-- with items, releases and the frames of events appended, and the lock request that waits after these events
+abbrev pub added : State → List Work → List Release → List Event → State
+added s works requested done = record s { waiting = s.waiting ++ works; releases = s.releases ++ requested; lock_waits = waits_after s.lock_waits done; sync = s.sync ++ put Sync done; async = s.async ++ put Async done }
+
+abbrev pub with_core : State → Core → State
+with_core s core = record s { core = core }
+
+-- with this queue and this transmission in execution
+abbrev pub with_work : State → List Work → Option Running → State
+with_work s waiting running = record s { waiting = waiting; running = running }
+
+abbrev pub with_releases : State → List Work → List Release → State
+with_releases s waiting releases = record s { waiting = waiting; releases = releases }
+
+-- the message of a number counts as received
+abbrev pub numbered : State → Option ℕ → State
+numbered s None = s
+numbered s (Some number) = record s { last = number }
+
+abbrev pub output : Side → State → List ℕ
+output Sync s = s.sync
+output Async s = s.async
+
+abbrev pub with_output : Side → State → List ℕ → State
+with_output Sync s bytes = record s { sync = bytes }
+with_output Async s bytes = record s { async = bytes }
+
+-- ---- releases
+
+-- the wait of a release is over: all are to be done, its message will not be received any more, or a tenth of a second
+-- has passed
+abbrev pub is_due : Bool → ℕ → ℕ → Release → Bool
+is_due all now last release = all || not (is_ahead last release.number) || nat_le 100 (now - release.requested_at)
+
+abbrev pub due : Bool → ℕ → ℕ → List Release → List Work
+due all now last [] = []
+due all now last (release ∷ releases) = if is_due all now last release then ReleaseLock ∷ due all now last releases else []
+
+abbrev pub left : Bool → ℕ → ℕ → List Release → List Release
+left all now last [] = []
+left all now last (release ∷ releases) = if is_due all now last release then left all now last releases else release ∷ releases
+
+-- the first releases, as far as their waits are over, are queued
+abbrev pub settled : Bool → ℕ → State → State
+settled all now s = with_releases s (s.waiting ++ due all now s.last s.releases) (left all now s.last s.releases)
+
+-- a session as contracts see it: whether it is over, since an allocation failed, and its state
+pub record Shown : Type 0 where
+  pub over : Bool
+  pub state : State

@@ -1,0 +1,242 @@
+-- The steps of a session from one state to another, with the events of each. Source: IVI-6.1 (what a message requests is
+-- done; a response has the MessageID of its transmission, and a device clear discards it) and IEEE 488.2, 6 (messages are
+-- executed in the order of their arrival).
+use Rattle.std.specs.Prelude.{◌≡◌, ◌⊎◌, ℕ, Bool, true, false, Option, Some, None, Result, Ok, List, [], ◌∷◌, ◌++◌, map, flat_map}
+use Rattle.psu_locks.specs.declared.freed.Freed.{Freed}
+use Rattle.psu_locks.specs.declared.grant.Grant.{Grant}
+use Rattle.psu_locks.specs.declared.info.Info.{Info}
+use Rattle.psu_locks.specs.declared.kind.Kind.{Kind}
+use Rattle.psu_locks.specs.declared.lock_refusal.LockRefusal.{LockRefusal}
+use Rattle.psu_hislip.specs.Action.{Act}
+use Rattle.psu_hislip.specs.Answer.{answer_size}
+use Rattle.psu_hislip.specs.Channel.{Awaited, Fed}
+use Rattle.psu_hislip.specs.Core.{IsCurrent, outcome_of}
+use Rattle.psu_hislip.specs.Frame.{header_of}
+use Rattle.psu_hislip.specs.Header.{header_bytes}
+use Rattle.psu_hislip.specs.LockResponses.{lock_answer, lock_info_response, lock_response}
+use Rattle.psu_hislip.specs.Stream.{Received}
+use Rattle.psu_hislip.specs.declared.header.Header.{Header}
+use Rattle.psu_hislip.specs.declared.lock_responses.LockResponse.TheVariants.{Error}
+use Rattle.psu_hislip.specs.declared.message_type.MessageType.TheVariants.{AsyncStatusResponse}
+use Rattle.psu_hislip.specs.declared.origin.Origin.{Origin}
+use Rattle.psu_hislip.specs.declared.side.Side.{Side}
+use Rattle.psu_hislip.specs.declared.side.Side.TheVariants.{Sync, Async}
+use Rattle.psu_sessions.specs.Locking.{kind_of}
+use Rattle.psu_sides.specs.Messages.{clears, number, parameter}
+use Rattle.psu_messages.specs.Executions.{Reaches, Progress, IsOver, beginning}
+use Rattle.psu_messages.specs.Effects.{Effect}
+use Rattle.psu_exchange.specs.Exchange.{Done, IsFramed, Order, effects, frames, order_in}
+use Rattle.psu_session.specs.Events.{Delivered, Queried, Informed, Locked, Cleared, Event, BytesReceived, LockGranted, ServiceRequested, LockReleased, Came, DeviceCalled, Put, Did, Took}
+use Rattle.psu_session.specs.State.{Running, Release, Start, State, Work, Execute, ReleaseLock, added, channel_of, fresh, numbered, output, settled, with_channel, with_core, with_output, with_work}
+
+-- ---- what a message requests
+
+-- the events for each of a list, in its order
+abbrev pub EachIn : {T : Type 0} → (T → List Event → Type 0) → List T → List Event → Type 0
+EachIn Are [] done = done ≡ []
+EachIn Are (x ∷ xs) done = (first : List Event) × (more : List Event) × (done ≡ first ++ more) × Are x first × EachIn Are xs more
+
+-- a message without payload is appended to the output of the asynchronous connection
+abbrev pub puts : Header → List Event
+puts header = Put Async (header_bytes header) ∷ []
+
+abbrev pub puts_any : Option Header → List Event
+puts_any None = []
+puts_any (Some header) = puts header
+
+abbrev pub delivers : Bool → List Event
+delivers true = DeviceCalled Delivered ∷ []
+delivers false = []
+
+-- a status query is answered by the status byte that the device replied
+abbrev pub IsQueried : Bool → List Event → Type 0
+IsQueried delivered done = (byte : ℕ) × (done ≡ delivers delivered ++ (DeviceCalled (Queried byte) ∷ puts (header_of AsyncStatusResponse byte 0 0)))
+
+-- A lock request is answered with its result; one that waits is not answered yet. A string that no lock has is refused.
+abbrev pub IsLocked : ℕ → Option Kind → List Event → Type 0
+IsLocked timeout None done = done ≡ puts (lock_answer Error)
+IsLocked timeout (Some kind) done = (reply : Result Grant LockRefusal) × (done ≡ DeviceCalled (Locked kind timeout reply) ∷ puts_any (lock_response reply))
+
+abbrev pub IsInformed : List Event → Type 0
+IsInformed done = (info : Info) × (done ≡ DeviceCalled (Informed info) ∷ puts (lock_info_response info))
+
+-- the events of an action of a message; a transmission or a release is queued
+abbrev pub Does : Act → List Event → Type 0
+Does (Act.Send side frames) done = done ≡ Put side frames ∷ []
+Does (Act.Execute origin bytes) done = done ≡ []
+Does (Act.TooMuch origin) done = done ≡ []
+Does (Act.Trigger origin) done = done ≡ []
+Does Act.Delivered done = done ≡ DeviceCalled Delivered ∷ []
+Does (Act.Status delivered) done = IsQueried delivered done
+Does (Act.Lock timeout string) done = IsLocked timeout (kind_of string) done
+Does Act.Release done = done ≡ []
+Does Act.Info done = IsInformed done
+Does Act.Clear done = done ≡ DeviceCalled Cleared ∷ []
+Does Act.Closed done = done ≡ []
+
+-- the events of all actions of a message, each once and in order
+abbrev pub Each : List Act → List Event → Type 0
+Each actions = EachIn Does actions
+
+-- the transmission that an action queues
+abbrev pub works_in : Act → List Work
+works_in act = map Execute (order_in act)
+
+-- the release that an action requests, to be done after the message of a number
+abbrev pub release_in : ℕ → ℕ → Act → List Release
+release_in now number Act.Release = record { number = number; requested_at = now } ∷ []
+release_in now number act = []
+
+-- the number of a message of the synchronous channel, if it has one; numbers restart after a device clear
+abbrev pub number_on : Side → Received → Option ℕ
+number_on Sync message = number message
+number_on Async message = None
+
+-- The transmissions of a message are queued after what was received before, and after them the releases that have waited
+-- for this message; at a device clear all releases are queued.
+abbrev pub arrived : ℕ → Side → Received → List Act → State → List Event → State
+arrived now side message acts s immediate =
+    settled (clears acts) now (numbered (added s (flat_map works_in acts) (flat_map (release_in now (parameter message)) acts) immediate) (number_on side message))
+
+-- A message is passed to the core at a time in milliseconds, and what it requests is done or queued.
+pub record IsMessageReceived (now : ℕ) (side : Side) (message : Received) (s : State) (done : List Event) (t : State) : Type 0 where
+  pub immediate : List Event
+  pub each : Each (outcome_of s.core side message).actions immediate
+  pub are : done ≡ Came side message ∷ immediate
+  pub then : t ≡ arrived now side message (outcome_of s.core side message).actions (with_core s (outcome_of s.core side message).core) immediate
+
+-- messages, one after another
+abbrev pub EachReceived : ℕ → Side → List Received → State → List Event → State → Type 0
+EachReceived now side [] s done t = (done ≡ []) × (t ≡ s)
+EachReceived now side (message ∷ messages) s done t =
+    (mid : State) × (first : List Event) × (more : List Event) × (done ≡ first ++ more) × IsMessageReceived now side message s first mid × EachReceived now side messages mid more t
+
+-- a channel returns the messages that the next bytes of its stream complete
+abbrev pub Feeds : Awaited → List ℕ → List Received → Awaited → Type 0
+Feeds old received_bytes messages new = (stream : List ℕ) (given : List Received) → Fed old stream given → Fed new (stream ++ received_bytes) (given ++ messages)
+
+-- The next bytes of a channel's stream are received, with the messages that they complete.
+pub record IsReceived (now : ℕ) (side : Side) (received_bytes : List ℕ) (s : State) (done : List Event) (t : State) : Type 0 where
+  pub messages : List Received
+  pub channel : Awaited
+  pub feeds : Feeds (channel_of side s) received_bytes messages channel
+  pub immediate : List Event
+  pub are : done ≡ BytesReceived side received_bytes ∷ immediate
+  pub each : EachReceived now side messages (with_channel side s channel) immediate t
+
+-- time passes
+pub record IsTicked (now : ℕ) (s : State) (done : List Event) (t : State) : Type 0 where
+  pub are : done ≡ []
+  pub then : t ≡ settled false now s
+
+-- ---- notifications
+
+abbrev pub granted : Bool → Option Header → Grant → List Event
+granted false header grant = []
+granted true None grant = []
+granted true (Some header) grant = LockGranted grant ∷ []
+
+-- A lock request that waits has a result. Where none waits, or the request still waits, nothing is done.
+abbrev pub IsLockGranted : Bool → Grant → List Event → Type 0
+IsLockGranted waits grant done = done ≡ granted waits (lock_response (Ok grant)) grant
+
+-- a service request is sent if the device has one, with the status byte that it returns
+abbrev pub IsServiceRequested : List Event → Type 0
+IsServiceRequested done = (request : Option ℕ) × (done ≡ ServiceRequested request ∷ [])
+
+-- what other sessions cause is reported on the asynchronous connection
+pub record IsNotified (s : State) (done : List Event) (t : State) : Type 0 where
+  pub is : ((grant : Grant) × IsLockGranted s.lock_waits grant done) ⊎ IsServiceRequested done
+  pub then : t ≡ added s [] [] done
+
+-- ---- transmissions
+
+abbrev pub running : Order → Progress → Running
+running order progress = record { order = order; progress = progress }
+
+abbrev pub happened : Origin → List Done → List Event
+happened origin done = map (λ d. Did origin d.effect d.frames) done
+
+-- the frames of each effect are those of its piece of a response
+abbrev pub AreFramed : ℕ → ℕ → List Done → Type 0
+AreFramed size id [] = Unit {0}
+AreFramed size id (d ∷ done) = IsFramed size id d.effect d.frames × AreFramed size id done
+
+-- the first transmission of the queue begins
+pub record IsBegun (s : State) (done : List Event) (t : State) : Type 0 where
+  pub order : Order
+  pub later : List Work
+  pub none : s.running ≡ None
+  pub first : s.waiting ≡ Execute order ∷ later
+  pub are : done ≡ []
+  pub then : t ≡ with_work s later (Some (running order beginning))
+
+-- a lock is released, once all that is queued before is done; the reply of the device is the response
+pub record IsLockReleased (s : State) (done : List Event) (t : State) : Type 0 where
+  pub later : List Work
+  pub none : s.running ≡ None
+  pub first : s.waiting ≡ ReleaseLock ∷ later
+  pub reply : Result Freed LockRefusal
+  pub are : done ≡ LockReleased reply ∷ []
+  pub then : t ≡ added (with_work s later None) [] [] done
+
+-- Effects advance the transmission in execution. Nothing has ended it, and its responses are framed for the message size
+-- that the client accepts.
+pub record IsWorked (s : State) (done : List Event) (t : State) : Type 0 where
+  pub order : Order
+  pub progress : Progress
+  pub new : Progress
+  pub effects_done : List Done
+  pub is : s.running ≡ Some (running order progress)
+  pub current : IsCurrent s.core order.origin
+  pub reaches : (before : List Effect) → Reaches order.source before progress → Reaches order.source (before ++ effects effects_done) new
+  pub framed : AreFramed (answer_size s.core.size) order.origin.id effects_done
+  pub are : done ≡ happened order.origin effects_done
+  pub then : t ≡ with_output Sync (with_work s s.waiting (Some (running order new))) (s.sync ++ frames effects_done)
+
+-- the transmission in execution is over, or a device clear or a FatalError has ended it
+pub record IsEnded (s : State) (done : List Event) (t : State) : Type 0 where
+  pub order : Order
+  pub progress : Progress
+  pub is : s.running ≡ Some (running order progress)
+  pub ended : IsOver order.source progress ⊎ (IsCurrent s.core order.origin → ⊥)
+  pub are : done ≡ []
+  pub then : t ≡ with_work s s.waiting None
+
+-- ---- the output
+
+-- the first bytes of the output of a connection are taken
+pub record IsTaken (side : Side) (bytes : List ℕ) (s : State) (done : List Event) (t : State) : Type 0 where
+  pub rest : List ℕ
+  pub first : output side s ≡ bytes ++ rest
+  pub are : done ≡ Took side bytes ∷ []
+  pub then : t ≡ with_output side s rest
+
+-- ---- a session
+
+pub data Step (s : State) (done : List Event) (t : State) : Type 0 where
+  Receives : (now : ℕ) (side : Side) (received_bytes : List ℕ) → IsReceived now side received_bytes s done t → Step s done t
+  Notifies : IsNotified s done t → Step s done t
+  Ticks : (now : ℕ) → IsTicked now s done t → Step s done t
+  Begins : IsBegun s done t → Step s done t
+  Works : IsWorked s done t → Step s done t
+  ReleasesLock : IsLockReleased s done t → Step s done t
+  Ends : IsEnded s done t → Step s done t
+  Takes : (side : Side) (bytes : List ℕ) → IsTaken side bytes s done t → Step s done t
+
+-- steps one after another
+pub data Steps (s : State) : List Event → State → Type 0 where
+  Still : Steps s [] s
+  Then : {done : List Event} {t : State} → Steps s done t → (more : List Event) (u : State) → Step t more u → Steps s (done ++ more) u
+
+-- the events of a session since it began, and the state to which they lead
+abbrev pub IsHistory : Start → List Event → State → Type 0
+IsHistory start history s = Steps (fresh start) history s
+
+-- the synchronous channel has returned one message, and the asynchronous one none
+abbrev pub IsOpening : Start → Type 0
+IsOpening start = ((stream : List ℕ) × (first : Received) × Fed start.sync stream (first ∷ [])) × Fed start.async [] []
+
+-- a history leads to this state
+abbrev pub IsReachable : State → Type 0
+IsReachable s = (start : Start) × (history : List Event) × IsOpening start × IsHistory start history s

@@ -1,0 +1,15 @@
+-- Lock requests that wait, over whole histories. Source: IVI-6.1 (a lock request has one response, once the lock is granted
+-- or the timeout is over).
+use Rattle.std.specs.Prelude.{◌≡◌, true, false, List, ◌∷◌, ◌++◌}
+use Rattle.psu_locks.specs.declared.grant.Grant.{Grant}
+use Rattle.psu_session.specs.Events.{Event, LockGranted, waits_after}
+use Rattle.psu_session.specs.Step.{IsHistory}
+use Rattle.psu_session.specs.State.{Start, State}
+
+-- The state says whether a lock request waits.
+abbrev pub TheWaitIsKnown : Type 0
+TheWaitIsKnown = (start : Start) (history : List Event) (s : State) → IsHistory start history s → s.lock_waits ≡ waits_after false history
+
+-- A result is passed on only while a lock request waits, which then waits no longer: the request is answered once.
+abbrev pub EachWaitIsAnsweredOnce : Type 0
+EachWaitIsAnsweredOnce = (start : Start) (history : List Event) (s : State) → IsHistory start history s → (before after : List Event) (grant : Grant) → history ≡ before ++ LockGranted grant ∷ after → waits_after false before ≡ true

@@ -1,0 +1,161 @@
+// What is done immediately for an action of a message.
+ghost use Rattle.std.specs.Prelude.{◌≡◌, OnOk, [], ◌∷◌, Some};
+ghost use Rattle.psu_hislip.specs.Action.{act};
+ghost use Rattle.psu_hislip.specs.Header.{header_bytes};
+ghost use Rattle.psu_hislip.specs.declared.side.Side.TheVariants.{Async};
+ghost use Rattle.psu_sessions.specs.Locking.{kind_of};
+ghost use Rattle.psu_session.specs.Events.{Put, calls};
+ghost use Rattle.psu_session.specs.Step.{Does, IsInformed, IsLocked, IsQueried, delivers, puts, release_in, works_in};
+ghost use Rattle.psu_session.specs.Serving.{Appends, Runs};
+ghost use Rattle.psu_session.specs.Shown.{order_of, state_of};
+ghost use Rattle.psu_session.specs.State.{Execute, added};
+
+use crate::{Device, Ended, Order, Parts, Release, Work};
+use psu_hislip::{
+    Action, Header, LockResponse, MessageType, Origin, Side, lock_info_response, lock_response,
+};
+use psu_lex::ScpiError;
+use psu_locks::Kind;
+use psu_sessions::{Input, lock_kind};
+use std::alloc::Global;
+
+// Reports to the device that the client has read the last response whole, if the client said so.
+fn deliver<D: Device>(device: &mut D, is_delivered: bool)
+    ensures { Runs D.does device.old (calls (delivers is_delivered)) device.new }
+{
+    if is_delivered {
+        device.deliver();
+    }
+}
+
+impl Parts {
+    // Appends frames to the output of a connection.
+    pub(crate) fn put(&mut self, side: Side, frames: &[u8]) -> Result<(), Ended>
+        ensures { OnOk result (state_of self.new ≡ added (state_of self.old) [] [] (Put side frames.now ∷ [])) }
+    {
+        match side {
+            Side::Sync => {
+                self.sync_output.extend_from_slice(frames)?;
+            }
+            Side::Async => {
+                self.async_output.extend_from_slice(frames)?;
+            }
+        }
+        Ok(())
+    }
+
+    // Appends a message without payload to the output of the asynchronous connection.
+    pub(crate) fn put_header(&mut self, header: Header) -> Result<(), Ended>
+        ensures { OnOk result (state_of self.new ≡ added (state_of self.old) [] [] (puts header)) }
+    {
+        self.put(Side::Async, &header.bytes())
+    }
+
+    // Queues a transmission.
+    fn order(&mut self, origin: Origin, input: Input<Global>) -> Result<(), Ended>
+        ensures { OnOk result (state_of self.new ≡ added (state_of self.old) (Execute (order_of (record { origin = origin; input = input })) ∷ []) [] []) }
+    {
+        match self
+            .waiting
+            .push_back(Work::Execute(Order { origin, input }))
+        {
+            Ok(()) => Ok(()),
+            Err(_) => Err(Ended),
+        }
+    }
+
+    // Adds a release that waits for the message of a number.
+    fn ask_release(&mut self, now: u64, number: u32) -> Result<(), Ended>
+        ensures { OnOk result (state_of self.new ≡ added (state_of self.old) [] (record { number = number; requested_at = now } ∷ []) []) }
+    {
+        match self.releases.push_back(Release {
+            number,
+            requested_at: now,
+        }) {
+            Ok(()) => Ok(()),
+            Err(_) => Err(Ended),
+        }
+    }
+
+    // Answers a status query, after the last response counts as read if the client said so.
+    fn answer_status<D: Device>(&mut self, device: &mut D, is_delivered: bool) -> Result<(), Ended>
+        ensures { OnOk result (Appends D.does (IsQueried is_delivered) [] [] (state_of self.old) device.old (state_of self.new) device.new) }
+    {
+        deliver(device, is_delivered);
+        let byte = device.query();
+        self.put_header(Header::new(MessageType::AsyncStatusResponse, byte, 0, 0))
+    }
+
+    // Requests a lock. A request that waits is answered once it has a result.
+    fn ask_for_lock<D: Device>(
+        &mut self,
+        device: &mut D,
+        timeout: u32,
+        kind: Kind,
+    ) -> Result<(), Ended>
+        ensures { OnOk result (Appends D.does (IsLocked timeout (Some kind)) [] [] (state_of self.old) device.old (state_of self.new) device.new) }
+    {
+        let reply = device.lock(kind, timeout);
+        match lock_response(reply) {
+            Some(header) => self.put_header(header),
+            None => {
+                self.lock_waits = true;
+                Ok(())
+            }
+        }
+    }
+
+    // Requests the lock of a string. A string that no lock has is refused.
+    fn answer_lock<D: Device>(
+        &mut self,
+        device: &mut D,
+        timeout: u32,
+        string: &[u8],
+    ) -> Result<(), Ended>
+        ensures { OnOk result (Appends D.does (IsLocked timeout (kind_of string.now)) [] [] (state_of self.old) device.old (state_of self.new) device.new) }
+    {
+        match lock_kind(string) {
+            Some(kind) => self.ask_for_lock(device, timeout, kind),
+            None => self.put_header(LockResponse::Error.header()),
+        }
+    }
+
+    // Answers which locks are held.
+    fn answer_info<D: Device>(&mut self, device: &mut D) -> Result<(), Ended>
+        ensures { OnOk result (Appends D.does IsInformed [] [] (state_of self.old) device.old (state_of self.new) device.new) }
+    {
+        let info = device.inform();
+        self.put_header(lock_info_response(info))
+    }
+
+    /// Does what an action of a message requests, or queues it.
+    pub(crate) fn act<D: Device>(
+        &mut self,
+        device: &mut D,
+        now: u64,
+        number: u32,
+        action: Action<Global>,
+    ) -> Result<(), Ended>
+        ensures { OnOk result (Appends D.does (Does (act action)) (works_in (act action)) (release_in now number (act action)) (state_of self.old) device.old (state_of self.new) device.new) }
+    {
+        match action {
+            Action::Send(side, frames) => self.put(side, frames.as_slice()),
+            Action::Execute(origin, text) => self.order(origin, Input::Text(text)),
+            Action::TooMuch(origin) => self.order(origin, Input::Fault(ScpiError::TooMuchData)),
+            Action::Trigger(origin) => self.order(origin, Input::Fault(ScpiError::TriggerIgnored)),
+            Action::Delivered => {
+                device.deliver();
+                Ok(())
+            }
+            Action::Status(is_delivered) => self.answer_status(device, is_delivered),
+            Action::Lock(timeout, string) => self.answer_lock(device, timeout, string.as_slice()),
+            Action::Release => self.ask_release(now, number),
+            Action::Info => self.answer_info(device),
+            Action::Clear => {
+                device.clear();
+                Ok(())
+            }
+            Action::Closed => Ok(()),
+        }
+    }
+}

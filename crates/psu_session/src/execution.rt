@@ -1,0 +1,121 @@
+// The execution of a transmission's units on a device. Their responses are appended to the output.
+ghost use Rattle.std.specs.Prelude.{◌≡◌, IfOk, IfSome, None};
+ghost use Rattle.psu_messages.specs.Executions.{IsOver};
+ghost use Rattle.psu_messages.specs.Shown.{progress_of};
+ghost use Rattle.psu_messages.specs.Units.{source_of};
+ghost use Rattle.psu_session.specs.Events.{call_of};
+ghost use Rattle.psu_session.specs.Proceeding.{IsAwaited};
+ghost use Rattle.psu_session.specs.Serving.{AdvancesOrder, Puts};
+ghost use Rattle.psu_session.specs.Shown.{order_of};
+
+use crate::{Device, Ended, Running};
+use psu_exec::{Outcome, Request};
+use psu_hislip::{Origin, SessionCore};
+use psu_messages::{Executor, Need, Progress, Refused, proceed};
+use psu_sessions::Input;
+use std::alloc::Global;
+
+/// The number of units that a call tries before others are let in.
+const UNITS: u32 = 64;
+
+/// The number of bytes of output at which others are let in.
+const ROOM: usize = 65_536;
+
+/// The executor of a transmission: the device, and the output for its responses.
+#[derive(Drop)]
+pub(crate) struct Execution<'a, 'b, 'c, D: Device> {
+    core: &'a SessionCore<Global>,
+    origin: Origin,
+    output: &'b mut Vec<u8>,
+    device: &'c mut D,
+    // The number of units that are still tried before others are let in.
+    left: u32,
+}
+
+impl<'a, 'b, 'c, D: Device> Executor<Global> for Execution<'a, 'b, 'c, D> {
+    type Stop = Ended;
+
+    ghost does = { λ x effect y. (y.output.ghost_name ≡ x.output.ghost_name) × (y.device.ghost_name ≡ x.device.ghost_name) × (y.core ≡ x.core) × (y.origin ≡ x.origin)
+        × Puts x.core.now x.origin effect x.output.now.items y.output.now.items × D.does x.device.now (call_of effect) y.device.now };
+
+    ghost fails = { λ x request stop y. ⊥ };
+
+    ghost stops = { λ x stop y. (y.output.ghost_name ≡ x.output.ghost_name) × (y.device.ghost_name ≡ x.device.ghost_name) };
+
+    ghost yields = { λ _. Unit {0} };
+
+    fn may_continue(&self) -> bool {
+        self.left > 0 && self.output.len() < ROOM
+    }
+
+    fn execute(&mut self, request: &Request<'_>) -> Result<Outcome<Global>, Ended> {
+        self.left = self.left.saturating_sub(1);
+        Ok(self.device.execute(request))
+    }
+
+    fn settle(&mut self) -> Result<Outcome<Global>, Ended> {
+        self.left = self.left.saturating_sub(1);
+        Ok(self.device.settle())
+    }
+
+    fn send(&mut self, text: &[u8], is_last: bool) -> Result<(), Ended> {
+        let frames = if is_last {
+            self.core.answer(self.origin, text)?
+        } else {
+            self.core.part(self.origin, text)?
+        };
+        let Some(frames) = frames else {
+            return Err(Ended);
+        };
+        self.output.extend_from_slice(frames.as_slice())?;
+        self.device.sent();
+        Ok(())
+    }
+
+    fn out_of_memory(&self, _: Refused) -> Ended {
+        Ended
+    }
+}
+
+impl<'a, 'b, 'c, D: Device> Execution<'a, 'b, 'c, D> {
+    // Continues until a unit has to wait or others are let in.
+    fn advance(
+        &mut self,
+        alloc: Global,
+        input: &Input<Global>,
+        progress: &mut Progress<Global>,
+    ) -> Result<Option<Need>, Ended>
+        ensures advances { IfOk result (λ _. AdvancesOrder D.does self.old.core.now (record { origin = self.old.origin; source = source_of input.now }) (progress_of progress.old) self.old.output.now.items self.old.device.now
+            (progress_of progress.new) self.new.output.now.items self.new.device.now) }
+        ensures over { IfOk result (λ need. need ≡ None → IsOver (source_of input.now) (progress_of progress.new)) }
+        ensures waits { IfOk result (λ some. IfSome some (IsAwaited D.does self.new.device.now)) }
+        ensures output { self.new.output.ghost_name ≡ self.old.output.ghost_name }
+        ensures device { self.new.device.ghost_name ≡ self.old.device.ghost_name }
+    {
+        let need = proceed(self, alloc, input, progress)?;
+        Ok(need)
+    }
+}
+
+/// Continues a transmission, which nothing has ended, until a unit has to wait or others are let in.
+pub(crate) fn advance<D: Device>(
+    alloc: Global,
+    core: &SessionCore<Global>,
+    output: &mut Vec<u8>,
+    device: &mut D,
+    running: &mut Running,
+) -> Result<Option<Need>, Ended>
+    ensures advances { IfOk result (λ _. AdvancesOrder D.does core.now (order_of running.old.order) (progress_of running.old.progress) output.old.items device.old (progress_of running.new.progress) output.new.items device.new) }
+    ensures over { IfOk result (λ need. need ≡ None → IsOver (source_of running.old.order.input) (progress_of running.new.progress)) }
+    ensures waits { IfOk result (λ some. IfSome some (IsAwaited D.does device.new)) }
+    ensures order { running.new.order ≡ running.old.order }
+{
+    let mut execution = Execution {
+        core,
+        origin: running.order.origin,
+        output: &mut *output,
+        device: &mut *device,
+        left: UNITS,
+    };
+    execution.advance(alloc, &running.order.input, &mut running.progress)
+}

@@ -1,0 +1,47 @@
+// Laws of whole histories.
+ghost use Rattle.psu_session.specs.History.{HistoriesExtend, HistoriesAreExchanges};
+ghost use Rattle.psu_session.specs.Releases.{EachReleaseIsDone, EachReleaseIsInPlace};
+ghost use Rattle.psu_session.specs.Requests.{EachRequestIsServed};
+ghost use Rattle.psu_session.specs.Served.{EachSessionIsServed};
+ghost use Rattle.psu_session.specs.Waiting.{EachWaitIsAnsweredOnce, TheWaitIsKnown};
+
+use psu_exchange::from_bytes_to_bytes;
+
+/// Each history of a session is an exchange, which determines the session's state.
+pub fn histories_are_exchanges()
+    ensures { HistoriesAreExchanges }
+{}
+
+/// The events of a call extend each history that leads to the state before it.
+pub fn histories_extend()
+    ensures { HistoriesExtend }
+{}
+
+/// A session from the bytes that are received to those that are sent: its messages are those of the bytes, in one way;
+/// each transmission that is over is answered whole under its MessageID, message by message; and nothing else is sent on
+/// the synchronous connection but the core's replies.
+pub fn each_session_is_served()
+    ensures { EachSessionIsServed }
+{
+    histories_are_exchanges();
+    from_bytes_to_bytes();
+}
+
+/// What is done immediately for messages is what they request, each request once and in order (IVI-6.1): a status query, a
+/// lock request and a lock info query are answered by the reply of the device to that very call.
+pub fn each_request_is_served()
+    ensures { EachRequestIsServed }
+{}
+
+/// Each release of a lock that messages request is done once, is in the queue, or waits for the message that it names. It is
+/// done after the transmissions that were received before its request have ended.
+pub fn each_release_is_done()
+    ensures done { EachReleaseIsDone }
+    ensures in_place { EachReleaseIsInPlace }
+{}
+
+/// A lock request that waits is answered once: its result is passed on only while it waits, and then it waits no longer.
+pub fn each_wait_is_answered()
+    ensures known { TheWaitIsKnown }
+    ensures once { EachWaitIsAnsweredOnce }
+{}

@@ -1,0 +1,39 @@
+//! A session as one value: its two channels, the transmissions that are to be executed, and the bytes that are to be
+//! sent. It contains no thread, no socket and no clock, and no call waits: threads pass in the bytes that they read,
+//! continue the execution, and write the bytes that they take.
+#![tactic(auto)]
+
+mod acting;
+mod device;
+mod ended;
+mod execution;
+mod feeding;
+mod laws;
+mod next;
+mod notifying;
+mod opening;
+mod order;
+mod parts;
+mod proceeded;
+mod proceeding;
+mod receiving;
+mod release;
+mod releasing;
+mod running;
+mod session;
+mod taking;
+mod work;
+
+pub use device::Device;
+pub use ended::Ended;
+pub use laws::{
+    each_release_is_done, each_request_is_served, each_session_is_served, each_wait_is_answered,
+    histories_are_exchanges, histories_extend,
+};
+use order::Order;
+use parts::Parts;
+pub use proceeded::Proceeded;
+use release::Release;
+use running::Running;
+pub use session::Session;
+use work::Work;

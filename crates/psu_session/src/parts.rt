@@ -1,0 +1,57 @@
+// The parts of a session.
+ghost use Rattle.std.specs.Prelude.{◌≡◌, []};
+ghost use Rattle.psu_hislip.specs.Channel.{Awaited, Fed};
+ghost use Rattle.psu_session.specs.Shown.{state_of};
+ghost use Rattle.psu_session.specs.State.{fresh};
+
+use crate::{Release, Running, Work};
+use psu_hislip::{Channel, SessionCore};
+use psu_sides::BEFORE_FIRST;
+use std::alloc::Global;
+use std::collections::VecDeque;
+
+/// The parts of a session.
+#[derive(Drop)]
+pub struct Parts {
+    pub alloc: Global,
+    /// The frame readers of the two channels.
+    pub sync_channel: Channel<Global>,
+    pub async_channel: Channel<Global>,
+    /// The core of the protocol.
+    pub core: SessionCore<Global>,
+    /// The queue: what was received and has not begun, in the order of arrival.
+    pub waiting: VecDeque<Work>,
+    /// The releases that wait for a message, in the order of their requests.
+    pub releases: VecDeque<Release>,
+    /// The number of the message that was received last.
+    pub last: u32,
+    /// The transmission in execution.
+    pub running: Option<Running>,
+    /// Whether a lock request waits for its result.
+    pub lock_waits: bool,
+    /// The bytes that are to be sent on the synchronous connection.
+    pub sync_output: Vec<u8>,
+    /// The bytes that are to be sent on the asynchronous connection.
+    pub async_output: Vec<u8>,
+}
+
+impl Parts {
+    /// Returns a session of this number, which has only its synchronous connection.
+    pub fn new(alloc: Global, session: u16, channel: Channel<Global>) -> Parts
+        ensures { (async : Awaited) × Fed async [] [] × (state_of result ≡ fresh (record { session = session; sync = channel; async = async })) }
+    {
+        Parts {
+            alloc,
+            sync_channel: channel,
+            async_channel: Channel::new(alloc),
+            core: SessionCore::new(alloc, session),
+            waiting: VecDeque::new(alloc),
+            releases: VecDeque::new(alloc),
+            last: BEFORE_FIRST,
+            running: None,
+            lock_waits: false,
+            sync_output: Vec::new(alloc),
+            async_output: Vec::new(alloc),
+        }
+    }
+}

@@ -1,0 +1,45 @@
+// Releases of locks, each after the message that its client sent last.
+ghost use Rattle.std.specs.Prelude.{◌≡◌, OnOk};
+ghost use Rattle.psu_session.specs.Releasing.{is_first_due};
+ghost use Rattle.psu_session.specs.Shown.{release_of, releases_of, state_of};
+ghost use Rattle.psu_session.specs.State.{is_due, settled};
+
+use crate::{Ended, Parts, Release, Work};
+use psu_sessions::is_ahead;
+
+/// The time that a release waits for a message, in milliseconds.
+const PATIENCE: u64 = 100;
+
+impl Release {
+    // Whether its wait is over at a time, after the message of a number.
+    fn is_due(self, all: bool, now: u64, last: u32) -> bool
+        ensures { result ≡ is_due all now last (release_of self) }
+    {
+        all || !is_ahead(last, self.number) || now.saturating_sub(self.requested_at) >= PATIENCE
+    }
+}
+
+impl Parts {
+    // Whether the wait of the first release is over.
+    fn is_first_due(&self, all: bool, now: u64) -> bool
+        ensures { result ≡ is_first_due all now self.now.last (releases_of self.now.releases.items) }
+    {
+        match self.releases.front() {
+            Some(release) => release.is_due(all, now, self.last),
+            None => false,
+        }
+    }
+
+    /// Queues the releases whose wait is over.
+    pub(crate) fn settle(&mut self, all: bool, now: u64) -> Result<(), Ended>
+        ensures { OnOk result (state_of self.new ≡ settled all now (state_of self.old)) }
+    {
+        while self.is_first_due(all, now) {
+            if self.waiting.push_back(Work::Release).is_err() {
+                return Err(Ended);
+            }
+            let _ = self.releases.pop_front();
+        }
+        Ok(())
+    }
+}

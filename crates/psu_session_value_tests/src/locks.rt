@@ -1,0 +1,117 @@
+// Locks between two sessions.
+use crate::plays::play;
+
+const REQUESTS: &str = r#"
+== A request is granted, fails, waits, and is refused
+1 opens
+1 joins
+2 opens
+2 joins
+1 async AsyncLock 1 0
+1 reports AsyncLockResponse 1
+2 async AsyncLock 1 0
+2 reports AsyncLockResponse 0
+2 async AsyncLock 1 1000
+2 reports nothing
+2 async AsyncLock 1 1000
+2 reports AsyncLockResponse 3
+1 async AsyncLock 1 0 & AsyncLock 1 0 {k*257}
+1 reports AsyncLockResponse 3 & AsyncLockResponse 3
+2 async AsyncLockInfo
+2 reports AsyncLockInfoResponse 1 1
+
+== One that waits is granted when the lock is released
+1 opens
+1 joins
+2 opens
+2 joins
+1 async AsyncLock 1 0
+1 reports AsyncLockResponse 1
+2 async AsyncLock 1 1000
+2 runs idle
+2 reports nothing
+1 async AsyncLock 0 xfffffefe
+1 runs idle
+1 reports AsyncLockResponse 1
+2 granted
+2 reports AsyncLockResponse 1
+2 refused
+2 reports nothing
+locks exclusive 1
+
+== One that waits fails when its timeout is over
+1 opens
+1 joins
+2 opens
+2 joins
+1 async AsyncLock 1 0
+1 reports AsyncLockResponse 1
+2 async AsyncLock 1 1000
+2 reports nothing
+tick 999
+tick 1000 fails 2
+2 refused
+2 reports AsyncLockResponse 0
+
+== A result where no request waits
+1 opens
+1 joins
+1 refused
+1 reports nothing
+1 async AsyncLock 1 0
+1 reports AsyncLockResponse 1
+1 refused
+1 reports nothing
+"#;
+
+#[test]
+fn requests(rt: HostRuntime) {
+    play(&rt, rt.alloc(), REQUESTS);
+}
+
+const LOCKED_OUT: &str = r#"
+== A unit waits while another session has the lock
+1 opens
+1 joins
+2 opens
+2 joins
+2 sync DataEnd 0 xffffff00 VOLT 3;VOLT?\n
+1 async AsyncLock 1 0
+1 reports AsyncLockResponse 1
+2 proceeds lock
+2 proceeds lock
+2 sends nothing
+2 async AsyncStatusQuery
+2 reports AsyncStatusResponse 0
+1 asks VOLT?
+1 answers 0.000
+1 async AsyncLock 0 xffffff00
+1 runs idle
+1 reports AsyncLockResponse 1
+2 runs idle
+2 answers 3.000
+2 reports nothing
+
+== Both share a lock
+1 opens
+1 joins
+2 opens
+2 joins
+1 async AsyncLock 1 0 k
+1 reports AsyncLockResponse 1
+2 async AsyncLock 1 0 k & AsyncLockInfo
+2 reports AsyncLockResponse 1 & AsyncLockInfoResponse 0 2
+2 asks *TST?
+2 answers 0
+1 async AsyncLock 1 0
+1 reports AsyncLockResponse 1
+2 sync DataEnd 0 xffffff00 *TST?\n
+2 proceeds lock
+2 async AsyncLockInfo
+2 reports AsyncLockInfoResponse 1 2
+"#;
+
+#[test]
+fn sessions_that_a_lock_keeps_out(rt: HostRuntime) {
+    play(&rt, rt.alloc(), LOCKED_OUT);
+}

@@ -1,0 +1,192 @@
+// The steps of a session, a line each.
+//
+// | step | holds where |
+// |---|---|
+// | `1 opens` | session 1 opens, with its synchronous connection |
+// | `1 joins` | it gets its asynchronous connection, on which AsyncInitialize is answered |
+// | `1 sync FRAMES`, `1 async FRAMES` | these frames are received on a connection |
+// | `1 proceeds lock` | one call that continues the execution has this result, one of those below |
+// | `1 runs idle` | such calls are made while they complete something or let others in, and end with this result |
+// | `1 sends FRAMES` | these frames are to be sent on the synchronous connection |
+// | `1 reports FRAMES` | these frames are to be sent on the asynchronous connection |
+// | `1 asks *IDN?` | a query is received in one DataEnd, and executed |
+// | `1 answers 0` | its response is to be sent in one DataEnd, and nothing else |
+// | `at 50` | the time, in milliseconds |
+// | `1 ticks` | the time is passed to the session |
+// | `2 granted`, `2 refused` | a release granted the session a lock, its request failed; this is passed to it |
+// | `1 requested` | a service request is looked for |
+// | `1 failed`, `1 serves` | it has failed with a FatalError, it has not |
+//
+// Any other line is a step of the device, of psu_call_steps. The result of a call is `idle`, `completed`, the need for
+// which a unit waits, as `flush`, `lock` or `room`, or `turn`, where others are let in. Empty lines, and those that
+// begin with `#`, are not steps.
+use crate::frames::{frames, parted};
+use crate::mem_device::MemDevice;
+use psu_exec::Grant;
+use psu_hislip::Side;
+use psu_messages::Need;
+use psu_session::{Ended, Proceeded, Session};
+use std::alloc::Global;
+
+// More calls than the execution of a script's transmissions takes.
+const CALLS: u32 = 1_000;
+
+/// The setting of a step: the time in milliseconds, and how many bytes are received at once.
+#[derive(Clone, Copy)]
+pub struct Setting {
+    pub alloc: Global,
+    pub now: u64,
+    pub size: usize,
+}
+
+// Whether frames are received on a connection.
+fn receives(
+    session: &mut Session,
+    device: &mut MemDevice<'_>,
+    setting: Setting,
+    side: Side,
+    frames: &[u8],
+) -> bool {
+    for some in frames.chunks(setting.size.max(1)) {
+        if session.receive(setting.now, side, some, device).is_err() {
+            return false;
+        }
+    }
+    true
+}
+
+// Whether these bytes are to be sent on a connection. They are taken.
+fn sends(session: &mut Session, side: Side, wanted: &[u8]) -> bool {
+    match session.take_output(side) {
+        Ok(bytes) => bytes.as_slice() == wanted,
+        Err(Ended) => false,
+    }
+}
+
+// Whether a session gets its second connection.
+fn joins(session: &mut Session, device: &mut MemDevice<'_>, setting: Setting) -> Option<bool> {
+    let mut message = frames(setting.alloc, "AsyncInitialize")?;
+    *message.get_mut(7)? = device.session.number();
+    let wanted = frames(setting.alloc, "AsyncInitializeResponse")?;
+    Some(
+        receives(session, device, setting, Side::Async, message.as_slice())
+            && sends(session, Side::Async, wanted.as_slice())
+            && session.is_joined(),
+    )
+}
+
+// Returns the word for the result of a call that continues the execution.
+fn called(proceeded: Result<Proceeded, Ended>) -> &'static str {
+    match proceeded {
+        Ok(Proceeded::Idle) => "idle",
+        Ok(Proceeded::Completed) => "completed",
+        Ok(Proceeded::Waits(Need::Flush)) => "flush",
+        Ok(Proceeded::Waits(Need::Lock)) => "lock",
+        Ok(Proceeded::Waits(Need::Room)) => "room",
+        Ok(Proceeded::Waits(Need::Turn)) => "turn",
+        Err(Ended) => "ended",
+    }
+}
+
+// Continues the execution while something is completed or others are let in, and returns the word for the result.
+fn run(session: &mut Session, device: &mut MemDevice<'_>) -> &'static str {
+    for _ in 0..CALLS {
+        match session.proceed(device) {
+            Ok(Proceeded::Completed | Proceeded::Waits(Need::Turn)) => {}
+            other => return called(other),
+        }
+    }
+    "endless"
+}
+
+// Returns a text in one DataEnd, with the MessageID of a client's first message.
+fn in_one(alloc: Global, text: &str) -> Option<Vec<u8>> {
+    let mut cell = "DataEnd 0 xffffff00 ".to_string(alloc).ok()?;
+    cell.push_str(text).ok()?;
+    cell.push_str("\\n").ok()?;
+    frames(alloc, &cell)
+}
+
+// Whether a query is received and executed.
+fn asks(
+    session: &mut Session,
+    device: &mut MemDevice<'_>,
+    setting: Setting,
+    text: &str,
+) -> Option<bool> {
+    let message = in_one(setting.alloc, text)?;
+    Some(
+        receives(session, device, setting, Side::Sync, message.as_slice())
+            && run(session, device) == "idle",
+    )
+}
+
+// Whether a response is to be sent, and nothing else.
+fn answers(session: &mut Session, alloc: Global, text: &str) -> Option<bool> {
+    let message = in_one(alloc, text)?;
+    Some(
+        sends(session, Side::Sync, message.as_slice())
+            && sends(session, Side::Async, b"".as_slice()),
+    )
+}
+
+// Whether a lock request that waited has this result, which is passed to the session.
+fn is_told(session: &mut Session, device: &mut MemDevice<'_>, grant: Grant) -> bool {
+    let is_so = grant == Grant::Failed || device.granted.as_slice().contains(&device.session);
+    is_so && session.lock_granted(grant, device).is_ok()
+}
+
+// Whether a step in which frames are received or are to be sent holds; `None` for any other step.
+fn frames_step(
+    session: &mut Session,
+    device: &mut MemDevice<'_>,
+    setting: Setting,
+    word: &str,
+    cell: &str,
+) -> Option<bool> {
+    let frames = frames(setting.alloc, cell)?;
+    match word {
+        "sync" => Some(receives(session, device, setting, Side::Sync, frames.as_slice())),
+        "async" => Some(receives(session, device, setting, Side::Async, frames.as_slice())),
+        "sends" => Some(sends(session, Side::Sync, frames.as_slice())),
+        "reports" => Some(sends(session, Side::Async, frames.as_slice())),
+        _ => None,
+    }
+}
+
+// Whether a step that passes something to a session, or asks it something, holds; `None` for any other step.
+fn plain_step(
+    session: &mut Session,
+    device: &mut MemDevice<'_>,
+    now: u64,
+    word: &str,
+) -> Option<bool> {
+    match word {
+        "granted" => Some(is_told(session, device, Grant::Granted)),
+        "refused" => Some(is_told(session, device, Grant::Failed)),
+        "requested" => Some(session.service_requested(device).is_ok()),
+        "ticks" => Some(session.tick(now).is_ok()),
+        "failed" => Some(session.has_failed()),
+        "serves" => Some(!session.has_failed()),
+        _ => None,
+    }
+}
+
+/// Whether a step of a session holds; `None` where it is not a step.
+pub fn session_step(
+    session: &mut Session,
+    device: &mut MemDevice<'_>,
+    setting: Setting,
+    step: &str,
+) -> Option<bool> {
+    let (word, rest) = parted(step);
+    match word {
+        "joins" => joins(session, device, setting),
+        "asks" => asks(session, device, setting, rest),
+        "answers" => answers(session, setting.alloc, rest),
+        "proceeds" => Some(called(session.proceed(device)) == rest),
+        "runs" => Some(run(session, device) == rest),
+        _ if rest.is_empty() => plain_step(session, device, setting.now, word),
+        _ => frames_step(session, device, setting, word, rest),
+    }
+}
