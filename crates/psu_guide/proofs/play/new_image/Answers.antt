@@ -13,6 +13,6 @@ returns g c =
     let store = c.in-Ok-format.store in
     let fresh = c.in-Ok-format.ensures.fresh in
     let size : length at.bytes.items ≡ 263168 =
-    ap (λ d. length d.bytes.items) c.into_disk.ensures.value ∙ c.in-Ok-format.ensures.extent ∙ ap length c.in-Ok.ensures.bytes ∙ length-replicate {A = ℕ} 263168 0 in
+    ap (λ d. length d.bytes.items) c.into_disk.ensures.value ∙ c.in-Ok-format.ensures.step.extent ∙ ap length c.in-Ok.ensures.bytes ∙ length-replicate {A = ℕ} 263168 0 in
     new_disk (memory at.bytes.items at.unsynced.items) store.limit store.number store.items size
     (c.into_disk.ensures.represents tt) fresh.1 fresh.0 (c.into_disk.ensures.number tt) fresh.3
