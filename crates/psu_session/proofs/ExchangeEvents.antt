@@ -19,7 +19,7 @@ use Rattle.psu_exchange.specs.Exchange as exchange
 use Rattle.psu_exchange.specs.Exchange.{Done, Order, asked, core_at, order_in, orders, replies, reply_of}
 use Rattle.psu_exchange.specs.Life.{Happening as ExchangeEvent, Did, Replied, bytes_in, came, deed_in, done_in, replied, reply_in, told_by, written}
 use Rattle.psu_session.specs.Events as session
-use Rattle.psu_session.specs.Events.{Event, bytes_received, bytes_received_by, if_same, exchange_history, put, put_by, exchange_view, taken, taken_by}
+use Rattle.psu_session.specs.Events.{Event, bytes_received, bytes_received_by, if_same, exchange_history, put, exchange_view, taken, taken_by, waits_after}
 use Rattle.psu_session.specs.Step.{Does, Each, IsLocked, IsServiceRequested, IsQueried, IsLockGranted, granted, happened, puts_any, works_in}
 use Rattle.psu_session.specs.State.{Execute, order_of_work, orders_in}
 
@@ -60,6 +60,7 @@ written_is_put (session.Put side frames ∷ xs) =
     written-append (session.put_as side frames) (exchange_history xs) ∙ ap (λ (z : List ℕ). z ++ written (exchange_history xs)) (put_as_written side frames) ∙ ap (λ (z : List ℕ). if_same Sync side frames ++ z) (written_is_put xs)
 written_is_put (session.Did origin effect frames ∷ xs) = ap (λ (z : List ℕ). frames ++ z) (written_is_put xs)
 written_is_put (session.Took side bytes ∷ xs) = written_is_put xs
+written_is_put (session.Wrote side ∷ xs) = written_is_put xs
 
 -- ---- events without a message
 
@@ -113,33 +114,34 @@ pub answered : (header : Option Header) → exchange_history (puts_any header) �
 answered None = refl
 answered (Some header) = refl
 
-locked : (timeout : ℕ) (kind : Option Kind) (done : List Event) → IsLocked timeout kind done → IsSeen [] done
-locked timeout None done e = by_these [] _ done e refl
-locked timeout (Some kind) done (reply, e) = by_these [] _ done e (answered (lock_response reply))
+locked : (waits : Bool) (timeout : ℕ) (kind : Option Kind) (done : List Event) → IsLocked waits timeout kind done → IsSeen [] done
+locked true timeout kind done e = by_these [] _ done e refl
+locked false timeout None done e = by_these [] _ done e refl
+locked false timeout (Some kind) done (reply, e) = by_these [] _ done e (answered (lock_response reply))
 
-does : (act : Act) (done : List Event) → Does act done → IsSeen (reply_of act) done
-does (Act.Send Sync frames) done e = by_these (frames ∷ []) _ done e refl
-does (Act.Send Async frames) done e = by_these [] _ done e refl
-does (Act.Execute origin bytes) done e = by_these [] _ done e refl
-does (Act.TooMuch origin) done e = by_these [] _ done e refl
-does (Act.Trigger origin) done e = by_these [] _ done e refl
-does Act.Delivered done e = by_these [] _ done e refl
-does (Act.Status delivered) done e = queried delivered done e
-does (Act.Lock timeout string) done e = locked timeout (kind_of string) done e
-does Act.Release done e = by_these [] _ done e refl
-does Act.Info done (info, e) = by_these [] _ done e refl
-does Act.Clear done e = by_these [] _ done e refl
-does Act.Closed done e = by_these [] _ done e refl
+does : (waits : Bool) (act : Act) (done : List Event) → Does waits act done → IsSeen (reply_of act) done
+does waits (Act.Send Sync frames) done e = by_these (frames ∷ []) _ done e refl
+does waits (Act.Send Async frames) done e = by_these [] _ done e refl
+does waits (Act.Execute origin bytes) done e = by_these [] _ done e refl
+does waits (Act.TooMuch origin) done e = by_these [] _ done e refl
+does waits (Act.Trigger origin) done e = by_these [] _ done e refl
+does waits Act.Delivered done e = by_these [] _ done e refl
+does waits (Act.Status delivered) done e = queried delivered done e
+does waits (Act.Lock timeout string) done e = locked waits timeout (kind_of string) done e
+does waits Act.Release done e = by_these [] _ done e refl
+does waits Act.Info done (info, e) = by_these [] _ done e refl
+does waits Act.Clear done e = by_these [] _ done e refl
+does waits Act.Closed done e = by_these [] _ done e refl
 
 replies-append : (xs ys : List (List ℕ)) → as_replies (xs ++ ys) ≡ as_replies xs ++ as_replies ys
 replies-append [] ys = refl
 replies-append (x ∷ xs) ys = ap (λ (z : List ExchangeEvent). Replied x ∷ z) (replies-append xs ys)
 
-pub each_seen : (acts : List Act) (done : List Event) → Each acts done → exchange_history done ≡ as_replies (flat_map reply_of acts)
-each_seen [] done e = ap exchange_history e
-each_seen (act ∷ acts) done (first, more, is, one, rest) =
-    ap exchange_history is ∙ exchange_history-append first more ∙ ap (λ (z : List ExchangeEvent). z ++ exchange_history more) (does act first one)
-    ∙ ap (λ (z : List ExchangeEvent). as_replies (reply_of act) ++ z) (each_seen acts more rest) ∙ sym (replies-append (reply_of act) (flat_map reply_of acts))
+pub each_seen : (waits : Bool) (acts : List Act) (done : List Event) → Each waits acts done → exchange_history done ≡ as_replies (flat_map reply_of acts)
+each_seen waits [] done e = ap exchange_history e
+each_seen waits (act ∷ acts) done (first, more, is, one, rest) =
+    ap exchange_history is ∙ exchange_history-append first more ∙ ap (λ (z : List ExchangeEvent). z ++ exchange_history more) (does waits act first one)
+    ∙ ap (λ (z : List ExchangeEvent). as_replies (reply_of act) ++ z) (each_seen (waits_after waits first) acts more rest) ∙ sym (replies-append (reply_of act) (flat_map reply_of acts))
 
 -- ---- effects
 
@@ -210,64 +212,66 @@ origin_among before order after = map-append (λ (o : Order). o.origin) before (
 
 -- ---- what is taken
 
-each_keeps : (side : Side) (act : Act) (done : List Event) → Does act done → taken side done ≡ []
-each_keeps side (Act.Send on frames) done e = ap (taken side) e
-each_keeps side (Act.Execute origin bytes) done e = ap (taken side) e
-each_keeps side (Act.TooMuch origin) done e = ap (taken side) e
-each_keeps side (Act.Trigger origin) done e = ap (taken side) e
-each_keeps side Act.Delivered done e = ap (taken side) e
-each_keeps side (Act.Status true) done (byte, e) = ap (taken side) e
-each_keeps side (Act.Status false) done (byte, e) = ap (taken side) e
-each_keeps side (Act.Lock timeout string) done e = locks (kind_of string) e where
+each_keeps : (side : Side) (waits : Bool) (act : Act) (done : List Event) → Does waits act done → taken side done ≡ []
+each_keeps side waits (Act.Send on frames) done e = ap (taken side) e
+each_keeps side waits (Act.Execute origin bytes) done e = ap (taken side) e
+each_keeps side waits (Act.TooMuch origin) done e = ap (taken side) e
+each_keeps side waits (Act.Trigger origin) done e = ap (taken side) e
+each_keeps side waits Act.Delivered done e = ap (taken side) e
+each_keeps side waits (Act.Status true) done (byte, e) = ap (taken side) e
+each_keeps side waits (Act.Status false) done (byte, e) = ap (taken side) e
+each_keeps side waits (Act.Lock timeout string) done e = locks waits (kind_of string) e where
   answers : (header : Option Header) → taken side (puts_any header) ≡ []
   answers None = refl
   answers (Some header) = refl
 
-  locks : (kind : Option Kind) → IsLocked timeout kind done → taken side done ≡ []
-  locks None e = ap (taken side) e
-  locks (Some kind) (reply, e) = ap (taken side) e ∙ answers (lock_response reply)
-each_keeps side Act.Release done e = ap (taken side) e
-each_keeps side Act.Info done (info, e) = ap (taken side) e
-each_keeps side Act.Clear done e = ap (taken side) e
-each_keeps side Act.Closed done e = ap (taken side) e
+  locks : (waiting : Bool) (kind : Option Kind) → IsLocked waiting timeout kind done → taken side done ≡ []
+  locks true kind e = ap (taken side) e
+  locks false None e = ap (taken side) e
+  locks false (Some kind) (reply, e) = ap (taken side) e ∙ answers (lock_response reply)
+each_keeps side waits Act.Release done e = ap (taken side) e
+each_keeps side waits Act.Info done (info, e) = ap (taken side) e
+each_keeps side waits Act.Clear done e = ap (taken side) e
+each_keeps side waits Act.Closed done e = ap (taken side) e
 
 -- the events of a message take nothing
-pub immediate_keep : (side : Side) (acts : List Act) (done : List Event) → Each acts done → taken side done ≡ []
-immediate_keep side [] done e = ap (taken side) e
-immediate_keep side (act ∷ acts) done (first, more, is, one, rest) =
-    ap (taken side) is ∙ taken-append side first more ∙ ap (λ (z : List ℕ). z ++ taken side more) (each_keeps side act first one) ∙ immediate_keep side acts more rest
+pub immediate_keep : (side : Side) (waits : Bool) (acts : List Act) (done : List Event) → Each waits acts done → taken side done ≡ []
+immediate_keep side waits [] done e = ap (taken side) e
+immediate_keep side waits (act ∷ acts) done (first, more, is, one, rest) =
+    ap (taken side) is ∙ taken-append side first more ∙ ap (λ (z : List ℕ). z ++ taken side more) (each_keeps side waits act first one) ∙ immediate_keep side (waits_after waits first) acts more rest
 
 -- ---- received bytes
 
 pub bytes_received-append : (side : Side) (xs ys : List Event) → bytes_received side (xs ++ ys) ≡ bytes_received side xs ++ bytes_received side ys
 bytes_received-append side xs ys = flat_map-append (bytes_received_by side) xs ys
 
-each_quiet : (side : Side) (act : Act) (done : List Event) → Does act done → bytes_received side done ≡ []
-each_quiet side (Act.Send on frames) done e = ap (bytes_received side) e
-each_quiet side (Act.Execute origin bytes) done e = ap (bytes_received side) e
-each_quiet side (Act.TooMuch origin) done e = ap (bytes_received side) e
-each_quiet side (Act.Trigger origin) done e = ap (bytes_received side) e
-each_quiet side Act.Delivered done e = ap (bytes_received side) e
-each_quiet side (Act.Status true) done (byte, e) = ap (bytes_received side) e
-each_quiet side (Act.Status false) done (byte, e) = ap (bytes_received side) e
-each_quiet side (Act.Lock timeout string) done e = locks (kind_of string) e where
+each_quiet : (side : Side) (waits : Bool) (act : Act) (done : List Event) → Does waits act done → bytes_received side done ≡ []
+each_quiet side waits (Act.Send on frames) done e = ap (bytes_received side) e
+each_quiet side waits (Act.Execute origin bytes) done e = ap (bytes_received side) e
+each_quiet side waits (Act.TooMuch origin) done e = ap (bytes_received side) e
+each_quiet side waits (Act.Trigger origin) done e = ap (bytes_received side) e
+each_quiet side waits Act.Delivered done e = ap (bytes_received side) e
+each_quiet side waits (Act.Status true) done (byte, e) = ap (bytes_received side) e
+each_quiet side waits (Act.Status false) done (byte, e) = ap (bytes_received side) e
+each_quiet side waits (Act.Lock timeout string) done e = locks waits (kind_of string) e where
   answers : (header : Option Header) → bytes_received side (puts_any header) ≡ []
   answers None = refl
   answers (Some header) = refl
 
-  locks : (kind : Option Kind) → IsLocked timeout kind done → bytes_received side done ≡ []
-  locks None e = ap (bytes_received side) e
-  locks (Some kind) (reply, e) = ap (bytes_received side) e ∙ answers (lock_response reply)
-each_quiet side Act.Release done e = ap (bytes_received side) e
-each_quiet side Act.Info done (info, e) = ap (bytes_received side) e
-each_quiet side Act.Clear done e = ap (bytes_received side) e
-each_quiet side Act.Closed done e = ap (bytes_received side) e
+  locks : (waiting : Bool) (kind : Option Kind) → IsLocked waiting timeout kind done → bytes_received side done ≡ []
+  locks true kind e = ap (bytes_received side) e
+  locks false None e = ap (bytes_received side) e
+  locks false (Some kind) (reply, e) = ap (bytes_received side) e ∙ answers (lock_response reply)
+each_quiet side waits Act.Release done e = ap (bytes_received side) e
+each_quiet side waits Act.Info done (info, e) = ap (bytes_received side) e
+each_quiet side waits Act.Clear done e = ap (bytes_received side) e
+each_quiet side waits Act.Closed done e = ap (bytes_received side) e
 
 -- and they receive no bytes
-pub immediate_quiet : (side : Side) (acts : List Act) (done : List Event) → Each acts done → bytes_received side done ≡ []
-immediate_quiet side [] done e = ap (bytes_received side) e
-immediate_quiet side (act ∷ acts) done (first, more, is, one, rest) =
-    ap (bytes_received side) is ∙ bytes_received-append side first more ∙ ap (λ (z : List ℕ). z ++ bytes_received side more) (each_quiet side act first one) ∙ immediate_quiet side acts more rest
+pub immediate_quiet : (side : Side) (waits : Bool) (acts : List Act) (done : List Event) → Each waits acts done → bytes_received side done ≡ []
+immediate_quiet side waits [] done e = ap (bytes_received side) e
+immediate_quiet side waits (act ∷ acts) done (first, more, is, one, rest) =
+    ap (bytes_received side) is ∙ bytes_received-append side first more ∙ ap (λ (z : List ℕ). z ++ bytes_received side more) (each_quiet side waits act first one) ∙ immediate_quiet side (waits_after waits first) acts more rest
 
 -- the laws see nothing of notifications, and these take nothing and receive no bytes
 abbrev IsCaused : Bool → List Event → Type 0

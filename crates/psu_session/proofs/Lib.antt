@@ -10,7 +10,11 @@ pub mod StepKeeping
 pub mod Outputs
 pub mod Streams
 pub mod Exchanging
+pub mod Immediate
+pub mod Waits
 pub mod Requests
 pub mod Places
 pub mod Releases
-pub mod Waits
+pub mod Writes
+pub mod Holding
+pub mod Cleared

@@ -1,5 +1,5 @@
 -- What is appended to the output of a connection was taken from it, or is still in it.
-use Rattle.std.proofs.Common.{◌≡◌, ℕ, Bool, false, Option, Some, None, List, [], ◌∷◌, ◌++◌, refl, sym, ap, ◌∙◌, append_assoc}
+use Rattle.std.proofs.Common.{◌≡◌, ℕ, ◌-◌, Bool, true, false, Option, Some, None, List, [], ◌∷◌, ◌++◌, refl, sym, ap, ◌∙◌, append_assoc}
 use Rattle.std.specs.Prelude.{flat_map}
 use Rattle.std.proofs.lemmas.List.{append-nil}
 use Rattle.psu_hislip.specs.Action.{Act}
@@ -14,11 +14,12 @@ use Rattle.psu_messages.specs.Executions.{beginning}
 use Rattle.psu_exchange.specs.Exchange as exchange
 use Rattle.psu_exchange.specs.Exchange.{Done}
 use Rattle.psu_exchange.specs.Life.{on}
+use Rattle.psu_session.specs.Credit.{cost, cost_of}
 use Rattle.psu_session.specs.Events as events
 use Rattle.psu_session.specs.Events.{Event, put, taken}
 use Rattle.psu_session.specs.Step.{EachReceived, IsMessageReceived, Step, arrived, running, happened, number_on, release_in, works_in}
-use Rattle.psu_session.specs.Step.Step.{Receives, Notifies, Ticks, Begins, Works, ReleasesLock, Ends, Takes}
-use Rattle.psu_session.specs.State.{Running, Release, State, Work, added, numbered, output, settled, with_channel, with_core, with_output, with_work}
+use Rattle.psu_session.specs.Step.Step.{Receives, Notifies, Ticks, Begins, Works, ReleasesLock, Ends, Takes, Writes}
+use Rattle.psu_session.specs.State.{Running, Release, State, Work, added, numbered, output, settled, with_channel, with_core, with_held, with_output, with_owed, with_work, with_writes}
 use Rattle.psu_session.proofs.ExchangeEvents.{caused_taken, effects_put, effects_put_none, effects_take, immediate_keep, taken-append}
 use Rattle.psu_session.proofs.Serving.{put-append}
 
@@ -64,16 +65,30 @@ orders_output : (side : Side) (s : State) (waiting : List Work) (g : Option Runn
 orders_output Sync s waiting g = refl
 orders_output Async s waiting g = refl
 
+held_output : (side : Side) (s : State) (held : ℕ) → output side (with_held s held) ≡ output side s
+held_output Sync s held = refl
+held_output Async s held = refl
+
+owed_output : (side : Side) (s : State) (owed : ℕ) → output side (with_owed s owed) ≡ output side s
+owed_output Sync s owed = refl
+owed_output Async s owed = refl
+
 works_output : (side : Side) (s : State) (g : Option Running) (origin : Origin) (done : List Done)
     → output side s ++ put side (happened origin done) ≡ taken side (happened origin done) ++ output side (with_output Sync (with_work s s.waiting g) (s.sync ++ exchange.frames done))
 works_output Sync s g origin done = ap (λ (z : List ℕ). s.sync ++ z) (effects_put origin done) ∙ ap (λ (z : List ℕ). z ++ (s.sync ++ exchange.frames done)) (sym (effects_take Sync origin done))
 works_output Async s g origin done = ap (λ (z : List ℕ). s.async ++ z) (effects_put_none origin done) ∙ append-nil s.async ∙ ap (λ (z : List ℕ). z ++ s.async) (sym (effects_take Async origin done))
 
-takes_output : (side on : Side) (s : State) (bytes rest : List ℕ) → output on s ≡ bytes ++ rest → output side s ++ [] ≡ taken side (events.Took on bytes ∷ []) ++ output side (with_output on s rest)
-takes_output Sync Sync s bytes rest e = append-nil s.sync ∙ e ∙ ap (λ (z : List ℕ). z ++ rest) (sym (append-nil bytes))
-takes_output Async Async s bytes rest e = append-nil s.async ∙ e ∙ ap (λ (z : List ℕ). z ++ rest) (sym (append-nil bytes))
-takes_output Sync Async s bytes rest e = append-nil s.sync
-takes_output Async Sync s bytes rest e = append-nil s.async
+takes_output : (side on : Side) (s : State) (bytes : List ℕ) → output on s ≡ bytes → output side s ++ [] ≡ taken side (events.Took on bytes ∷ []) ++ output side (with_writes on (with_output on s []) true)
+takes_output Sync Sync s bytes e = append-nil s.sync ∙ e ∙ sym (append-nil bytes) ∙ sym (append-nil (bytes ++ []))
+takes_output Async Async s bytes e = append-nil s.async ∙ e ∙ sym (append-nil bytes) ∙ sym (append-nil (bytes ++ []))
+takes_output Sync Async s bytes e = append-nil s.sync
+takes_output Async Sync s bytes e = append-nil s.async
+
+writer_output : (side on : Side) (s : State) (writing : Bool) → output side (with_writes on s writing) ≡ output side s
+writer_output Sync Sync s writing = refl
+writer_output Sync Async s writing = refl
+writer_output Async Sync s writing = refl
+writer_output Async Async s writing = refl
 
 channel_output : (side on : Side) (s : State) (channel : Awaited) → output side (with_channel on s channel) ≡ output side s
 channel_output Sync Sync s channel = refl
@@ -83,7 +98,7 @@ channel_output Async Async s channel = refl
 
 balances_one : (side : Side) (now : ℕ) (on : Side) (message : Received) (s : State) (done : List Event) (t : State) → IsMessageReceived now on message s done t → Balances side s done t
 balances_one side now on message s done t r =
-    let keeps : taken side done ≡ [] = ap (taken side) r.are ∙ immediate_keep side (outcome_of s.core on message).actions r.immediate r.each in
+    let keeps : taken side done ≡ [] = ap (taken side) r.are ∙ immediate_keep side s.lock_waits (outcome_of s.core on message).actions r.immediate r.each in
     ap (λ (z : List Event). output side s ++ put side z) r.are ∙ ap (λ (z : List ℕ). z ++ put side r.immediate) (sym (core_output side s (outcome_of s.core on message).core))
     ∙ sym (arrived_output side now on message (outcome_of s.core on message).actions (with_core s (outcome_of s.core on message).core) r.immediate) ∙ ap (output side) (sym r.then) ∙ ap (λ (z : List ℕ). z ++ output side t) (sym keeps)
 
@@ -105,13 +120,16 @@ balances side s done t (Notifies a) =
 balances side s done t (Ticks now tick) = still side s done t tick.are (ap (output side) tick.then ∙ settled_output side false now s)
 balances side s done t (ReleasesLock g) =
     let keeps : taken side done ≡ [] = ap (taken side) g.are in
-    ap (λ (z : List ℕ). z ++ put side done) (sym (orders_output side s g.later None)) ∙ sym (more_output side (with_work s g.later None) [] [] done) ∙ ap (output side) (sym g.then) ∙ ap (λ (z : List ℕ). z ++ output side t) (sym keeps)
+    let freed = with_work s g.later None in
+    ap (λ (z : List ℕ). z ++ put side done) (sym (orders_output side s g.later None) ∙ sym (owed_output side freed (s.owed - cost 0))) ∙ sym (more_output side (with_owed freed (s.owed - cost 0)) [] [] done) ∙ ap (output side) (sym g.then) ∙ ap (λ (z : List ℕ). z ++ output side t) (sym keeps)
 balances side s done t (Begins b) = still side s done t b.are (ap (output side) b.then ∙ orders_output side s b.later (Some (running b.order beginning)))
 balances side s done t (Works w) =
     ap (λ (z : List Event). output side s ++ put side z) w.are ∙ works_output side s (Some (running w.order w.new)) w.order.origin w.effects_done
     ∙ ap (λ (z : List Event). taken side z ++ output side (with_output Sync (with_work s s.waiting (Some (running w.order w.new))) (s.sync ++ exchange.frames w.effects_done))) (sym w.are)
     ∙ ap (λ (z : State). taken side done ++ output side z) (sym w.then)
-balances side s done t (Ends e) = still side s done t e.are (ap (output side) e.then ∙ orders_output side s s.waiting None)
+balances side s done t (Ends e) = still side s done t e.are (ap (output side) e.then ∙ held_output side (with_work s s.waiting None) (s.held - cost_of e.order) ∙ orders_output side s s.waiting None)
 balances side s done t (Takes on bytes taking) =
-    ap (λ (z : List Event). output side s ++ put side z) taking.are ∙ takes_output side on s bytes taking.rest taking.first
-    ∙ ap (λ (z : List Event). taken side z ++ output side (with_output on s taking.rest)) (sym taking.are) ∙ ap (λ (z : State). taken side done ++ output side z) (sym taking.then)
+    ap (λ (z : List Event). output side s ++ put side z) taking.are ∙ takes_output side on s bytes taking.all
+    ∙ ap (λ (z : List Event). taken side z ++ output side (with_writes on (with_output on s []) true)) (sym taking.are) ∙ ap (λ (z : State). taken side done ++ output side z) (sym taking.then)
+balances side s done t (Writes on w) =
+    ap (λ (z : List Event). output side s ++ put side z) w.are ∙ append-nil (output side s) ∙ sym (writer_output side on s false) ∙ ap (output side) (sym w.then) ∙ ap (λ (z : List Event). taken side z ++ output side t) (sym w.are)

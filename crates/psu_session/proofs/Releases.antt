@@ -1,5 +1,5 @@
 -- Releases of locks are done once, and in their places.
-use Rattle.std.proofs.Common.{◌≡◌, ◌⊎◌, ℕ, suc, ◌+◌, Bool, true, false, Option, Some, None, Result, Ok, List, [], ◌∷◌, ◌++◌, refl, sym, ap, ◌∙◌, subst, append_assoc, inl, inr, arith, length, length-append}
+use Rattle.std.proofs.Common.{◌≡◌, ◌⊎◌, ℕ, suc, ◌+◌, ◌-◌, Bool, true, false, Option, Some, None, Result, Ok, List, [], ◌∷◌, ◌++◌, refl, sym, ap, ◌∙◌, subst, append_assoc, inl, inr, arith, length, length-append}
 use Rattle.std.specs.Prelude.{flat_map, map}
 use Rattle.std.proofs.lemmas.List.{append-nil}
 use Rattle.std.proofs.lemmas.List.Concat.{flat_map-append}
@@ -20,19 +20,20 @@ use Rattle.psu_sides.specs.Messages.{clears, parameter}
 use Rattle.psu_messages.specs.Executions.{beginning}
 use Rattle.psu_exchange.specs.Exchange.{Done, Order, asked, core_at, order_in, orders}
 use Rattle.psu_exchange.specs.Life.{came}
+use Rattle.psu_session.specs.Credit.{cost, cost_of}
 use Rattle.psu_session.specs.Events as events
 use Rattle.psu_session.specs.Events.{Event, LockReleased, exchange_history}
 use Rattle.psu_session.specs.Releases.{IsInPlace, released, released_in, releases_in, requested, requested_in}
 use Rattle.psu_session.specs.Requests.{immediate}
 use Rattle.psu_session.specs.Step.{Each, EachReceived, IsLockGranted, IsMessageReceived, IsServiceRequested, Step, Steps, granted, running, happened, number_on, release_in, works_in}
-use Rattle.psu_session.specs.Step.Step.{Receives, Notifies, Ticks, Begins, Works, ReleasesLock, Ends, Takes}
+use Rattle.psu_session.specs.Step.Step.{Receives, Notifies, Ticks, Begins, Works, ReleasesLock, Ends, Takes, Writes}
 use Rattle.psu_session.specs.Step.Steps.{Still, Then}
-use Rattle.psu_session.specs.State.{Running, Release, Start, State, Work, Execute, ReleaseLock, added, due, fresh, numbered, order_of_work, orders_in, settled, with_channel, with_core, with_output, with_work}
+use Rattle.psu_session.specs.State.{Running, Release, Start, State, Work, Execute, ReleaseLock, added, due, fresh, numbered, order_of_work, orders_in, settled, with_channel, with_core, with_held, with_output, with_owed, with_work, with_writes}
 use Rattle.psu_session.proofs.ExchangeEvents.{asked_still, caused_seen, effects_no_arrivals, effects_seen, exchange_history-append, orders_of_works, replies_no_arrivals}
 use Rattle.psu_session.proofs.Exchanging.{all_kept}
 use Rattle.psu_session.proofs.Keeping.{Kept, arrival, asked_more, current, frames, none_after, order_in_turn}
 use Rattle.psu_session.proofs.Places.{ArePlaced, both_placed, counted, due_and_left, none_in_works, orders_placed, orders_requested, releases_in-append, releases_placed, still_placed}
-use Rattle.psu_session.proofs.Requests.{each_does}
+use Rattle.psu_session.proofs.Immediate.{each_does}
 use Rattle.psu_session.proofs.Settling.{none_due}
 use Rattle.psu_session.proofs.Splitting.{within}
 use Rattle.psu_session.proofs.Splitting.Within.{Left, Right}
@@ -51,9 +52,10 @@ immediate_releases_none (events.DeviceCalled call ∷ xs) = immediate_releases_n
 immediate_releases_none (events.Put side bytes ∷ xs) = immediate_releases_none xs
 immediate_releases_none (events.Did origin effect bytes ∷ xs) = immediate_releases_none xs
 immediate_releases_none (events.Took side bytes ∷ xs) = immediate_releases_none xs
+immediate_releases_none (events.Wrote side ∷ xs) = immediate_releases_none xs
 
-each_releases_none : (acts : List Act) (done : List Event) → Each acts done → released done ≡ []
-each_releases_none acts done each = ap released (sym (each_does acts done each)) ∙ immediate_releases_none done
+each_releases_none : (waits : Bool) (acts : List Act) (done : List Event) → Each waits acts done → released done ≡ []
+each_releases_none waits acts done each = ap released (sym (each_does waits acts done each)) ∙ immediate_releases_none done
 
 effects_release_none : (origin : Origin) (done : List Done) → released (happened origin done) ≡ []
 effects_release_none origin [] = refl
@@ -72,7 +74,7 @@ received_releases_none : (now : ℕ) (side : Side) (messages : List Received) (s
 received_releases_none now side [] s done t (none, same) = ap released none
 received_releases_none now side (message ∷ messages) s done t (mid, first, more, is, one, rest) =
     ap released is ∙ flat_map-append released_in first more
-    ∙ ap (λ (z : List (Result Freed LockRefusal)). z ++ released more) (ap released one.are ∙ each_releases_none (outcome_of s.core side message).actions one.immediate one.each)
+    ∙ ap (λ (z : List (Result Freed LockRefusal)). z ++ released more) (ap released one.are ∙ each_releases_none s.lock_waits (outcome_of s.core side message).actions one.immediate one.each)
     ∙ received_releases_none now side messages mid more t rest
 
 -- ---- the places of releases
@@ -169,7 +171,7 @@ module _ (session : ℕ) where
       = ap came (seen_of session l s now side message done t core r) ∙ ap (λ (z : List Arrival). arrival side message ∷ z) (replies_no_arrivals (frames session l side message)) in
       let asks : asked session (exchange_history (xs ++ done)) ≡ asked session l ++ out.actions
       = ap (asked session) (exchange_history-append xs done) ∙ asked_more session l side message (exchange_history done) one ∙ ap (λ (z : Core). asked session l ++ (outcome_of z side message).actions) (sym core) in
-      let still : released done ≡ [] = ap released r.are ∙ each_releases_none out.actions r.immediate r.each in
+      let still : released done ≡ [] = ap released r.are ∙ each_releases_none s.lock_waits out.actions r.immediate r.each in
       let here = with_core s out.core in
       let more = added here (flat_map works_in out.actions) (flat_map (release_in now (parameter message)) out.actions) r.immediate in
       subst (Placed (xs ++ done)) (sym r.then)
@@ -197,7 +199,11 @@ module _ (session : ℕ) where
   output_placed Sync s bytes xs p = same_state xs s (with_output Sync s bytes) refl refl p
   output_placed Async s bytes xs p = same_state xs s (with_output Async s bytes) refl refl p
 
-  releases_first : (xs : List Event) (s : State) (later : List Work) (reply : Result Freed LockRefusal) → s.waiting ≡ ReleaseLock ∷ later → Placed xs s → Placed (xs ++ LockReleased reply ∷ []) (added (with_work s later None) [] [] (LockReleased reply ∷ []))
+  writer_placed : (side : Side) (s : State) (writing : Bool) (xs : List Event) → Placed xs s → Placed xs (with_writes side s writing)
+  writer_placed Sync s writing xs p = same_state xs s (with_writes Sync s writing) refl refl p
+  writer_placed Async s writing xs p = same_state xs s (with_writes Async s writing) refl refl p
+
+  releases_first : (xs : List Event) (s : State) (later : List Work) (reply : Result Freed LockRefusal) → s.waiting ≡ ReleaseLock ∷ later → Placed xs s → Placed (xs ++ LockReleased reply ∷ []) (added (with_owed (with_work s later None) (s.owed - cost 0)) [] [] (LockReleased reply ∷ []))
   releases_first xs s later reply first p =
       let done : List Event = LockReleased reply ∷ [] in
       let asks : asked session (exchange_history (xs ++ done)) ≡ asked session (exchange_history xs)
@@ -245,7 +251,7 @@ module _ (session : ℕ) where
       (quiet xs done (settled false now s) (ap (λ (z : List Event). came (exchange_history z)) tick.are) (ap released tick.are) (settles false now xs s p))
   keeps xs s done t k (ReleasesLock g) p =
       subst (Placed (xs ++ done)) (sym g.then)
-      (subst (λ (z : List Event). Placed (xs ++ z) (added (with_work s g.later None) [] [] z)) (sym g.are) (releases_first xs s g.later g.reply g.first p))
+      (subst (λ (z : List Event). Placed (xs ++ z) (added (with_owed (with_work s g.later None) (s.owed - cost 0)) [] [] z)) (sym g.are) (releases_first xs s g.later g.reply g.first p))
   keeps xs s done t k (Begins b) p =
       subst (Placed (xs ++ done)) (sym b.then)
       (quiet xs done (with_work s b.later (Some (running b.order beginning))) (ap (λ (z : List Event). came (exchange_history z)) b.are) (ap released b.are) (begins_first xs s b.order b.later (Some (running b.order beginning)) b.first p))
@@ -257,10 +263,14 @@ module _ (session : ℕ) where
       (ap released w.are ∙ effects_release_none w.order.origin w.effects_done) (output_placed Sync here _ xs (same_state xs s here refl refl p)))
   keeps xs s done t k (Ends e) p =
       subst (Placed (xs ++ done)) (sym e.then)
-      (quiet xs done (with_work s s.waiting None) (ap (λ (z : List Event). came (exchange_history z)) e.are) (ap released e.are) (same_state xs s (with_work s s.waiting None) refl refl p))
+      (quiet xs done (with_held (with_work s s.waiting None) (s.held - cost_of e.order)) (ap (λ (z : List Event). came (exchange_history z)) e.are) (ap released e.are)
+      (same_state xs s (with_held (with_work s s.waiting None) (s.held - cost_of e.order)) refl refl p))
   keeps xs s done t k (Takes side bytes taking) p =
       subst (Placed (xs ++ done)) (sym taking.then)
-      (quiet xs done (with_output side s taking.rest) (ap (λ (z : List Event). came (exchange_history z)) taking.are) (ap released taking.are) (output_placed side s taking.rest xs p))
+      (quiet xs done (with_writes side (with_output side s []) true) (ap (λ (z : List Event). came (exchange_history z)) taking.are) (ap released taking.are) (writer_placed side (with_output side s []) true xs (output_placed side s [] xs p)))
+  keeps xs s done t k (Writes side w) p =
+      subst (Placed (xs ++ done)) (sym w.then)
+      (quiet xs done (with_writes side s false) (ap (λ (z : List Event). came (exchange_history z)) w.are) (ap released w.are) (writer_placed side s false xs p))
 
 all_placed : (start : Start) (xs : List Event) (s : State) → Steps (fresh start) xs s → Placed start.session xs s
 all_placed start xs s Still = record { begun = []; are = refl; count = refl; placed = tt }
@@ -319,6 +329,7 @@ module _ (session : ℕ) (xs : List Event) (s : State) (k : Kept session (exchan
   here done t (Works w) is = absurd (no_release_in done before after reply (ap released w.are ∙ effects_release_none w.order.origin w.effects_done) is)
   here done t (Ends e) is = absurd (no_release_in done before after reply (ap released e.are) is)
   here done t (Takes side bytes taking) is = absurd (no_release_in done before after reply (ap released taking.are) is)
+  here done t (Writes side w) is = absurd (no_release_in done before after reply (ap released w.are) is)
 
 pub each_release_is_in_place : (start : Start) (history : List Event) (s : State) → Steps (fresh start) history s → (before after : List Event) (reply : Result Freed LockRefusal) → history ≡ before ++ LockReleased reply ∷ after → IsInPlace start.session before
 each_release_is_in_place start history s Still before after reply is = absurd (none_after before (LockReleased reply) after (sym is))

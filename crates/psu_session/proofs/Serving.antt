@@ -1,15 +1,18 @@
 -- The effects of calls, one after another.
-use Rattle.std.proofs.Common.{◌≡◌, ℕ, Bool, true, false, Option, Some, None, List, [], ◌∷◌, ◌++◌, refl, sym, ap, ◌∙◌, subst, append_assoc, Result, Ok, Err, OnOk}
+use Rattle.std.proofs.Common.{◌≡◌, ℕ, Bool, true, false, Option, Some, None, List, [], ◌∷◌, ◌++◌, refl, sym, ap, ◌∙◌, subst, append_assoc, ◌+◌, Result, Ok, Err, OnOk}
 use Rattle.std.specs.Prelude.{flat_map}
 use Rattle.std.proofs.lemmas.List.{append-nil}
 use Rattle.std.proofs.lemmas.List.Concat.{flat_map-append}
+use Rattle.psu_hislip.specs.Action.{Act}
 use Rattle.psu_hislip.specs.declared.header.Header.{Header}
 use Rattle.psu_hislip.specs.declared.side.Side.{Side}
 use Rattle.psu_hislip.specs.declared.side.Side.TheVariants.{Sync, Async}
+use Rattle.psu_exchange.specs.Exchange.{Order}
+use Rattle.psu_session.specs.Credit.{cost, cost_of, held_with}
 use Rattle.psu_session.specs.Events.{Call, Event, calls, calls_in, put, put_by, waits_after, waits_by}
-use Rattle.psu_session.specs.Step.{EachIn, delivers, puts_any}
+use Rattle.psu_session.specs.Step.{Does, Each, delivers, puts_any, works_in}
 use Rattle.psu_session.specs.Serving.{Appends, Runs}
-use Rattle.psu_session.specs.State.{Release, State, Work, added}
+use Rattle.psu_session.specs.State.{Release, State, Work, added, order_of_work, orders_in, owed_with, with_held, with_owed}
 
 pub on_ok : {T E P Q : Type 0} (r : Result T E) → (P → Q) → OnOk r P → OnOk r Q
 on_ok (Ok x) f p = f p
@@ -30,6 +33,21 @@ same_lists s {a} {b} {c} {d} {i} {j} {e} {f} {g} {h} p q o r t =
     ap (λ (z : List Work). lists s z c i e g) p ∙ ap (λ (z : List Release). lists s b z i e g) q ∙ ap (λ (z : Bool). lists s b d z e g) o ∙ ap (λ (z : List ℕ). lists s b d j z g) r
     ∙ ap (λ (z : List ℕ). lists s b d j f z) t
 
+-- and with other counts
+same_counts : (s : State) {a b c d : ℕ} → a ≡ b → c ≡ d → with_owed (with_held s a) c ≡ with_owed (with_held s b) d
+same_counts s {a} {b} {c} {d} p q = ap (λ (z : ℕ). with_owed (with_held s z) c) p ∙ ap (λ (z : ℕ). with_owed (with_held s b) z) q
+
+held_with-append : (xs ys : List Order) (held : ℕ) → held_with (xs ++ ys) held ≡ held_with ys (held_with xs held)
+held_with-append [] ys held = refl
+held_with-append (x ∷ xs) ys held = held_with-append xs ys (held + cost_of x)
+
+owed_with-append : (xs ys : List Release) (owed : ℕ) → owed_with (xs ++ ys) owed ≡ owed_with ys (owed_with xs owed)
+owed_with-append [] ys owed = refl
+owed_with-append (x ∷ xs) ys owed = owed_with-append xs ys (owed + cost 0)
+
+pub held_with_works : (xs ys : List Work) (held : ℕ) → held_with (orders_in (xs ++ ys)) held ≡ held_with (orders_in ys) (held_with (orders_in xs) held)
+held_with_works xs ys held = ap (λ (z : List Order). held_with z held) (flat_map-append order_of_work xs ys) ∙ held_with-append (orders_in xs) (orders_in ys) held
+
 -- nothing is added
 pub none_added : (s : State) → added s [] [] [] ≡ s
 none_added s = same_lists s (append-nil s.waiting) (append-nil s.releases) refl (append-nil s.sync) (append-nil s.async)
@@ -41,9 +59,11 @@ waits_after-append waits (x ∷ xs) ys = waits_after-append (waits_by waits x) x
 -- more is added
 pub more_added : (s : State) (first second : List Work) (one two : List Release) (xs ys : List Event) → added (added s first one xs) second two ys ≡ added s (first ++ second) (one ++ two) (xs ++ ys)
 more_added s first second one two xs ys =
-    same_lists s (append_assoc s.waiting first second) (append_assoc s.releases one two) (sym (waits_after-append s.lock_waits xs ys))
+    same_lists (with_owed (with_held s (held_with (orders_in second) (held_with (orders_in first) s.held))) (owed_with two (owed_with one s.owed))) (append_assoc s.waiting first second) (append_assoc s.releases one two)
+    (sym (waits_after-append s.lock_waits xs ys))
     (append_assoc s.sync (put Sync xs) (put Sync ys) ∙ ap (λ (z : List ℕ). s.sync ++ z) (sym (put-append Sync xs ys)))
     (append_assoc s.async (put Async xs) (put Async ys) ∙ ap (λ (z : List ℕ). s.async ++ z) (sym (put-append Async xs ys)))
+    ∙ same_counts (added s (first ++ second) (one ++ two) (xs ++ ys)) (sym (held_with_works first second s.held)) (sym (owed_with-append one two s.owed))
 
 module _ {X : Type 0} (does : X → Call → X → Type 0) where
   pub runs_on : (xs ys : List Call) (x y z : X) → Runs does x xs y → Runs does y ys z → Runs does x (xs ++ ys) z
@@ -67,23 +87,23 @@ module _ {X : Type 0} (does : X → Call → X → Type 0) where
   pub begins : (Whole : List Event → Type 0) (works : List Work) (requested : List Release) (s : State) (x : X) → DoneSoFar Whole Whole works works requested requested s x s x
   begins Whole works requested s x = record { done = []; given = []; released = []; runs = refl; then = sym (none_added s); completes = λ more left. left; all_works = refl; all_requested = refl }
 
-  pub steps : {T : Type 0} (Are : T → List Event → Type 0) (gives : T → List Work) (asks : T → List Release) (Whole : List Event → Type 0) (works : List Work) (requested : List Release) (one : T) (rest : List T) (s : State) (x : X) (t : State) (y : X) (u : State) (z : X)
-      → DoneSoFar Whole (EachIn Are (one ∷ rest)) works (flat_map gives (one ∷ rest)) requested (flat_map asks (one ∷ rest)) s x t y → Appends does (Are one) (gives one) (asks one) t y u z
-      → DoneSoFar Whole (EachIn Are rest) works (flat_map gives rest) requested (flat_map asks rest) s x u z
-  steps Are gives asks Whole works requested one rest s x t y u z g e = record {
+  pub steps : (asks : Act → List Release) (Whole : List Event → Type 0) (works : List Work) (requested : List Release) (one : Act) (rest : List Act) (s : State) (x : X) (t : State) (y : X) (u : State) (z : X)
+      → DoneSoFar Whole (Each t.lock_waits (one ∷ rest)) works (flat_map works_in (one ∷ rest)) requested (flat_map asks (one ∷ rest)) s x t y → Appends does (Does t.lock_waits one) (works_in one) (asks one) t y u z
+      → DoneSoFar Whole (Each u.lock_waits rest) works (flat_map works_in rest) requested (flat_map asks rest) s x u z
+  steps asks Whole works requested one rest s x t y u z g e = record {
     done = g.done ++ e.done;
-    given = g.given ++ gives one;
+    given = g.given ++ works_in one;
     released = g.released ++ asks one;
     runs = runs_after g.done e.done x y z g.runs e.runs;
-    then = e.then ∙ ap (λ (w : State). added w (gives one) (asks one) e.done) g.then ∙ more_added s g.given (gives one) g.released (asks one) g.done e.done;
-    completes = λ more left. subst Whole (sym (append_assoc g.done e.done more)) (g.completes (e.done ++ more) (e.done, more, refl, e.are, left));
-    all_works = g.all_works ∙ sym (append_assoc g.given (gives one) (flat_map gives rest));
+    then = e.then ∙ ap (λ (w : State). added w (works_in one) (asks one) e.done) g.then ∙ more_added s g.given (works_in one) g.released (asks one) g.done e.done;
+    completes = λ more left. subst Whole (sym (append_assoc g.done e.done more))
+        (g.completes (e.done ++ more) (e.done, more, refl, e.are, subst (λ (w : Bool). Each w rest more) (ap (λ (w : State). w.lock_waits) e.then) left));
+    all_works = g.all_works ∙ sym (append_assoc g.given (works_in one) (flat_map works_in rest));
     all_requested = g.all_requested ∙ sym (append_assoc g.released (asks one) (flat_map asks rest));
   }
 
-  pub ends : {T : Type 0} (Are : T → List Event → Type 0) (Whole : List Event → Type 0) (works : List Work) (requested : List Release) (s : State) (x : X) (t : State) (y : X) → DoneSoFar Whole (EachIn Are []) works [] requested [] s x t y
-      → Appends does Whole works requested s x t y
-  ends Are Whole works requested s x t y g = record {
+  pub ends : (Whole : List Event → Type 0) (works : List Work) (requested : List Release) (s : State) (x : X) (t : State) (y : X) → DoneSoFar Whole (Each t.lock_waits []) works [] requested [] s x t y → Appends does Whole works requested s x t y
+  ends Whole works requested s x t y g = record {
     done = g.done;
     are = subst Whole (append-nil g.done) (g.completes [] refl);
     runs = g.runs;

@@ -1,5 +1,5 @@
 -- Each step of a session keeps what holds of its events and its state.
-use Rattle.std.proofs.Common.{◌≡◌, ℕ, Bool, false, Option, Some, None, List, [], ◌∷◌, ◌++◌, refl, sym, ap, ◌∙◌, subst, append_assoc}
+use Rattle.std.proofs.Common.{◌≡◌, ℕ, ◌-◌, Bool, true, false, Option, Some, None, List, [], ◌∷◌, ◌++◌, refl, sym, ap, ◌∙◌, subst, append_assoc}
 use Rattle.std.specs.Prelude.{flat_map, map}
 use Rattle.std.proofs.lemmas.List.{append-nil}
 use Rattle.std.proofs.lemmas.List.Concat.{flat_map-append}
@@ -13,11 +13,12 @@ use Rattle.psu_sides.specs.Messages.{clears, parameter}
 use Rattle.psu_exchange.specs.Exchange as exchange
 use Rattle.psu_exchange.specs.Exchange.{Order, core_at, orders, reply_of}
 use Rattle.psu_exchange.specs.Life.{Happening as ExchangeEvent, Came}
+use Rattle.psu_session.specs.Credit.{cost, cost_of}
 use Rattle.psu_session.specs.Events as events
 use Rattle.psu_session.specs.Events.{Event, exchange_history}
 use Rattle.psu_session.specs.Step.{EachReceived, IsMessageReceived, Step, arrived, number_on, release_in, works_in}
-use Rattle.psu_session.specs.Step.Step.{Receives, Notifies, Ticks, Begins, Works, ReleasesLock, Ends, Takes}
-use Rattle.psu_session.specs.State.{Running, State, added, due, numbered, order_of_work, orders_in, settled, with_channel, with_core, with_output, with_work}
+use Rattle.psu_session.specs.Step.Step.{Receives, Notifies, Ticks, Begins, Works, ReleasesLock, Ends, Takes, Writes}
+use Rattle.psu_session.specs.State.{Running, State, added, due, numbered, order_of_work, orders_in, settled, with_channel, with_core, with_held, with_output, with_owed, with_work, with_writes}
 use Rattle.psu_session.proofs.ExchangeEvents.{as_effects, as_replies, caused_seen, effects_seen, each_seen, exchange_history-append}
 use Rattle.psu_session.proofs.Settling.{none_due}
 use Rattle.psu_session.proofs.Keeping.{order_in_turn, current, HasReached, Kept, frames, message_events, message_keeps, begins, ends_order, works}
@@ -50,6 +51,10 @@ with_other : (side : Side) (s : State) (bytes : List ℕ) (session : ℕ) (l : L
 with_other Sync s bytes session l k = transfer session l s (with_output Sync s bytes) refl refl refl k
 with_other Async s bytes session l k = transfer session l s (with_output Async s bytes) refl refl refl k
 
+with_writer : (side : Side) (s : State) (writing : Bool) (session : ℕ) (l : List ExchangeEvent) → Kept session l s → Kept session l (with_writes side s writing)
+with_writer Sync s writing session l k = transfer session l s (with_writes Sync s writing) refl refl refl k
+with_writer Async s writing session l k = transfer session l s (with_writes Async s writing) refl refl refl k
+
 settles : (all : Bool) (now : ℕ) (s : State) (session : ℕ) (l : List ExchangeEvent) → Kept session l s → Kept session l (settled all now s)
 settles all now s session l k =
     transfer session l s (settled all now s) refl refl
@@ -71,7 +76,7 @@ pub seen_of : (session : ℕ) (l : List ExchangeEvent) (s : State) (now : ℕ) (
     → exchange_history done ≡ message_events session l side message (frames session l side message)
 seen_of session l s now side message done t is r =
     ap exchange_history r.are ∙ ap (λ (z : List ExchangeEvent). Came side message ∷ z)
-    (each_seen (outcome_of s.core side message).actions r.immediate r.each ∙ ap (λ (z : Core). as_replies (flat_map reply_of (outcome_of z side message).actions)) is)
+    (each_seen s.lock_waits (outcome_of s.core side message).actions r.immediate r.each ∙ ap (λ (z : Core). as_replies (flat_map reply_of (outcome_of z side message).actions)) is)
 
 pub received_one : (session : ℕ) (xs : List Event) (s : State) (now : ℕ) (side : Side) (message : Received) (done : List Event) (t : State) → Kept session (exchange_history xs) s → IsMessageReceived now side message s done t → Kept session (exchange_history (xs ++ done)) t
 received_one session xs s now side message done t k r =
@@ -111,8 +116,9 @@ step_keeps session xs s done t k (Ticks now tick) =
 step_keeps session xs s done t k (ReleasesLock g) =
     let none : exchange_history done ≡ [] = ap exchange_history g.are in
     let same : orders_in g.later ≡ orders_in s.waiting = sym (ap orders_in g.first) in
-    let here : Kept session (exchange_history xs) (added (with_work s g.later None) [] [] done)
-    = transfer session (exchange_history xs) s (added (with_work s g.later None) [] [] done) refl (sym g.none) (ap orders_in (append-nil g.later) ∙ same) k in
+    let freed = with_owed (with_work s g.later None) (s.owed - cost 0) in
+    let here : Kept session (exchange_history xs) (added freed [] [] done)
+    = transfer session (exchange_history xs) s (added freed [] [] done) refl (sym g.none) (ap orders_in (append-nil g.later) ∙ same) k in
     subst (λ (z : State). Kept session (exchange_history (xs ++ done)) z) (sym g.then) (same_history session _ (exchange_history (xs ++ done)) _ (unseen xs done none) here)
 step_keeps session xs s done t k (Begins b) =
     subst (λ (z : State). Kept session (exchange_history (xs ++ done)) z) (sym b.then)
@@ -123,7 +129,12 @@ step_keeps session xs s done t k (Works w) =
     (same_history session _ (exchange_history (xs ++ done)) _ seen (works session (exchange_history xs) s w.order w.progress w.new w.effects_done w.is w.current w.reaches w.framed (s.sync ++ exchange.frames w.effects_done) k))
 step_keeps session xs s done t k (Ends e) =
     subst (λ (z : State). Kept session (exchange_history (xs ++ done)) z) (sym e.then)
-    (same_history session _ (exchange_history (xs ++ done)) _ (unseen xs done (ap exchange_history e.are)) (ends_order session (exchange_history xs) s e.order e.progress e.is e.ended k))
+    (same_history session _ (exchange_history (xs ++ done)) _ (unseen xs done (ap exchange_history e.are))
+    (transfer session (exchange_history xs) (with_work s s.waiting None) (with_held (with_work s s.waiting None) (s.held - cost_of e.order)) refl refl refl (ends_order session (exchange_history xs) s e.order e.progress e.is e.ended k)))
 step_keeps session xs s done t k (Takes side bytes taking) =
     subst (λ (z : State). Kept session (exchange_history (xs ++ done)) z) (sym taking.then)
-    (same_history session _ (exchange_history (xs ++ done)) _ (unseen xs done (ap exchange_history taking.are)) (with_other side s taking.rest session (exchange_history xs) k))
+    (same_history session _ (exchange_history (xs ++ done)) _ (unseen xs done (ap exchange_history taking.are))
+    (with_writer side (with_output side s []) true session (exchange_history xs) (with_other side s [] session (exchange_history xs) k)))
+step_keeps session xs s done t k (Writes side w) =
+    subst (λ (z : State). Kept session (exchange_history (xs ++ done)) z) (sym w.then)
+    (same_history session _ (exchange_history (xs ++ done)) _ (unseen xs done (ap exchange_history w.are)) (with_writer side s false session (exchange_history xs) k))

@@ -1,17 +1,18 @@
 -- Steps of a session, one after another.
-use Rattle.std.proofs.Common.{◌≡◌, ℕ, Option, Some, None, List, [], ◌∷◌, ◌++◌, refl, sym, ap, ◌∙◌, subst, append_assoc, inl, inr, false, Result, Ok, Err, is_err, OnOk, IfOk}
+use Rattle.std.proofs.Common.{◌≡◌, ℕ, ◌-◌, Option, Some, None, List, [], ◌∷◌, ◌++◌, refl, sym, ap, ◌∙◌, subst, append_assoc, inl, inr, false, Result, Ok, Err, is_err, OnOk, IfOk, IfSome, IsNone}
 use Rattle.std.proofs.lemmas.List.{append-nil}
 use Rattle.psu_hislip.specs.Answer.{answer_size}
 use Rattle.psu_hislip.specs.Core.{IsCurrent}
 use Rattle.psu_messages.specs.Executions.{Progress, IsOver, beginning}
 use Rattle.psu_exchange.specs.Exchange.{Order, frames}
+use Rattle.psu_session.specs.Credit.{cost, cost_of}
 use Rattle.psu_session.specs.Events.{Call, Event, LockReleased}
 use Rattle.psu_session.specs.Step.{AreFramed, IsReachable, Step, Steps, running, happened}
 use Rattle.psu_session.specs.Step.Step.{Begins, Works, Ends, ReleasesLock}
 use Rattle.psu_session.specs.Step.Steps.{Still, Then}
 use Rattle.psu_session.specs.Proceeding.{Frees, Proceeds, IsNext, IsNextRelease}
 use Rattle.psu_session.specs.Serving.{AdvancesOrder, PerformsStep}
-use Rattle.psu_session.specs.State.{Running, State, Work, Execute, added, with_work, with_output}
+use Rattle.psu_session.specs.State.{Running, State, Work, Execute, added, with_held, with_owed, with_work, with_output}
 use Rattle.psu_session.specs.declared.proceeded.Proceeded.TheVariants.{Idle, Completed, Waits}
 use Rattle.psu_messages.specs.declared.need.Need.{Need}
 use Rattle.psu_hislip.specs.declared.side.Side.TheVariants.{Sync}
@@ -49,11 +50,11 @@ next_begins s order progress later t new none is then = record {
 -- ---- the result of a call
 
 module _ {X : Type 0} (does : X → Call → X → Type 0) where
-  pub dropped : (s : State) (next : Running) (t : State) (x : X) → IsNext s next t → (IsCurrent t.core next.order.origin → ⊥) → PerformsStep does (Proceeds Completed) s x t x
+  pub dropped : (s : State) (next : Running) (t : State) (x : X) → IsNext s next t → (IsCurrent t.core next.order.origin → ⊥) → PerformsStep does (Proceeds Completed) s x (with_held t (t.held - cost_of next.order)) x
   dropped s next t x n gone = record {
     done = [];
     is = record {
-      steps = subst (λ (z : State). Steps s [] z) (sym n.then)
+      steps = subst (λ (z : State). Steps s [] (with_held z (z.held - cost_of next.order))) (sym n.then)
           (steps_then n.steps
           (Ends (record {
             order = next.order;
@@ -103,9 +104,10 @@ module _ {X : Type 0} (does : X → Call → X → Type 0) where
 
   -- it is over
   pub over : (s : State) (next : Running) (t : State) (x : X) (new : Progress) (output : List ℕ) (y : X) → IsNext s next t → IsCurrent t.core next.order.origin
-      → AdvancesOrder does t.core next.order next.progress t.sync x new output y → IsOver next.order.source new → PerformsStep does (Proceeds Completed) s x (with_output Sync t output) y
+      → AdvancesOrder does t.core next.order next.progress t.sync x new output y → IsOver next.order.source new → PerformsStep does (Proceeds Completed) s x (with_held (with_output Sync t output) (t.held - cost_of next.order)) y
   over s next t x new output y n current a ended =
-      let is : with_output Sync t output ≡ with_output Sync (with_work s n.later None) output = ap (λ (z : State). with_output Sync z output) n.then in
+      let is : with_held (with_output Sync t output) (t.held - cost_of next.order) ≡ with_held (with_output Sync (with_work s n.later None) output) (s.held - cost_of next.order)
+      = ap (λ (z : State). with_held (with_output Sync z output) (z.held - cost_of next.order)) n.then in
       record {
         done = happened next.order.origin a.effects_done;
         is = record {
@@ -120,7 +122,7 @@ module _ {X : Type 0} (does : X → Call → X → Type 0) where
   pub freed : (s t u : State) (x y : X) → IsNextRelease s t → Frees does t x u y → PerformsStep does (Proceeds Completed) s x u y
   freed s t u x y n f =
       let done : List Event = LockReleased f.reply ∷ [] in
-      let is : u ≡ added (with_work s n.later None) [] [] done = f.then ∙ ap (λ (z : State). added z [] [] done) n.then in
+      let is : u ≡ added (with_owed (with_work s n.later None) (s.owed - cost 0)) [] [] done = f.then ∙ ap (λ (z : State). added (with_owed z (z.owed - cost 0)) [] [] done) n.then in
       record {
         done = done;
         is = record {
@@ -145,3 +147,7 @@ reached_on_ok {T} {E} {P} {s} {t} (Err x) to_steps e p reached = absurd (cc (e))
 pub reached_if_ok : {T E : Type 0} {P : T → Type 0} {s t : State} (r : Result T E) → ((x : T) → P x → (done : List Event) × Steps s done t) → is_err r ≡ false → IfOk r P → IsReachable s → IsReachable t
 reached_if_ok {T} {E} {P} {s} {t} (Ok x) to_steps e p reached = reached_by reached (to_steps x p).1
 reached_if_ok {T} {E} {P} {s} {t} (Err x) to_steps e p reached = absurd (cc (e))
+
+pub reached_if_some : {T Q : Type 0} {P : T → Type 0} {s t : State} (r : Option T) → ((x : T) → P x → (done : List Event) × Steps s done t) → IfSome r P → (IsNone r → (t ≡ s) × Q) → IsReachable s → IsReachable t
+reached_if_some (Some x) to_steps p none reached = reached_by reached (to_steps x p).1
+reached_if_some None to_steps p none reached = subst IsReachable (sym (none refl).0) reached

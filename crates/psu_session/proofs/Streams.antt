@@ -1,5 +1,5 @@
 -- The messages that are passed to the core are those of the bytes that were received.
-use Rattle.std.proofs.Common.{◌≡◌, ℕ, Bool, false, Option, Some, None, List, [], ◌∷◌, ◌++◌, refl, sym, ap, ◌∙◌, subst, append_assoc}
+use Rattle.std.proofs.Common.{◌≡◌, ℕ, ◌-◌, Bool, true, false, Option, Some, None, List, [], ◌∷◌, ◌++◌, refl, sym, ap, ◌∙◌, subst, append_assoc}
 use Rattle.std.specs.Prelude.{flat_map, map}
 use Rattle.std.proofs.lemmas.List.{append-nil}
 use Rattle.std.proofs.lemmas.List.Concat.{flat_map-append}
@@ -14,11 +14,12 @@ use Rattle.psu_messages.specs.Executions.{beginning}
 use Rattle.psu_exchange.specs.Exchange as exchange
 use Rattle.psu_exchange.specs.Exchange.{core_at}
 use Rattle.psu_exchange.specs.Life.{Happening as ExchangeEvent, came, came_on, on}
+use Rattle.psu_session.specs.Credit.{cost, cost_of}
 use Rattle.psu_session.specs.Events as events
 use Rattle.psu_session.specs.Events.{Event, bytes_received, exchange_history}
 use Rattle.psu_session.specs.Step.{EachReceived, Feeds, IsMessageReceived, Step, running, number_on, release_in, works_in}
-use Rattle.psu_session.specs.Step.Step.{Receives, Notifies, Ticks, Begins, Works, ReleasesLock, Ends, Takes}
-use Rattle.psu_session.specs.State.{Running, Release, State, Work, added, channel_of, numbered, settled, with_channel, with_core, with_output, with_work}
+use Rattle.psu_session.specs.Step.Step.{Receives, Notifies, Ticks, Begins, Works, ReleasesLock, Ends, Takes, Writes}
+use Rattle.psu_session.specs.State.{Running, Release, State, Work, added, channel_of, numbered, settled, with_channel, with_core, with_held, with_output, with_owed, with_work, with_writes}
 use Rattle.psu_session.proofs.ExchangeEvents.{caused_received, caused_seen, came-append, effects_receive_none, effects_seen, effects_no_arrivals, immediate_quiet, bytes_received-append, exchange_history-append, replies_no_arrivals}
 use Rattle.psu_session.proofs.Keeping.{Kept, arrival, frames}
 use Rattle.psu_session.proofs.StepKeeping.{same_history, unseen, seen_of, received_one, with_feed}
@@ -52,11 +53,25 @@ work_channel : (side : Side) (s : State) (waiting : List Work) (g : Option Runni
 work_channel Sync s waiting g = refl
 work_channel Async s waiting g = refl
 
+held_channel : (side : Side) (s : State) (held : ℕ) → channel_of side (with_held s held) ≡ channel_of side s
+held_channel Sync s held = refl
+held_channel Async s held = refl
+
+owed_channel : (side : Side) (s : State) (owed : ℕ) → channel_of side (with_owed s owed) ≡ channel_of side s
+owed_channel Sync s owed = refl
+owed_channel Async s owed = refl
+
 output_channel : (side on : Side) (s : State) (bytes : List ℕ) → channel_of side (with_output on s bytes) ≡ channel_of side s
 output_channel Sync Sync s bytes = refl
 output_channel Sync Async s bytes = refl
 output_channel Async Sync s bytes = refl
 output_channel Async Async s bytes = refl
+
+writer_channel : (side on : Side) (s : State) (writing : Bool) → channel_of side (with_writes on s writing) ≡ channel_of side s
+writer_channel Sync Sync s writing = refl
+writer_channel Sync Async s writing = refl
+writer_channel Async Sync s writing = refl
+writer_channel Async Async s writing = refl
 
 record IsReceivedBy (side : Side) (messages : List Received) (s : State) (done : List Event) (t : State) : Type 0 where
   channel : (on : Side) → channel_of on t ≡ channel_of on s
@@ -73,7 +88,7 @@ received_by_one session l now side message s done t core r = record {
       (added (with_core s (outcome_of s.core side message).core) (flat_map works_in (outcome_of s.core side message).actions) (flat_map (release_in now (parameter message)) (outcome_of s.core side message).actions) r.immediate)
       ∙ added_channel at (with_core s (outcome_of s.core side message).core) (flat_map works_in (outcome_of s.core side message).actions) (flat_map (release_in now (parameter message)) (outcome_of s.core side message).actions) r.immediate
       ∙ core_channel at s (outcome_of s.core side message).core;
-  none = λ at. ap (bytes_received at) r.are ∙ immediate_quiet at (outcome_of s.core side message).actions r.immediate r.each;
+  none = λ at. ap (bytes_received at) r.are ∙ immediate_quiet at s.lock_waits (outcome_of s.core side message).actions r.immediate r.each;
   arrivals_are = ap came (seen_of session l s now side message done t core r) ∙ ap (λ (z : List Arrival). arrival side message ∷ z) (replies_no_arrivals (frames session l side message));
 }
 
@@ -154,7 +169,7 @@ streamed session side opening gave xs s done t k (Notifies a) fed =
 streamed session side opening gave xs s done t k (Ticks now tick) fed =
     other side opening gave xs s done t fed (ap (channel_of side) tick.then ∙ settled_channel side false now s) (ap (bytes_received side) tick.are) (ap (λ (z : List Event). flat_map (on side) (came (exchange_history z))) tick.are)
 streamed session side opening gave xs s done t k (ReleasesLock g) fed =
-    other side opening gave xs s done t fed (ap (channel_of side) g.then ∙ added_channel side (with_work s g.later None) [] [] done ∙ work_channel side s g.later None) (ap (bytes_received side) g.are) (ap (λ (z : List Event). flat_map (on side) (came (exchange_history z))) g.are)
+    other side opening gave xs s done t fed (ap (channel_of side) g.then ∙ added_channel side (with_owed (with_work s g.later None) (s.owed - cost 0)) [] [] done ∙ owed_channel side (with_work s g.later None) (s.owed - cost 0) ∙ work_channel side s g.later None) (ap (bytes_received side) g.are) (ap (λ (z : List Event). flat_map (on side) (came (exchange_history z))) g.are)
 streamed session side opening gave xs s done t k (Begins b) fed =
     other side opening gave xs s done t fed (ap (channel_of side) b.then ∙ work_channel side s b.later (Some (running b.order beginning))) (ap (bytes_received side) b.are) (ap (λ (z : List Event). flat_map (on side) (came (exchange_history z))) b.are)
 streamed session side opening gave xs s done t k (Works w) fed =
@@ -163,6 +178,8 @@ streamed session side opening gave xs s done t k (Works w) fed =
     (ap (bytes_received side) w.are ∙ effects_receive_none side w.order.origin w.effects_done)
     (ap (λ (z : List Event). flat_map (on side) (came (exchange_history z))) w.are ∙ ap (λ (z : List ExchangeEvent). flat_map (on side) (came z)) (effects_seen w.order.origin w.effects_done) ∙ ap (λ (z : List Arrival). flat_map (on side) z) (effects_no_arrivals w.order.origin w.effects_done))
 streamed session side opening gave xs s done t k (Ends e) fed =
-    other side opening gave xs s done t fed (ap (channel_of side) e.then ∙ work_channel side s s.waiting None) (ap (bytes_received side) e.are) (ap (λ (z : List Event). flat_map (on side) (came (exchange_history z))) e.are)
+    other side opening gave xs s done t fed (ap (channel_of side) e.then ∙ held_channel side (with_work s s.waiting None) (s.held - cost_of e.order) ∙ work_channel side s s.waiting None) (ap (bytes_received side) e.are) (ap (λ (z : List Event). flat_map (on side) (came (exchange_history z))) e.are)
 streamed session side opening gave xs s done t k (Takes at bytes taking) fed =
-    other side opening gave xs s done t fed (ap (channel_of side) taking.then ∙ output_channel side at s taking.rest) (ap (bytes_received side) taking.are) (ap (λ (z : List Event). flat_map (on side) (came (exchange_history z))) taking.are)
+    other side opening gave xs s done t fed (ap (channel_of side) taking.then ∙ writer_channel side at (with_output at s []) true ∙ output_channel side at s []) (ap (bytes_received side) taking.are) (ap (λ (z : List Event). flat_map (on side) (came (exchange_history z))) taking.are)
+streamed session side opening gave xs s done t k (Writes at w) fed =
+    other side opening gave xs s done t fed (ap (channel_of side) w.then ∙ writer_channel side at s false) (ap (bytes_received side) w.are) (ap (λ (z : List Event). flat_map (on side) (came (exchange_history z))) w.are)

@@ -18,11 +18,11 @@ use Rattle.psu_session.specs.Events as events
 use Rattle.psu_session.specs.Events.{Event, LockGranted, waits_after}
 use Rattle.psu_session.specs.Requests.{immediate}
 use Rattle.psu_session.specs.Step.{Each, EachReceived, IsLockGranted, IsMessageReceived, IsServiceRequested, Step, Steps, granted, happened, number_on, release_in, works_in}
-use Rattle.psu_session.specs.Step.Step.{Receives, Notifies, Ticks, Begins, Works, ReleasesLock, Ends, Takes}
+use Rattle.psu_session.specs.Step.Step.{Receives, Notifies, Ticks, Begins, Works, ReleasesLock, Ends, Takes, Writes}
 use Rattle.psu_session.specs.Step.Steps.{Still, Then}
-use Rattle.psu_session.specs.State.{Start, State, added, fresh, numbered, with_channel, with_core, with_output}
+use Rattle.psu_session.specs.State.{Start, State, added, fresh, numbered, with_channel, with_core, with_output, with_writes}
 use Rattle.psu_session.proofs.Keeping.{none_after}
-use Rattle.psu_session.proofs.Requests.{each_does}
+use Rattle.psu_session.proofs.Immediate.{each_does}
 use Rattle.psu_session.proofs.Serving.{waits_after-append}
 use Rattle.psu_session.proofs.Splitting.{within}
 use Rattle.psu_session.proofs.Splitting.Within.{Left, Right}
@@ -33,19 +33,23 @@ with_number : (number : Option ℕ) (s : State) → (numbered s number).lock_wai
 with_number None s = refl
 with_number (Some number) s = refl
 
-with_feed : (side : Side) (s : State) (channel : Awaited) → (with_channel side s channel).lock_waits ≡ s.lock_waits
-with_feed Sync s channel = refl
-with_feed Async s channel = refl
+pub fed_waits : (side : Side) (s : State) (channel : Awaited) → (with_channel side s channel).lock_waits ≡ s.lock_waits
+fed_waits Sync s channel = refl
+fed_waits Async s channel = refl
 
 with_rest : (side : Side) (s : State) (bytes : List ℕ) → (with_output side s bytes).lock_waits ≡ s.lock_waits
 with_rest Sync s bytes = refl
 with_rest Async s bytes = refl
 
+with_writer : (side : Side) (s : State) (writing : Bool) → (with_writes side s writing).lock_waits ≡ s.lock_waits
+with_writer Sync s writing = refl
+with_writer Async s writing = refl
+
 effects_leave : (waits : Bool) (origin : Origin) (done : List Done) → waits_after waits (happened origin done) ≡ waits
 effects_leave waits origin [] = refl
 effects_leave waits origin (d ∷ done) = effects_leave waits origin done
 
-one_message : (now : ℕ) (side : Side) (message : Received) (s : State) (done : List Event) (t : State) → IsMessageReceived now side message s done t → t.lock_waits ≡ waits_after s.lock_waits done
+pub one_message : (now : ℕ) (side : Side) (message : Received) (s : State) (done : List Event) (t : State) → IsMessageReceived now side message s done t → t.lock_waits ≡ waits_after s.lock_waits done
 one_message now side message s done t r =
     let out = outcome_of s.core side message in
     let more = added (with_core s out.core) (flat_map works_in out.actions) (flat_map (release_in now (parameter message)) out.actions) r.immediate in
@@ -62,7 +66,7 @@ still s done t none same = same ∙ ap (λ (z : List Event). waits_after s.lock_
 
 step_waits : (s : State) (done : List Event) (t : State) → Step s done t → t.lock_waits ≡ waits_after s.lock_waits done
 step_waits s done t (Receives now side received_bytes h) =
-    each_message now side h.messages (with_channel side s h.channel) h.immediate t h.each ∙ ap (λ (z : Bool). waits_after z h.immediate) (with_feed side s h.channel) ∙ ap (λ (z : List Event). waits_after s.lock_waits z) (sym h.are)
+    each_message now side h.messages (with_channel side s h.channel) h.immediate t h.each ∙ ap (λ (z : Bool). waits_after z h.immediate) (fed_waits side s h.channel) ∙ ap (λ (z : List Event). waits_after s.lock_waits z) (sym h.are)
 step_waits s done t (Notifies a) = ap (λ (z : State). z.lock_waits) a.then
 step_waits s done t (Ticks now tick) = still s done t tick.are (ap (λ (z : State). z.lock_waits) tick.then)
 step_waits s done t (ReleasesLock g) = ap (λ (z : State). z.lock_waits) g.then
@@ -71,7 +75,8 @@ step_waits s done t (Works w) =
     ap (λ (z : State). z.lock_waits) w.then ∙ sym (effects_leave s.lock_waits w.order.origin w.effects_done) ∙ ap (λ (z : List Event). waits_after s.lock_waits z) (sym w.are)
 step_waits s done t (Ends e) = still s done t e.are (ap (λ (z : State). z.lock_waits) e.then)
 step_waits s done t (Takes side bytes taking) =
-    ap (λ (z : State). z.lock_waits) taking.then ∙ with_rest side s taking.rest ∙ ap (λ (z : List Event). waits_after s.lock_waits z) (sym taking.are)
+    ap (λ (z : State). z.lock_waits) taking.then ∙ with_writer side (with_output side s []) true ∙ with_rest side s [] ∙ ap (λ (z : List Event). waits_after s.lock_waits z) (sym taking.are)
+step_waits s done t (Writes side w) = ap (λ (z : State). z.lock_waits) w.then ∙ with_writer side s false ∙ ap (λ (z : List Event). waits_after s.lock_waits z) (sym w.are)
 
 pub wait_is_known : (start : Start) (history : List Event) (s : State) → Steps (fresh start) history s → s.lock_waits ≡ waits_after false history
 wait_is_known start history s Still = refl
@@ -90,6 +95,7 @@ result_in (events.DeviceCalled call) = []
 result_in (events.Put side frames) = []
 result_in (events.Did origin effect frames) = []
 result_in (events.Took side bytes) = []
+result_in (events.Wrote side) = []
 
 abbrev results : List Event → List Grant
 results history = flat_map result_in history
@@ -105,9 +111,10 @@ immediate_has_none (events.DeviceCalled call ∷ xs) = immediate_has_none xs
 immediate_has_none (events.Put side frames ∷ xs) = immediate_has_none xs
 immediate_has_none (events.Did origin effect frames ∷ xs) = immediate_has_none xs
 immediate_has_none (events.Took side bytes ∷ xs) = immediate_has_none xs
+immediate_has_none (events.Wrote side ∷ xs) = immediate_has_none xs
 
-each_has_none : (acts : List Act) (done : List Event) → Each acts done → results done ≡ []
-each_has_none acts done each = ap results (sym (each_does acts done each)) ∙ immediate_has_none done
+each_has_none : (waits : Bool) (acts : List Act) (done : List Event) → Each waits acts done → results done ≡ []
+each_has_none waits acts done each = ap results (sym (each_does waits acts done each)) ∙ immediate_has_none done
 
 effects_have_none : (origin : Origin) (done : List Done) → results (happened origin done) ≡ []
 effects_have_none origin [] = refl
@@ -116,7 +123,7 @@ effects_have_none origin (d ∷ done) = effects_have_none origin done
 messages_have_none : (now : ℕ) (side : Side) (messages : List Received) (s : State) (done : List Event) (t : State) → EachReceived now side messages s done t → results done ≡ []
 messages_have_none now side [] s done t (none, same) = ap results none
 messages_have_none now side (message ∷ messages) s done t (mid, first, more, is, one, rest) =
-    ap results is ∙ flat_map-append result_in first more ∙ ap (λ (z : List Grant). z ++ results more) (ap results one.are ∙ each_has_none (outcome_of s.core side message).actions one.immediate one.each)
+    ap results is ∙ flat_map-append result_in first more ∙ ap (λ (z : List Grant). z ++ results more) (ap results one.are ∙ each_has_none s.lock_waits (outcome_of s.core side message).actions one.immediate one.each)
     ∙ messages_have_none now side messages mid more t rest
 
 module _ (s : State) (before after : List Event) (grant : Grant) where
@@ -147,6 +154,7 @@ module _ (s : State) (before after : List Event) (grant : Grant) where
   here done t (Works w) is = absurd (no_result done (ap results w.are ∙ effects_have_none w.order.origin w.effects_done) is)
   here done t (Ends e) is = absurd (no_result done (ap results e.are) is)
   here done t (Takes side bytes taking) is = absurd (no_result done (ap results taking.are) is)
+  here done t (Writes side w) is = absurd (no_result done (ap results w.are) is)
 
 pub answered_once : (start : Start) (history : List Event) (s : State) → Steps (fresh start) history s → (before after : List Event) (grant : Grant) → history ≡ before ++ LockGranted grant ∷ after → waits_after false before ≡ true
 answered_once start history s Still before after grant is = absurd (none_after before (LockGranted grant) after (sym is))

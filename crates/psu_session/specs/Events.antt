@@ -62,8 +62,9 @@ pub data Event : Type 0 where
   Put : Side → List ℕ → Event
   -- an effect of the transmission of an origin, with the frames that it appends to the output of the synchronous connection
   Did : Origin → Effect → List ℕ → Event
-  -- bytes are taken from the output of a connection, to be written next
+  -- bytes are taken from the output of a connection, to be written next; and they are written
   Took : Side → List ℕ → Event
+  Wrote : Side → Event
 
 -- ---- calls of the device
 
@@ -77,6 +78,7 @@ calls_in (DeviceCalled call) = call ∷ []
 calls_in (Put side frames) = []
 calls_in (Did origin effect frames) = call_of effect ∷ []
 calls_in (Took side bytes) = []
+calls_in (Wrote side) = []
 
 abbrev pub calls : List Event → List Call
 calls history = flat_map calls_in history
@@ -111,6 +113,7 @@ waits_by waits (DeviceCalled call) = waits_by_call waits call
 waits_by waits (Put side frames) = waits
 waits_by waits (Did origin effect frames) = waits
 waits_by waits (Took side bytes) = waits
+waits_by waits (Wrote side) = waits
 
 -- and after events, one after another
 abbrev pub waits_after : Bool → List Event → Bool
@@ -145,6 +148,7 @@ put_by side (DeviceCalled call) = []
 put_by side (Put on frames) = if_same side on frames
 put_by side (Did origin effect frames) = if_same side Sync frames
 put_by side (Took on bytes) = []
+put_by side (Wrote on) = []
 
 abbrev pub put : Side → List Event → List ℕ
 put side history = flat_map (put_by side) history
@@ -160,6 +164,7 @@ taken_by side (DeviceCalled call) = []
 taken_by side (Put on frames) = []
 taken_by side (Did origin effect frames) = []
 taken_by side (Took on bytes) = if_same side on bytes
+taken_by side (Wrote on) = []
 
 abbrev pub taken : Side → List Event → List ℕ
 taken side history = flat_map (taken_by side) history
@@ -176,6 +181,7 @@ bytes_received_by side (DeviceCalled call) = []
 bytes_received_by side (Put on frames) = []
 bytes_received_by side (Did origin effect frames) = []
 bytes_received_by side (Took on bytes) = []
+bytes_received_by side (Wrote on) = []
 
 -- the bytes of a channel's stream
 abbrev pub bytes_received : Side → List Event → List ℕ
@@ -197,6 +203,7 @@ exchange_view (DeviceCalled call) = []
 exchange_view (Put side frames) = put_as side frames
 exchange_view (Did origin effect frames) = exchange.Did origin effect frames ∷ []
 exchange_view (Took side bytes) = []
+exchange_view (Wrote side) = []
 
 abbrev pub exchange_history : List Event → List exchange.Happening
 exchange_history history = flat_map exchange_view history

@@ -11,3 +11,7 @@ pub mod Served
 pub mod Requests
 pub mod Releases
 pub mod Waiting
+pub mod Writing
+pub mod Credit
+pub mod Holding
+pub mod Cleared

@@ -1,5 +1,5 @@
 -- The execution of what is queued, and the result of a call that continues it.
-use Rattle.std.specs.Prelude.{◌≡◌, ◌⊎◌, Bool, Some, None, Result, List, [], ◌∷◌}
+use Rattle.std.specs.Prelude.{◌≡◌, ◌⊎◌, ◌-◌, Bool, Some, None, Result, List, [], ◌∷◌}
 use Rattle.psu_locks.specs.declared.freed.Freed.{Freed}
 use Rattle.psu_locks.specs.declared.lock_refusal.LockRefusal.{LockRefusal}
 use Rattle.psu_tree.specs.declared.unit_request.Request.{Request}
@@ -9,9 +9,10 @@ use Rattle.psu_messages.specs.Effects.{Effect, IsTry, needs}
 use Rattle.psu_messages.specs.declared.need.Need.{Need}
 use Rattle.psu_messages.specs.declared.need.Need.TheVariants.{Turn}
 use Rattle.psu_exchange.specs.Exchange.{Order}
+use Rattle.psu_session.specs.Credit.{cost}
 use Rattle.psu_session.specs.Events.{Call, Event, LockReleased, Released, call_of}
 use Rattle.psu_session.specs.Step.{Steps, running}
-use Rattle.psu_session.specs.State.{Running, State, Work, Execute, ReleaseLock, added, with_work}
+use Rattle.psu_session.specs.State.{Running, State, Work, Execute, ReleaseLock, added, with_owed, with_work}
 use Rattle.psu_session.specs.Shown.{one_running}
 use Rattle.psu_session.specs.declared.next.Next.{Next}
 use Rattle.psu_session.specs.declared.next.Next.TheVariants as next
@@ -91,4 +92,4 @@ IsNextWork s next.Release t = IsNextRelease s t
 pub record Frees {X : Type 0} (does : X → Call → X → Type 0) (s : State) (x : X) (t : State) (y : X) : Type 0 where
   pub reply : Result Freed LockRefusal
   pub call : does x (Released reply) y
-  pub then : t ≡ added s [] [] (LockReleased reply ∷ [])
+  pub then : t ≡ added (with_owed s (s.owed - cost 0)) [] [] (LockReleased reply ∷ [])

@@ -5,7 +5,7 @@ use Rattle.psu_locks.specs.declared.freed.Freed.{Freed}
 use Rattle.psu_locks.specs.declared.lock_refusal.LockRefusal.{LockRefusal}
 use Rattle.psu_hislip.specs.Action.{Act}
 use Rattle.psu_exchange.specs.Exchange.{HasEnded, Order, Turn, asked, orders}
-use Rattle.psu_session.specs.Events.{Event, BytesReceived, LockGranted, ServiceRequested, LockReleased, Came, DeviceCalled, Put, Did, Took, exchange_history}
+use Rattle.psu_session.specs.Events.{Event, BytesReceived, LockGranted, ServiceRequested, LockReleased, Came, DeviceCalled, Put, Did, Took, Wrote, exchange_history}
 use Rattle.psu_session.specs.Step.{IsHistory, works_in}
 use Rattle.psu_session.specs.State.{Start, State, Work, Execute, ReleaseLock}
 
@@ -20,6 +20,7 @@ released_in (DeviceCalled call) = []
 released_in (Put side frames) = []
 released_in (Did origin effect frames) = []
 released_in (Took side bytes) = []
+released_in (Wrote side) = []
 
 abbrev pub released : List Event → List (Result Freed LockRefusal)
 released history = flat_map released_in history

@@ -46,4 +46,8 @@ state_of parts = record {
   lock_waits = parts.lock_waits;
   sync = parts.sync_output.items;
   async = parts.async_output.items;
+  sync_writes = parts.sync_writes;
+  async_writes = parts.async_writes;
+  held = parts.held.out;
+  owed = parts.owed.out;
 }

@@ -1,5 +1,5 @@
 -- The state of a session between its calls.
-use Rattle.std.specs.Prelude.{ℕ, ◌-◌, ◌||◌, not, nat_le, Bool, false, Option, Some, None, List, [], ◌∷◌, ◌++◌, flat_map, if◌then◌else◌}
+use Rattle.std.specs.Prelude.{◌≢◌, ◌⊎◌, ℕ, ◌+◌, ◌-◌, ◌||◌, not, nat_le, Bool, false, Option, Some, None, List, [], ◌∷◌, ◌++◌, flat_map, if◌then◌else◌}
 use Rattle.psu_hislip.specs.Channel.{Awaited}
 use Rattle.psu_hislip.specs.Core.{Core}
 use Rattle.psu_hislip.specs.Runs.{started}
@@ -8,6 +8,7 @@ use Rattle.psu_hislip.specs.declared.side.Side.TheVariants.{Sync, Async}
 use Rattle.psu_sessions.specs.Order.{is_ahead}
 use Rattle.psu_messages.specs.Executions.{Progress}
 use Rattle.psu_exchange.specs.Exchange.{Order}
+use Rattle.psu_session.specs.Credit.{cost, held_with}
 use Rattle.psu_session.specs.Events.{Event, put, waits_after}
 
 -- a transmission in execution, and its progress
@@ -33,10 +34,16 @@ pub record Release : Type 0 where
   pub number : ℕ
   pub requested_at : ℕ
 
+-- how much releases count as once these are counted too
+abbrev pub owed_with : List Release → ℕ → ℕ
+owed_with [] owed = owed
+owed_with (release ∷ releases) owed = owed_with releases (owed + cost 0)
+
 -- The frame readers of the two channels; the core of the protocol; the queue of what was received and has not begun, in
 -- the order of arrival; the releases that wait for a message, and the number of the message that was received last; the
--- transmission in execution; whether a lock request waits for its result; and the bytes that are to be sent on each
--- connection.
+-- transmission in execution; whether a lock request waits for its result; the bytes that are to be sent on each
+-- connection; whether somebody writes bytes there that were taken before; and how much the transmissions that are queued
+-- or in execution count as, and the releases that are queued or wait.
 pub record State : Type 0 where
   pub sync_channel : Awaited
   pub async_channel : Awaited
@@ -48,6 +55,10 @@ pub record State : Type 0 where
   pub lock_waits : Bool
   pub sync : List ℕ
   pub async : List ℕ
+  pub sync_writes : Bool
+  pub async_writes : Bool
+  pub held : ℕ
+  pub owed : ℕ
 
 -- the start of a session: its number and its channels
 pub record Start : Type 0 where
@@ -69,6 +80,10 @@ fresh start = record {
   lock_waits = false;
   sync = [];
   async = [];
+  sync_writes = false;
+  async_writes = false;
+  held = 0;
+  owed = 0;
 }
 
 abbrev pub channel_of : Side → State → Awaited
@@ -81,7 +96,15 @@ with_channel Async s channel = record s { async_channel = channel }
 
 -- with items, releases and the frames of events appended, and the lock request that waits after these events
 abbrev pub added : State → List Work → List Release → List Event → State
-added s works requested done = record s { waiting = s.waiting ++ works; releases = s.releases ++ requested; lock_waits = waits_after s.lock_waits done; sync = s.sync ++ put Sync done; async = s.async ++ put Async done }
+added s works requested done = record s {
+  waiting = s.waiting ++ works;
+  releases = s.releases ++ requested;
+  lock_waits = waits_after s.lock_waits done;
+  sync = s.sync ++ put Sync done;
+  async = s.async ++ put Async done;
+  held = held_with (orders_in works) s.held;
+  owed = owed_with requested s.owed;
+}
 
 abbrev pub with_core : State → Core → State
 with_core s core = record s { core = core }
@@ -89,6 +112,12 @@ with_core s core = record s { core = core }
 -- with this queue and this transmission in execution
 abbrev pub with_work : State → List Work → Option Running → State
 with_work s waiting running = record s { waiting = waiting; running = running }
+
+abbrev pub with_held : State → ℕ → State
+with_held s held = record s { held = held }
+
+abbrev pub with_owed : State → ℕ → State
+with_owed s owed = record s { owed = owed }
 
 abbrev pub with_releases : State → List Work → List Release → State
 with_releases s waiting releases = record s { waiting = waiting; releases = releases }
@@ -105,6 +134,19 @@ output Async s = s.async
 abbrev pub with_output : Side → State → List ℕ → State
 with_output Sync s bytes = record s { sync = bytes }
 with_output Async s bytes = record s { async = bytes }
+
+-- whether somebody writes on a connection
+abbrev pub writes : Side → State → Bool
+writes Sync s = s.sync_writes
+writes Async s = s.async_writes
+
+abbrev pub with_writes : Side → State → Bool → State
+with_writes Sync s writing = record s { sync_writes = writing }
+with_writes Async s writing = record s { async_writes = writing }
+
+-- something is to be executed
+abbrev pub HasWork : State → Type 0
+HasWork s = (s.running ≢ None) ⊎ (s.waiting ≢ [])
 
 -- ---- releases
 
@@ -125,7 +167,7 @@ left all now last (release ∷ releases) = if is_due all now last release then l
 abbrev pub settled : Bool → ℕ → State → State
 settled all now s = with_releases s (s.waiting ++ due all now s.last s.releases) (left all now s.last s.releases)
 
--- a session as contracts see it: whether it is over, since an allocation failed, and its state
+-- a session as contracts see it: whether it is over, since an allocation failed or a connection ended, and its state
 pub record Shown : Type 0 where
   pub over : Bool
   pub state : State

@@ -1,7 +1,7 @@
 -- The steps of a session from one state to another, with the events of each. Source: IVI-6.1 (what a message requests is
 -- done; a response has the MessageID of its transmission, and a device clear discards it) and IEEE 488.2, 6 (messages are
 -- executed in the order of their arrival).
-use Rattle.std.specs.Prelude.{◌≡◌, ◌⊎◌, ℕ, Bool, true, false, Option, Some, None, Result, Ok, List, [], ◌∷◌, ◌++◌, map, flat_map}
+use Rattle.std.specs.Prelude.{◌≡◌, ◌⊎◌, ℕ, ◌-◌, Bool, true, false, Option, Some, None, Result, Ok, List, [], ◌∷◌, ◌++◌, map, flat_map}
 use Rattle.psu_locks.specs.declared.freed.Freed.{Freed}
 use Rattle.psu_locks.specs.declared.grant.Grant.{Grant}
 use Rattle.psu_locks.specs.declared.info.Info.{Info}
@@ -26,15 +26,11 @@ use Rattle.psu_sides.specs.Messages.{clears, number, parameter}
 use Rattle.psu_messages.specs.Executions.{Reaches, Progress, IsOver, beginning}
 use Rattle.psu_messages.specs.Effects.{Effect}
 use Rattle.psu_exchange.specs.Exchange.{Done, IsFramed, Order, effects, frames, order_in}
-use Rattle.psu_session.specs.Events.{Delivered, Queried, Informed, Locked, Cleared, Event, BytesReceived, LockGranted, ServiceRequested, LockReleased, Came, DeviceCalled, Put, Did, Took}
-use Rattle.psu_session.specs.State.{Running, Release, Start, State, Work, Execute, ReleaseLock, added, channel_of, fresh, numbered, output, settled, with_channel, with_core, with_output, with_work}
+use Rattle.psu_session.specs.Credit.{cost, cost_of}
+use Rattle.psu_session.specs.Events.{Delivered, Queried, Informed, Locked, Cleared, Event, BytesReceived, LockGranted, ServiceRequested, LockReleased, Came, DeviceCalled, Put, Did, Took, Wrote, waits_after}
+use Rattle.psu_session.specs.State.{Running, Release, Start, State, Work, Execute, ReleaseLock, added, channel_of, fresh, numbered, output, settled, with_channel, with_core, with_held, with_output, with_owed, with_work, with_writes, writes}
 
 -- ---- what a message requests
-
--- the events for each of a list, in its order
-abbrev pub EachIn : {T : Type 0} → (T → List Event → Type 0) → List T → List Event → Type 0
-EachIn Are [] done = done ≡ []
-EachIn Are (x ∷ xs) done = (first : List Event) × (more : List Event) × (done ≡ first ++ more) × Are x first × EachIn Are xs more
 
 -- a message without payload is appended to the output of the asynchronous connection
 abbrev pub puts : Header → List Event
@@ -52,31 +48,34 @@ delivers false = []
 abbrev pub IsQueried : Bool → List Event → Type 0
 IsQueried delivered done = (byte : ℕ) × (done ≡ delivers delivered ++ (DeviceCalled (Queried byte) ∷ puts (header_of AsyncStatusResponse byte 0 0)))
 
--- A lock request is answered with its result; one that waits is not answered yet. A string that no lock has is refused.
-abbrev pub IsLocked : ℕ → Option Kind → List Event → Type 0
-IsLocked timeout None done = done ≡ puts (lock_answer Error)
-IsLocked timeout (Some kind) done = (reply : Result Grant LockRefusal) × (done ≡ DeviceCalled (Locked kind timeout reply) ∷ puts_any (lock_response reply))
+-- A lock request is answered with its result; one that waits is not answered yet. While a request waits another one is
+-- refused, and so is a string that no lock has.
+abbrev pub IsLocked : Bool → ℕ → Option Kind → List Event → Type 0
+IsLocked true timeout kind done = done ≡ puts (lock_answer Error)
+IsLocked false timeout None done = done ≡ puts (lock_answer Error)
+IsLocked false timeout (Some kind) done = (reply : Result Grant LockRefusal) × (done ≡ DeviceCalled (Locked kind timeout reply) ∷ puts_any (lock_response reply))
 
 abbrev pub IsInformed : List Event → Type 0
 IsInformed done = (info : Info) × (done ≡ DeviceCalled (Informed info) ∷ puts (lock_info_response info))
 
--- the events of an action of a message; a transmission or a release is queued
-abbrev pub Does : Act → List Event → Type 0
-Does (Act.Send side frames) done = done ≡ Put side frames ∷ []
-Does (Act.Execute origin bytes) done = done ≡ []
-Does (Act.TooMuch origin) done = done ≡ []
-Does (Act.Trigger origin) done = done ≡ []
-Does Act.Delivered done = done ≡ DeviceCalled Delivered ∷ []
-Does (Act.Status delivered) done = IsQueried delivered done
-Does (Act.Lock timeout string) done = IsLocked timeout (kind_of string) done
-Does Act.Release done = done ≡ []
-Does Act.Info done = IsInformed done
-Does Act.Clear done = done ≡ DeviceCalled Cleared ∷ []
-Does Act.Closed done = done ≡ []
+-- the events of an action of a message, where a lock request waits or none does; a transmission or a release is queued
+abbrev pub Does : Bool → Act → List Event → Type 0
+Does waits (Act.Send side frames) done = done ≡ Put side frames ∷ []
+Does waits (Act.Execute origin bytes) done = done ≡ []
+Does waits (Act.TooMuch origin) done = done ≡ []
+Does waits (Act.Trigger origin) done = done ≡ []
+Does waits Act.Delivered done = done ≡ DeviceCalled Delivered ∷ []
+Does waits (Act.Status delivered) done = IsQueried delivered done
+Does waits (Act.Lock timeout string) done = IsLocked waits timeout (kind_of string) done
+Does waits Act.Release done = done ≡ []
+Does waits Act.Info done = IsInformed done
+Does waits Act.Clear done = done ≡ DeviceCalled Cleared ∷ []
+Does waits Act.Closed done = done ≡ []
 
 -- the events of all actions of a message, each once and in order
-abbrev pub Each : List Act → List Event → Type 0
-Each actions = EachIn Does actions
+abbrev pub Each : Bool → List Act → List Event → Type 0
+Each waits [] done = done ≡ []
+Each waits (act ∷ acts) done = (first : List Event) × (more : List Event) × (done ≡ first ++ more) × Does waits act first × Each (waits_after waits first) acts more
 
 -- the transmission that an action queues
 abbrev pub works_in : Act → List Work
@@ -101,7 +100,7 @@ arrived now side message acts s immediate =
 -- A message is passed to the core at a time in milliseconds, and what it requests is done or queued.
 pub record IsMessageReceived (now : ℕ) (side : Side) (message : Received) (s : State) (done : List Event) (t : State) : Type 0 where
   pub immediate : List Event
-  pub each : Each (outcome_of s.core side message).actions immediate
+  pub each : Each s.lock_waits (outcome_of s.core side message).actions immediate
   pub are : done ≡ Came side message ∷ immediate
   pub then : t ≡ arrived now side message (outcome_of s.core side message).actions (with_core s (outcome_of s.core side message).core) immediate
 
@@ -178,7 +177,7 @@ pub record IsLockReleased (s : State) (done : List Event) (t : State) : Type 0 w
   pub first : s.waiting ≡ ReleaseLock ∷ later
   pub reply : Result Freed LockRefusal
   pub are : done ≡ LockReleased reply ∷ []
-  pub then : t ≡ added (with_work s later None) [] [] done
+  pub then : t ≡ added (with_owed (with_work s later None) (s.owed - cost 0)) [] [] done
 
 -- Effects advance the transmission in execution. Nothing has ended it, and its responses are framed for the message size
 -- that the client accepts.
@@ -201,16 +200,22 @@ pub record IsEnded (s : State) (done : List Event) (t : State) : Type 0 where
   pub is : s.running ≡ Some (running order progress)
   pub ended : IsOver order.source progress ⊎ (IsCurrent s.core order.origin → ⊥)
   pub are : done ≡ []
-  pub then : t ≡ with_work s s.waiting None
+  pub then : t ≡ with_held (with_work s s.waiting None) (s.held - cost_of order)
 
 -- ---- the output
 
--- the first bytes of the output of a connection are taken
+-- All bytes of the output of a connection are taken. Nobody wrote there, and who takes them writes them.
 pub record IsTaken (side : Side) (bytes : List ℕ) (s : State) (done : List Event) (t : State) : Type 0 where
-  pub rest : List ℕ
-  pub first : output side s ≡ bytes ++ rest
+  pub free : writes side s ≡ false
+  pub all : output side s ≡ bytes
+  pub some : bytes ≡ [] → ⊥
   pub are : done ≡ Took side bytes ∷ []
-  pub then : t ≡ with_output side s rest
+  pub then : t ≡ with_writes side (with_output side s []) true
+
+-- the bytes that were taken for a connection are written
+pub record IsWritten (side : Side) (s : State) (done : List Event) (t : State) : Type 0 where
+  pub are : done ≡ Wrote side ∷ []
+  pub then : t ≡ with_writes side s false
 
 -- ---- a session
 
@@ -223,6 +228,7 @@ pub data Step (s : State) (done : List Event) (t : State) : Type 0 where
   ReleasesLock : IsLockReleased s done t → Step s done t
   Ends : IsEnded s done t → Step s done t
   Takes : (side : Side) (bytes : List ℕ) → IsTaken side bytes s done t → Step s done t
+  Writes : (side : Side) → IsWritten side s done t → Step s done t
 
 -- steps one after another
 pub data Steps (s : State) : List Event → State → Type 0 where

@@ -1,5 +1,5 @@
 // What is done immediately for an action of a message.
-ghost use Rattle.std.specs.Prelude.{◌≡◌, OnOk, [], ◌∷◌, Some};
+ghost use Rattle.std.specs.Prelude.{◌≡◌, OnOk, [], ◌∷◌, Some, false};
 ghost use Rattle.psu_hislip.specs.Action.{act};
 ghost use Rattle.psu_hislip.specs.Header.{header_bytes};
 ghost use Rattle.psu_hislip.specs.declared.side.Side.TheVariants.{Async};
@@ -55,10 +55,9 @@ impl Parts {
     fn order(&mut self, origin: Origin, input: Input<Global>) -> Result<(), Ended>
         ensures { OnOk result (state_of self.new ≡ added (state_of self.old) (Execute (order_of (record { origin = origin; input = input })) ∷ []) [] []) }
     {
-        match self
-            .waiting
-            .push_back(Work::Execute(Order { origin, input }))
-        {
+        let order = Order { origin, input };
+        self.held.take(order.size())?;
+        match self.waiting.push_back(Work::Execute(order)) {
             Ok(()) => Ok(()),
             Err(_) => Err(Ended),
         }
@@ -68,6 +67,7 @@ impl Parts {
     fn ask_release(&mut self, now: u64, number: u32) -> Result<(), Ended>
         ensures { OnOk result (state_of self.new ≡ added (state_of self.old) [] (record { number = number; requested_at = now } ∷ []) []) }
     {
+        self.owed.take(0)?;
         match self.releases.push_back(Release {
             number,
             requested_at: now,
@@ -93,7 +93,7 @@ impl Parts {
         timeout: u32,
         kind: Kind,
     ) -> Result<(), Ended>
-        ensures { OnOk result (Appends D.does (IsLocked timeout (Some kind)) [] [] (state_of self.old) device.old (state_of self.new) device.new) }
+        ensures { OnOk result (Appends D.does (IsLocked false timeout (Some kind)) [] [] (state_of self.old) device.old (state_of self.new) device.new) }
     {
         let reply = device.lock(kind, timeout);
         match lock_response(reply) {
@@ -105,15 +105,19 @@ impl Parts {
         }
     }
 
-    // Requests the lock of a string. A string that no lock has is refused.
+    // Requests the lock of a string. A string that no lock has is refused, and so is a request while another one waits: its
+    // result could else be taken for that of the first.
     fn answer_lock<D: Device>(
         &mut self,
         device: &mut D,
         timeout: u32,
         string: &[u8],
     ) -> Result<(), Ended>
-        ensures { OnOk result (Appends D.does (IsLocked timeout (kind_of string.now)) [] [] (state_of self.old) device.old (state_of self.new) device.new) }
+        ensures { OnOk result (Appends D.does (IsLocked (state_of self.old).lock_waits timeout (kind_of string.now)) [] [] (state_of self.old) device.old (state_of self.new) device.new) }
     {
+        if self.lock_waits {
+            return self.put_header(LockResponse::Error.header());
+        }
         match lock_kind(string) {
             Some(kind) => self.ask_for_lock(device, timeout, kind),
             None => self.put_header(LockResponse::Error.header()),
@@ -136,7 +140,7 @@ impl Parts {
         number: u32,
         action: Action<Global>,
     ) -> Result<(), Ended>
-        ensures { OnOk result (Appends D.does (Does (act action)) (works_in (act action)) (release_in now number (act action)) (state_of self.old) device.old (state_of self.new) device.new) }
+        ensures { OnOk result (Appends D.does (Does (state_of self.old).lock_waits (act action)) (works_in (act action)) (release_in now number (act action)) (state_of self.old) device.old (state_of self.new) device.new) }
     {
         match action {
             Action::Send(side, frames) => self.put(side, frames.as_slice()),

@@ -16,7 +16,7 @@ use psu_sessions::Input;
 use std::alloc::Global;
 
 /// The number of units that a call tries before others are let in.
-const UNITS: u32 = 64;
+const UNITS: u32 = 4_096;
 
 /// The number of bytes of output at which others are let in.
 const ROOM: usize = 65_536;

@@ -1,9 +1,12 @@
 // Laws of whole histories.
+ghost use Rattle.psu_session.specs.Cleared.{EachClearIsAcknowledgedLast};
 ghost use Rattle.psu_session.specs.History.{HistoriesExtend, HistoriesAreExchanges};
+ghost use Rattle.psu_session.specs.Holding.{EachReleaseIsCounted, EachTransmissionIsCounted};
 ghost use Rattle.psu_session.specs.Releases.{EachReleaseIsDone, EachReleaseIsInPlace};
 ghost use Rattle.psu_session.specs.Requests.{EachRequestIsServed};
 ghost use Rattle.psu_session.specs.Served.{EachSessionIsServed};
-ghost use Rattle.psu_session.specs.Waiting.{EachWaitIsAnsweredOnce, TheWaitIsKnown};
+ghost use Rattle.psu_session.specs.Waiting.{EachWaitIsAnsweredOnce, OneRequestWaits, TheWaitIsKnown};
+ghost use Rattle.psu_session.specs.Writing.{EachTakeIsWritten, TheWriterIsKnown};
 
 use psu_exchange::from_bytes_to_bytes;
 
@@ -41,7 +44,30 @@ pub fn each_release_is_done()
 {}
 
 /// A lock request that waits is answered once: its result is passed on only while it waits, and then it waits no longer.
+/// At most one request waits at a time, since the device is asked for no other one meanwhile.
 pub fn each_wait_is_answered()
     ensures known { TheWaitIsKnown }
     ensures once { EachWaitIsAnsweredOnce }
+    ensures one { OneRequestWaits }
 {}
+
+/// On each connection the bytes that were taken are written before others are taken.
+pub fn each_take_is_written()
+    ensures known { TheWriterIsKnown }
+    ensures written { EachTakeIsWritten }
+{}
+
+/// What a session holds is counted: each transmission until it is over or dropped, and each release until it is done.
+pub fn each_item_is_counted()
+    ensures transmissions { EachTransmissionIsCounted }
+    ensures releases { EachReleaseIsCounted }
+{}
+
+/// A device clear is acknowledged after every response to what was received before it: what is sent on the synchronous
+/// connection once the clear has begun, as DeviceClearAcknowledge, is followed by no such response.
+pub fn each_clear_is_acknowledged_last()
+    ensures { EachClearIsAcknowledgedLast }
+{
+    histories_are_exchanges();
+    each_session_is_served();
+}

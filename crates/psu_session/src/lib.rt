@@ -4,10 +4,12 @@
 #![tactic(auto)]
 
 mod acting;
+mod credit;
 mod device;
 mod ended;
 mod execution;
 mod feeding;
+mod filling;
 mod laws;
 mod next;
 mod notifying;
@@ -24,10 +26,12 @@ mod session;
 mod taking;
 mod work;
 
+use credit::Credit;
 pub use device::Device;
 pub use ended::Ended;
 pub use laws::{
-    each_release_is_done, each_request_is_served, each_session_is_served, each_wait_is_answered,
+    each_clear_is_acknowledged_last, each_item_is_counted, each_release_is_done,
+    each_request_is_served, each_session_is_served, each_take_is_written, each_wait_is_answered,
     histories_are_exchanges, histories_extend,
 };
 use order::Order;

@@ -4,7 +4,7 @@ ghost use Rattle.psu_hislip.specs.Channel.{Awaited, Fed};
 ghost use Rattle.psu_session.specs.Shown.{state_of};
 ghost use Rattle.psu_session.specs.State.{fresh};
 
-use crate::{Release, Running, Work};
+use crate::{Credit, Release, Running, Work};
 use psu_hislip::{Channel, SessionCore};
 use psu_sides::BEFORE_FIRST;
 use std::alloc::Global;
@@ -33,6 +33,14 @@ pub struct Parts {
     pub sync_output: Vec<u8>,
     /// The bytes that are to be sent on the asynchronous connection.
     pub async_output: Vec<u8>,
+    /// Whether somebody writes bytes on the synchronous connection that were taken before.
+    pub sync_writes: bool,
+    /// Whether somebody writes bytes on the asynchronous connection that were taken before.
+    pub async_writes: bool,
+    /// How much the transmissions that are queued or in execution count as.
+    pub held: Credit,
+    /// How much the releases that are queued or wait count as.
+    pub owed: Credit,
 }
 
 impl Parts {
@@ -52,6 +60,10 @@ impl Parts {
             lock_waits: false,
             sync_output: Vec::new(alloc),
             async_output: Vec::new(alloc),
+            sync_writes: false,
+            async_writes: false,
+            held: Credit::new(),
+            owed: Credit::new(),
         }
     }
 }

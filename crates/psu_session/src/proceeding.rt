@@ -1,9 +1,9 @@
 // The execution of what is queued.
-ghost use Rattle.std.specs.Prelude.{◌≡◌, [], Some, None, IfOk, IfSome, IsNone, OnOk};
+ghost use Rattle.std.specs.Prelude.{◌≡◌, ◌↔◌, IsTrue, [], Some, None, IfOk, IfSome, IsNone, OnOk};
 ghost use Rattle.psu_session.specs.Proceeding.{Awaits, Frees, Proceeds, IsNext, IsNextWork};
 ghost use Rattle.psu_session.specs.Serving.{PerformsStep};
 ghost use Rattle.psu_session.specs.Shown.{one_running, state_of};
-ghost use Rattle.psu_session.specs.State.{State};
+ghost use Rattle.psu_session.specs.State.{HasWork, State};
 
 use crate::execution::advance;
 use crate::next::Next;
@@ -34,6 +34,7 @@ impl Parts {
     fn release_lock<D: Device>(&mut self, device: &mut D) -> Result<(), Ended>
         ensures { OnOk result (Frees D.does (state_of self.old) device.old (state_of self.new) device.new) }
     {
+        self.owed.give_back(0);
         let freed = device.release();
         self.put_header(release_response(freed))
     }
@@ -45,6 +46,7 @@ impl Parts {
     {
         let mut running = running;
         if !self.core.is_current(running.order.origin) {
+            self.held.give_back(running.order.size());
             return Ok(Proceeded::Completed);
         }
         let need = advance(
@@ -55,12 +57,22 @@ impl Parts {
             &mut running,
         )?;
         match need {
-            None => Ok(Proceeded::Completed),
+            None => {
+                self.held.give_back(running.order.size());
+                Ok(Proceeded::Completed)
+            }
             Some(need) => {
                 self.running = Some(running);
                 Ok(Proceeded::Waits(need))
             }
         }
+    }
+
+    /// Whether something is to be executed.
+    pub fn has_work(&self) -> bool
+        ensures { IsTrue result ↔ HasWork (state_of self.now) }
+    {
+        self.running.is_some() || !self.waiting.is_empty()
     }
 
     /// Continues the transmission in execution, or takes the first item of the queue, until a unit has to wait or others

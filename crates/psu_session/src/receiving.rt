@@ -56,7 +56,7 @@ impl Parts {
         number: u32,
         actions: Vec<Action<Global>>,
     ) -> Result<(), Ended>
-        ensures { OnOk result (Appends D.does (Each (acts actions.items)) (flat_map works_in (acts actions.items)) (flat_map (release_in now number) (acts actions.items)) (state_of self.old) device.old
+        ensures { OnOk result (Appends D.does (Each (state_of self.old).lock_waits (acts actions.items)) (flat_map works_in (acts actions.items)) (flat_map (release_in now number) (acts actions.items)) (state_of self.old) device.old
             (state_of self.new) device.new) }
     {
         let mut rest = actions.into_iter();

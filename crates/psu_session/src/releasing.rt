@@ -1,6 +1,6 @@
 // Releases of locks, each after the message that its client sent last.
 ghost use Rattle.std.specs.Prelude.{◌≡◌, OnOk};
-ghost use Rattle.psu_session.specs.Releasing.{is_first_due};
+ghost use Rattle.psu_session.specs.Releasing.{due_at, is_first_due};
 ghost use Rattle.psu_session.specs.Shown.{release_of, releases_of, state_of};
 ghost use Rattle.psu_session.specs.State.{is_due, settled};
 
@@ -28,6 +28,14 @@ impl Parts {
             Some(release) => release.is_due(all, now, self.last),
             None => false,
         }
+    }
+
+    /// Returns when the wait of the first release is over at the latest.
+    pub fn next_due(&self) -> Option<u64>
+        ensures { result ≡ due_at (releases_of self.now.releases.items) }
+    {
+        let release = self.releases.front()?;
+        Some(release.requested_at.saturating_add(PATIENCE))
     }
 
     /// Queues the releases whose wait is over.

@@ -1,24 +1,28 @@
 // A session.
-ghost use Rattle.std.specs.Prelude.{◌≡◌, true, false, [], ◌∷◌, IfOk, OnOk, OnErr};
+ghost use Rattle.std.specs.Prelude.{◌≡◌, ◌⊎◌, ◌↔◌, ◌+◌, IsTrue, true, false, [], ◌∷◌, IfOk, OnOk, OnErr, IfSome, IsNone, IsTrue};
 ghost use Rattle.psu_hislip.specs.Channel.{Fed};
+ghost use Rattle.psu_hislip.specs.Frame.{header_of};
 ghost use Rattle.psu_hislip.specs.Stream.{Received};
-ghost use Rattle.psu_session.specs.Events.{Took};
+ghost use Rattle.psu_hislip.specs.declared.message_type.MessageType.TheVariants.{InitializeResponse};
+ghost use Rattle.psu_session.specs.Events.{Took, Wrote};
 ghost use Rattle.psu_session.specs.History.{HasExchangeHistory};
-ghost use Rattle.psu_session.specs.Step.{IsReceived, IsServiceRequested, IsTaken, IsTicked, IsLockGranted};
+ghost use Rattle.psu_session.specs.Holding.{IsBounded, IsFull};
+ghost use Rattle.psu_session.specs.Releasing.{due_at};
+ghost use Rattle.psu_session.specs.Step.{IsReceived, IsServiceRequested, IsTaken, IsTicked, IsLockGranted, IsWritten};
 ghost use Rattle.psu_session.specs.Proceeding.{Awaits, Proceeds};
 ghost use Rattle.psu_session.specs.Serving.{Appends, PerformsStep};
-ghost use Rattle.psu_session.specs.State.{Start, fresh};
+ghost use Rattle.psu_session.specs.State.{HasWork, Start, fresh, output, writes};
 
 use crate::laws::histories_are_exchanges;
 use crate::opening::opened;
 use crate::{Device, Ended, Parts, Proceeded};
-use psu_hislip::Side;
+use psu_hislip::{Header, Side};
 use psu_locks::Grant;
 use std::alloc::Global;
 use std::marker::Model;
 
 /// A session. Contracts see its state. At any time there is a history that leads to this state, unless an allocation
-/// has failed: then the session is over, and each call returns an error.
+/// has failed or a connection has ended: then the session is over, and each call returns an error.
 #[derive(Drop)]
 pub struct Session {
     parts: Parts,
@@ -53,8 +57,8 @@ impl Session {
         })
     }
 
-    /// Whether the session is over, since an allocation failed. Until then a history leads to its state, and this
-    /// history is an exchange of its two streams of bytes.
+    /// Whether the session is over, since an allocation failed or a connection ended. Until then a history leads to its
+    /// state, and this history is an exchange of its two streams of bytes.
     pub fn has_ended(&self) -> bool
         ensures is { result ≡ self.now.over }
         ensures history { self.now.over ≡ false → HasExchangeHistory self.now.state }
@@ -162,16 +166,83 @@ impl Session {
         done
     }
 
-    /// Takes all bytes that are to be sent on a connection.
-    pub fn take_output(&mut self, side: Side) -> Result<Vec<u8>, Ended>
+    /// Ends the session: a connection has ended.
+    pub fn end(&mut self)
+        ensures over { self.new.over ≡ true }
+        ensures state { self.new.state ≡ self.old.state }
+    {
+        self.over = true;
+    }
+
+    /// Returns when the wait of the first release is over at the latest, in milliseconds, if a release waits. `tick` is
+    /// due then.
+    pub fn next_due(&self) -> Option<u64>
+        ensures { result ≡ due_at self.now.state.releases }
+    {
+        self.parts.next_due()
+    }
+
+    /// Whether so much is held of what was received on a connection, or is to be sent there, that its reader waits: more
+    /// than a mebibyte, each item counting as its bytes and 128, or more than 65,536 bytes. What is held never counts as
+    /// more than four mebibytes, even where the reader does not wait: the session is over before that.
+    pub fn is_full(&self, side: Side) -> bool
+        ensures full { IsTrue result ↔ IsFull side self.now.state }
+        ensures bounded { IsBounded self.now.state }
+    {
+        self.parts.is_full(side)
+    }
+
+    /// Whether bytes are to be sent on a connection.
+    pub fn has_output(&self, side: Side) -> bool
+        ensures { (result ≡ false) ↔ (output side self.now.state ≡ []) }
+    {
+        self.parts.has_output(side)
+    }
+
+    /// Whether a thread writes bytes on a connection that were taken before.
+    pub fn writes(&self, side: Side) -> bool
+        ensures { result ≡ writes side self.now.state }
+    {
+        self.parts.is_writing(side)
+    }
+
+    /// Whether something is to be executed: a transmission, or the release of a lock.
+    pub fn has_work(&self) -> bool
+        ensures { IsTrue result ↔ HasWork self.now.state }
+    {
+        self.parts.has_work()
+    }
+
+    /// Returns the response to the session's Initialize.
+    pub fn response(&self) -> Header
+        ensures { result ≡ header_of InitializeResponse 0 (16777216 + self.now.state.core.session) 0 }
+    {
+        self.parts.core.response()
+    }
+
+    /// Takes all bytes that are to be sent on a connection, for the caller to write. There are none where somebody still
+    /// writes there, until `written` is called, or where nothing is to be sent.
+    pub fn take_output(&mut self, side: Side) -> Result<Option<Vec<u8>>, Ended>
         ensures was { OnOk result (self.old.over ≡ false) }
         ensures continues { OnOk result (self.new.over ≡ false) }
-        ensures done { IfOk result (λ bytes. IsTaken side bytes.items self.old.state (Took side bytes.items ∷ []) self.new.state) }
+        ensures some { IfOk result (λ taken. IfSome taken (λ bytes. IsTaken side bytes.items self.old.state (Took side bytes.items ∷ []) self.new.state)) }
+        ensures none { IfOk result (λ taken. IsNone taken → (self.new.state ≡ self.old.state) × ((writes side self.old.state ≡ true) ⊎ (output side self.old.state ≡ []))) }
         ensures ended { OnErr result ((self.old.over ≡ true) × (self.new ≡ self.old)) }
     {
         if self.over {
             return Err(Ended);
         }
         Ok(self.parts.take(side))
+    }
+
+    /// The bytes that were taken for a connection are written. Where the session is over, nothing changes.
+    pub fn written(&mut self, side: Side)
+        ensures done { self.old.over ≡ false → IsWritten side self.old.state (Wrote side ∷ []) self.new.state × (self.new.over ≡ false) }
+        ensures over { self.old.over ≡ true → self.new ≡ self.old }
+    {
+        if self.over {
+            return;
+        }
+        self.parts.written(side);
     }
 }

@@ -9,9 +9,13 @@ mod faults;
 #[cfg(test)]
 mod frames;
 #[cfg(test)]
+mod full;
+#[cfg(test)]
 mod locks;
 #[cfg(test)]
 mod mem_device;
+#[cfg(test)]
+mod outputs;
 #[cfg(test)]
 mod player;
 #[cfg(test)]

@@ -53,6 +53,40 @@ tick 1000 fails 2
 2 refused
 2 reports AsyncLockResponse 0
 
+== A second request is refused while one waits, whatever it asks for
+1 opens
+1 joins
+2 opens
+2 joins
+1 async AsyncLock 1 0
+1 reports AsyncLockResponse 1
+2 async AsyncLock 1 1000
+2 reports nothing
+2 async AsyncLock 1 0 & AsyncLock 1 0 k & AsyncLock 1 0 {k*257}
+2 reports AsyncLockResponse 3 & AsyncLockResponse 3 & AsyncLockResponse 3
+locks exclusive 1
+
+== A second request is refused while the grant of the first is on its way
+1 opens
+1 joins
+2 opens
+2 joins
+1 async AsyncLock 1 0
+1 reports AsyncLockResponse 1
+2 async AsyncLock 1 1000
+1 async AsyncLock 0 xfffffefe
+1 runs idle
+1 reports AsyncLockResponse 1
+locks exclusive 1
+2 async AsyncLock 1 0 k
+2 reports AsyncLockResponse 3
+2 granted
+2 reports AsyncLockResponse 1
+2 async AsyncLock 1 0 k & AsyncLock 0 xfffffefe & AsyncLock 0 xfffffefe
+2 runs idle
+2 reports AsyncLockResponse 1 & AsyncLockResponse 1 & AsyncLockResponse 2
+locks shared 0
+
 == A result where no request waits
 1 opens
 1 joins

@@ -35,13 +35,23 @@ fn play_anew(rt: &impl Abort, alloc: Global, size: usize, script: &str) {
     play_on(rt, &mut exec, alloc, size, script);
 }
 
-/// Plays scripts, each of which begins with a line `== ` and its title, on new devices.
-pub fn play(rt: &impl Abort, alloc: Global, scripts: &str) {
+// Plays scripts on new devices, with each of these many bytes at once.
+fn play_sizes(rt: &impl Abort, alloc: Global, scripts: &str, sizes: &[usize]) {
     let mut parts = scripts.split("\n== ");
     let _ = parts.next();
     for script in parts {
-        for size in SIZES {
+        for &size in sizes {
             play_anew(rt, alloc, size, script);
         }
     }
+}
+
+/// Plays scripts, each of which begins with a line `== ` and its title, on new devices.
+pub fn play(rt: &impl Abort, alloc: Global, scripts: &str) {
+    play_sizes(rt, alloc, scripts, &SIZES);
+}
+
+/// Plays scripts as `play` does, but each step's bytes are received at once, since they are many.
+pub fn play_at_once(rt: &impl Abort, alloc: Global, scripts: &str) {
+    play_sizes(rt, alloc, scripts, &[usize::MAX]);
 }

@@ -79,16 +79,33 @@ const WAITS: &str = r#"
 1 joins
 1 async AsyncLock 1 0
 1 reports AsyncLockResponse 1
+1 due never
 at 1000
 1 async AsyncLock 0 xffffff00
+1 due 1100
 at 1099
 1 ticks
 1 runs idle
 1 reports nothing
+1 due 1100
 at 1100
 1 ticks
+1 due never
 1 runs idle
 1 reports AsyncLockResponse 1
+
+== The first of two is due first
+1 opens
+1 joins
+1 async AsyncLock 1 0 k & AsyncLock 1 0
+1 reports AsyncLockResponse 1 & AsyncLockResponse 1
+at 1000
+1 async AsyncLock 0 xffffff00
+at 1030
+1 async AsyncLock 0 xffffff02
+1 due 1100
+1 sync DataEnd 0 xffffff00 *TST?\n
+1 due 1130
 
 == It waits for one of the next 65,536 numbers
 1 opens

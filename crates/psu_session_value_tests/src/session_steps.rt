@@ -7,15 +7,24 @@
 // | `1 sync FRAMES`, `1 async FRAMES` | these frames are received on a connection |
 // | `1 proceeds lock` | one call that continues the execution has this result, one of those below |
 // | `1 runs idle` | such calls are made while they complete something or let others in, and end with this result |
-// | `1 sends FRAMES` | these frames are to be sent on the synchronous connection |
-// | `1 reports FRAMES` | these frames are to be sent on the asynchronous connection |
+// | `1 sends FRAMES` | these frames are to be sent on the synchronous connection, and are written |
+// | `1 reports FRAMES` | these frames are to be sent on the asynchronous connection, and are written |
+// | `1 takes FRAMES` | these frames are taken from the synchronous connection, and not yet written |
+// | `1 written` | what was taken from the synchronous connection is written |
+// | `1 full sync`, `1 full async` | so much is held of a connection that its reader waits |
+// | `1 overflows FRAMES` | these frames, received on the synchronous connection, are more than is ever held: it is over |
+// | `1 room sync`, `1 room async` | its reader does not wait |
+// | `1 holds` | bytes are to be sent on the synchronous connection |
 // | `1 asks *IDN?` | a query is received in one DataEnd, and executed |
 // | `1 answers 0` | its response is to be sent in one DataEnd, and nothing else |
 // | `at 50` | the time, in milliseconds |
 // | `1 ticks` | the time is passed to the session |
 // | `2 granted`, `2 refused` | a release granted the session a lock, its request failed; this is passed to it |
+// | `1 due 150`, `1 due never` | this is when the first release that waits is due at the latest, none waits |
 // | `1 requested` | a service request is looked for |
 // | `1 failed`, `1 serves` | it has failed with a FatalError, it has not |
+// | `1 ends` | the session is over from now on, as where a connection has ended |
+// | `1 over` | the session is over: calls return an error |
 //
 // Any other line is a step of the device, of psu_call_steps. The result of a call is `idle`, `completed`, the need for
 // which a unit waits, as `flush`, `lock` or `room`, or `turn`, where others are let in. Empty lines, and those that
@@ -55,12 +64,70 @@ fn receives(
     true
 }
 
-// Whether these bytes are to be sent on a connection. They are taken.
-fn sends(session: &mut Session, side: Side, wanted: &[u8]) -> bool {
+// Whether a session is over once these frames are received on its synchronous connection, and was not before.
+fn overflows(
+    session: &mut Session,
+    device: &mut MemDevice<'_>,
+    setting: Setting,
+    frames: &[u8],
+) -> bool {
+    !session.has_ended()
+        && !receives(session, device, setting, Side::Sync, frames)
+        && session.has_ended()
+}
+
+// Whether these bytes are taken from a connection, or none where these are none.
+fn takes(session: &mut Session, side: Side, wanted: &[u8]) -> bool {
     match session.take_output(side) {
-        Ok(bytes) => bytes.as_slice() == wanted,
+        Ok(Some(bytes)) => !wanted.is_empty() && bytes.as_slice() == wanted,
+        Ok(None) => wanted.is_empty(),
         Err(Ended) => false,
     }
+}
+
+// Whether these bytes are to be sent on a connection. They are taken, and are written then.
+fn sends(session: &mut Session, side: Side, wanted: &[u8]) -> bool {
+    let is_so = takes(session, side, wanted);
+    if !wanted.is_empty() {
+        session.written(side);
+    }
+    is_so
+}
+
+// Whether the first release that waits is due at a time in milliseconds at the latest, or `never`.
+fn is_due(session: &Session, word: &str) -> bool {
+    match session.next_due() {
+        Some(at) => word.parse() == Ok(at),
+        None => word == "never",
+    }
+}
+
+// Returns the side of a connection.
+fn side(word: &str) -> Option<Side> {
+    match word {
+        "sync" => Some(Side::Sync),
+        "async" => Some(Side::Async),
+        _ => None,
+    }
+}
+
+// Ends a session, as where a connection has ended, and returns whether it is over then.
+fn ends(session: &mut Session) -> bool {
+    session.end();
+    session.has_ended()
+}
+
+// Whether a session is over: calls return an error.
+fn is_over(session: &mut Session, now: u64) -> bool {
+    session.has_ended()
+        && session.tick(now) == Err(Ended)
+        && session.take_output(Side::Sync).is_err()
+}
+
+// What was taken from the synchronous connection is written.
+fn is_written(session: &mut Session) -> bool {
+    session.written(Side::Sync);
+    true
 }
 
 // Whether a session gets its second connection.
@@ -148,8 +215,10 @@ fn frames_step(
     match word {
         "sync" => Some(receives(session, device, setting, Side::Sync, frames.as_slice())),
         "async" => Some(receives(session, device, setting, Side::Async, frames.as_slice())),
+        "overflows" => Some(overflows(session, device, setting, frames.as_slice())),
         "sends" => Some(sends(session, Side::Sync, frames.as_slice())),
         "reports" => Some(sends(session, Side::Async, frames.as_slice())),
+        "takes" => Some(takes(session, Side::Sync, frames.as_slice())),
         _ => None,
     }
 }
@@ -168,6 +237,10 @@ fn plain_step(
         "ticks" => Some(session.tick(now).is_ok()),
         "failed" => Some(session.has_failed()),
         "serves" => Some(!session.has_failed()),
+        "written" => Some(is_written(session)),
+        "holds" => Some(session.has_output(Side::Sync)),
+        "ends" => Some(ends(session)),
+        "over" => Some(is_over(session, now)),
         _ => None,
     }
 }
@@ -186,6 +259,9 @@ pub fn session_step(
         "answers" => answers(session, setting.alloc, rest),
         "proceeds" => Some(called(session.proceed(device)) == rest),
         "runs" => Some(run(session, device) == rest),
+        "due" => Some(is_due(session, rest)),
+        "full" => Some(session.is_full(side(rest)?)),
+        "room" => Some(!session.is_full(side(rest)?)),
         _ if rest.is_empty() => plain_step(session, device, setting.now, word),
         _ => frames_step(session, device, setting, word, rest),
     }

@@ -1,3 +1,4 @@
+use Rattle.psu_session.proofs.Requests.{one_waits}
 use Rattle.psu_session.proofs.Waits.{answered_once, wait_is_known}
 use Rattle.psu_session.proofs.laws.each_wait_is_answered.Goals as goal
 
@@ -6,3 +7,6 @@ returns-clause-known c = wait_is_known
 
 pub returns-clause-once : goal.returns-clause-once
 returns-clause-once c = answered_once
+
+pub returns-clause-one : goal.returns-clause-one
+returns-clause-one c = one_waits

@@ -10,7 +10,7 @@ abbrev pub invariant-loop-action : goal.invariant-loop-action
 invariant-loop-action g l =
     let all = acts l.fn.actions.items in
     let left = acts (into_iter_items l.rest) in
-    DoneSoFar g.D.Device.does (Each all) (Each left) (flat_map works_in all) (flat_map works_in left) (flat_map (release_in l.fn.now l.fn.number) all) (flat_map (release_in l.fn.now l.fn.number) left) (state_of l.initial.self) l.initial.device
+    DoneSoFar g.D.Device.does (Each (state_of l.initial.self).lock_waits all) (Each (state_of l.self).lock_waits left) (flat_map works_in all) (flat_map works_in left) (flat_map (release_in l.fn.now l.fn.number) all) (flat_map (release_in l.fn.now l.fn.number) left) (state_of l.initial.self) l.initial.device
     (state_of l.self) l.device
 
 abbrev pub decreases-loop-action : goal.decreases-loop-action

@@ -1,20 +1,32 @@
-use Rattle.std.proofs.Common.{◌≡◌, ◌∙◌, None, [], ap, refl, sym}
+use Rattle.std.proofs.Common.{◌≡◌, ◌∙◌, Bool, Option, None, true, false, [], ap, refl, subst, sym}
+use Rattle.psu_locks.specs.declared.kind.Kind.{Kind}
 use Rattle.psu_hislip.specs.LockResponses.{lock_answer}
 use Rattle.psu_hislip.specs.declared.header.Header.{Header}
 use Rattle.psu_hislip.specs.declared.lock_responses.LockResponse.TheVariants.{Error}
 use Rattle.psu_sessions.specs.Locking.{kind_of}
-use Rattle.psu_session.specs.Step.{puts}
+use Rattle.psu_session.specs.Step.{IsLocked, puts}
 use Rattle.psu_session.specs.Shown.{state_of}
 use Rattle.psu_session.specs.State.{added}
 use Rattle.psu_session.proofs.Serving.{on_ok}
 use Rattle.psu_session.proofs.parts.Parts.answer_lock.Goals as goal
 
-pub returns-in-None : goal.returns-in-None
-returns-in-None g c =
-    let none : kind_of c.args.string.now ≡ None = sym c.lock_kind.ensures ∙ c.in-None.is in
+pub returns-then-self : goal.returns-then-self
+returns-then-self g c =
+    let kind = kind_of c.args.string.now in
     on_ok c.put_header.result (λ did. record {
       done = puts (lock_answer Error);
-      are = rw none refl;
+      are = subst (λ (z : Bool). IsLocked z c.args.timeout kind (puts (lock_answer Error))) (sym c.if-self.true) refl;
       runs = refl;
       then = did ∙ ap (λ (h : Header). added (state_of c.args.self.now) [] [] (puts h)) c.header.ensures;
     }) c.put_header.ensures
+
+pub returns-in-None : goal.returns-in-None
+returns-in-None g c =
+    let none : None ≡ kind_of c.args.string.now = sym c.in-None.is ∙ c.lock_kind.ensures in
+    on_ok c.put_header-in-None.result (λ did. record {
+      done = puts (lock_answer Error);
+      are = subst (λ (z : Bool). IsLocked z c.args.timeout (kind_of c.args.string.now) (puts (lock_answer Error))) (sym c.if-self.false)
+          (subst (λ (z : Option Kind). IsLocked false c.args.timeout z (puts (lock_answer Error))) none refl);
+      runs = refl;
+      then = did ∙ ap (λ (h : Header). added (state_of c.args.self.now) [] [] (puts h)) c.header-in-None.ensures;
+    }) c.put_header-in-None.ensures

@@ -29,7 +29,7 @@ returns g c =
       done = Came c.args.side message ∷ did.done;
       is = record {
         immediate = did.done;
-        each = subst (λ (z : List Act). Each z did.done) is did.are;
+        each = subst (λ (z : List Act). Each s.lock_waits z did.done) is did.are;
         are = refl;
         then = last ∙ ap (λ (z : State). settled c.clears-all.result c.args.now z) counted
             ∙ ap (λ (z : Bool). settled z c.args.now (numbered (added (with_core s outcome.core) (flat_map works_in requested) (flat_map (release_in c.args.now (parameter message)) requested) did.done) (number_on c.args.side message))) all

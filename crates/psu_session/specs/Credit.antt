@@ -1,0 +1,26 @@
+-- How much a session holds of what it has received and not executed.
+use Rattle.std.specs.Prelude.{ℕ, ◌+◌, List, [], ◌∷◌, length}
+use Rattle.psu_messages.specs.Units.{Source}
+use Rattle.psu_exchange.specs.Exchange.{Order}
+
+-- an item counts as its bytes and 128, so that items without bytes are bounded too
+abbrev pub cost : ℕ → ℕ
+cost bytes = bytes + 128
+
+-- the bytes of a text; an error that is reported in place of one has none
+abbrev pub size_of : Source → ℕ
+size_of (Source.Text bytes) = length bytes
+size_of (Source.Fault error) = 0
+
+-- what a transmission counts as
+abbrev pub cost_of : Order → ℕ
+cost_of order = cost (size_of order.source)
+
+abbrev pub costs : List Order → ℕ
+costs [] = 0
+costs (order ∷ orders) = cost_of order + costs orders
+
+-- what is held once these transmissions are held too
+abbrev pub held_with : List Order → ℕ → ℕ
+held_with [] held = held
+held_with (order ∷ orders) held = held_with orders (held + cost_of order)

@@ -1,0 +1,58 @@
+// How much a session holds of what it has received and not executed.
+ghost use Rattle.std.specs.Prelude.{◌≡◌, ◌+◌, ◌-◌, ◌≤◌, ◌<◌, ◌↔◌, IsTrue, OnOk, OnErr};
+ghost use Rattle.psu_session.specs.Credit.{cost};
+
+use crate::Ended;
+
+/// How much may be held before a reader waits, in bytes.
+const LIMIT: usize = 1_048_576;
+
+/// The most that is ever held, in bytes. What the next 65,536 received bytes complete fits in beside the limit: at most
+/// 4,096 items, with the text of one transmission that was received before.
+const MOST: usize = 4_194_304;
+
+/// What an item counts as beside its bytes.
+const EACH: usize = 128;
+
+/// How much is held, in bytes.
+#[derive(Drop)]
+pub struct Credit {
+    out: usize,
+    pub ghost bounded: { out ≤ 4194304 },
+}
+
+impl Credit {
+    /// Returns a credit of which nothing is held.
+    pub fn new() -> Credit
+        ensures { result.out ≡ 0 }
+    {
+        Credit { out: 0 }
+    }
+
+    /// Whether a reader waits before it reads more.
+    pub fn is_over(&self) -> bool
+        ensures { IsTrue result ↔ (1048576 < self.now.out) }
+    {
+        LIMIT < self.out
+    }
+
+    /// Counts an item of so many bytes, if it fits.
+    pub fn take(&mut self, bytes: usize) -> Result<(), Ended>
+        ensures taken { OnOk result (self.new.out ≡ self.old.out + cost bytes) }
+        ensures refused { OnErr result ((4194304 < self.old.out + cost bytes) × (self.new ≡ self.old)) }
+    {
+        let size = bytes.saturating_add(EACH);
+        if size > MOST - self.out {
+            return Err(Ended);
+        }
+        self.out += size;
+        Ok(())
+    }
+
+    /// Counts an item of so many bytes no longer.
+    pub fn give_back(&mut self, bytes: usize)
+        ensures { self.new.out ≡ self.old.out - cost bytes }
+    {
+        self.out = self.out.saturating_sub(bytes.saturating_add(EACH));
+    }
+}
