@@ -1,0 +1,109 @@
+// What must not be forgotten. None of these types but the last is `Drop`.
+use crate::{Notice, Synchronous};
+use std::marker::PhantomData;
+
+/// A part of each value that must not be forgotten. It can't be dropped, and only this crate makes and ends it.
+pub(crate) struct Duty(());
+
+impl Duty {
+    /// Begins a duty.
+    pub(crate) fn begin() -> Duty {
+        Duty(())
+    }
+
+    /// Ends a duty that is done.
+    pub(crate) fn end(self) {
+        let Duty(()) = self;
+    }
+}
+
+/// Bytes that were read from a connection. The session must receive them.
+pub struct BytesRead<'a, S> {
+    pub(crate) bytes: &'a [u8],
+    pub(crate) duty: Duty,
+    pub(crate) side: PhantomData<S>,
+}
+
+/// The result of a session's receiving of bytes.
+pub enum Received<'a, S> {
+    /// They are received.
+    All(Pending<S>),
+    /// The session holds too much. The reader has to wait until there is room, and then try again.
+    Full(BytesRead<'a, S>),
+}
+
+/// The session has changed, and its thread must continue it.
+pub struct Pending<S> {
+    // Whether a unit that waits is tried again.
+    pub(crate) again: bool,
+    pub(crate) duty: Duty,
+    pub(crate) side: PhantomData<S>,
+}
+
+/// What a thread has to do after it has continued a session.
+pub enum Taken<S> {
+    /// Write these bytes.
+    Bytes(Outgoing<S>),
+    /// There is nothing to be written, or another thread writes. The other threads are to be notified.
+    Nothing(Remainder<S>),
+}
+
+/// Bytes that were taken from a session's output. The connection must write them.
+pub struct Outgoing<S> {
+    pub(crate) bytes: Vec<u8>,
+    pub(crate) duty: Duty,
+    pub(crate) side: PhantomData<S>,
+}
+
+/// Bytes that are written. The session must be notified.
+pub struct Written<S> {
+    pub(crate) duty: Duty,
+    pub(crate) side: PhantomData<S>,
+}
+
+/// What a thread leaves to the other threads of its session. The mailbox must notify them.
+pub struct Remainder<S> {
+    /// Whether there is more for this thread to execute.
+    pub(crate) more: bool,
+    /// Whether the next unit waits for room for its changes.
+    pub(crate) late: bool,
+    /// Whether there is something for a thread of the other side: output, or for the worker a transmission.
+    pub(crate) other: bool,
+    /// Whether the synchronous reader waits for room, and there is room.
+    pub(crate) sync_room: bool,
+    /// Whether the asynchronous reader waits for room, and there is room.
+    pub(crate) async_room: bool,
+    /// When the first release that waits is due, in milliseconds.
+    pub(crate) due: Option<u64>,
+    pub(crate) duty: Duty,
+    pub(crate) side: PhantomData<S>,
+}
+
+/// What a thread that executes does after the others are notified.
+pub enum Next {
+    /// It continues the session.
+    Continue(Pending<Synchronous>),
+    /// It waits, until this time in milliseconds if there is one, since a release is due then.
+    Wait(Option<u64>),
+}
+
+/// A notice that arrived. The session must be notified.
+pub struct Arrived<S> {
+    pub(crate) notice: Notice,
+    pub(crate) duty: Duty,
+    pub(crate) side: PhantomData<S>,
+}
+
+/// A connection has ended. The session must be notified.
+pub struct Disconnected {
+    pub(crate) duty: Duty,
+}
+
+/// The session is over. Its connections must be shut, and its threads notified.
+pub struct Closing {
+    pub(crate) duty: Duty,
+}
+
+/// The session is over, its connections are shut and its threads notified. Only with this value a thread may end.
+#[derive(Drop)]
+pub struct Closed(pub(crate) ());

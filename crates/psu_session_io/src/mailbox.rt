@@ -1,0 +1,179 @@
+// The notices to the threads of a session.
+use crate::line::Line;
+use crate::linear::{Arrived, Closed, Closing, Duty, Next, Pending, Remainder};
+use crate::{Asynchronous, ConnectionSide, Notice, Synchronous, Token};
+use psu_hislip::Side;
+use psu_locks::Grant;
+use std::alloc::{AllocError, Global};
+use std::marker::PhantomData;
+use std::rt::Clock;
+use std::sync::Wait;
+use std::sync::atomic::{AtomicBool, Ordering};
+use std::time::Duration;
+
+/// The notices to the threads of a session: its worker, its notifier and its two readers. Other sessions and the flusher
+/// post notices here while they hold locks, since to post one neither waits for another thread nor allocates.
+#[derive(Drop)]
+pub struct Mailbox {
+    worker: Line,
+    notifier: Line,
+    sync_reader: Line,
+    async_reader: Line,
+    // Whether the next unit waits for room for its changes, and is to be tried again once there may be room.
+    late: AtomicBool,
+}
+
+impl Mailbox {
+    /// Returns a mailbox without notices.
+    pub fn new(alloc: Global) -> Result<Mailbox, AllocError> {
+        Ok(Mailbox {
+            worker: Line::new(alloc)?,
+            notifier: Line::new(alloc)?,
+            sync_reader: Line::new(alloc)?,
+            async_reader: Line::new(alloc)?,
+            late: AtomicBool::new(false),
+        })
+    }
+
+    // ---- by other sessions and the flusher
+
+    /// Reports that what a unit waits for may have come.
+    pub fn wake<R: Wait>(&self, rt: &R) {
+        self.worker.post(rt, Notice::Continue);
+    }
+
+    /// Reports that there may be room for changes, where a unit waits for it.
+    pub fn wake_late<R: Wait>(&self, rt: &R) {
+        if self.late.swap(false, Ordering::SeqCst) {
+            self.worker.post(rt, Notice::Continue);
+        }
+    }
+
+    /// Reports that the device may have a service request.
+    pub fn request_service<R: Wait>(&self, rt: &R) {
+        self.notifier.post(rt, Notice::Service);
+    }
+
+    /// Reports the result of the lock request that waits.
+    pub fn grant<R: Wait>(&self, rt: &R, grant: Grant) {
+        match grant {
+            Grant::Granted => self.notifier.post(rt, Notice::Granted),
+            Grant::Failed => self.notifier.post(rt, Notice::Failed),
+            Grant::Queued => {}
+        }
+    }
+
+    // ---- by the session's own threads
+
+    // The line of the reader of a connection.
+    fn reader(&self, side: Side) -> &Line {
+        match side {
+            Side::Sync => &self.sync_reader,
+            Side::Async => &self.async_reader,
+        }
+    }
+
+    // Notifies the readers that wait for room.
+    fn notify_readers<R: Wait>(&self, rt: &R, sync_room: bool, async_room: bool) {
+        if sync_room {
+            self.sync_reader.post(rt, Notice::Room);
+        }
+        if async_room {
+            self.async_reader.post(rt, Notice::Room);
+        }
+    }
+
+    /// Notifies the other threads of what a thread that executes leaves to them. A unit that waits for room is tried once
+    /// more after that is known to the flusher, since there may have been room in the meantime.
+    pub fn notify_others<R: Wait>(&self, rt: &R, remainder: Remainder<Synchronous>) -> Next {
+        let Remainder {
+            more,
+            late,
+            other,
+            sync_room,
+            async_room,
+            due,
+            duty,
+            side,
+        } = remainder;
+        self.notify_readers(rt, sync_room, async_room);
+        if other {
+            self.notifier.post(rt, Notice::Output);
+        }
+        let again = late && !self.late.swap(true, Ordering::SeqCst);
+        if more || again {
+            return Next::Continue(Pending { again, duty, side });
+        }
+        duty.end();
+        Next::Wait(due)
+    }
+
+    /// Notifies the other threads of what a thread of the asynchronous connection leaves to them.
+    pub fn notify_worker<R: Wait>(&self, rt: &R, remainder: Remainder<Asynchronous>) {
+        let Remainder {
+            more: _,
+            late: _,
+            other,
+            sync_room,
+            async_room,
+            due: _,
+            duty,
+            side: _,
+        } = remainder;
+        self.notify_readers(rt, sync_room, async_room);
+        if other {
+            self.worker.post(rt, Notice::Continue);
+        }
+        duty.end();
+    }
+
+    // Returns a notice that must be passed to the session.
+    fn arrived<S>(notice: Notice) -> Arrived<S> {
+        Arrived {
+            notice,
+            duty: Duty::begin(),
+            side: PhantomData,
+        }
+    }
+
+    /// Waits for the next notice to the worker, for at most some time if one is given.
+    pub fn wait_as_worker<R: Wait + Clock>(
+        &self,
+        rt: &R,
+        token: &mut Token<Synchronous>,
+        left: Option<Duration>,
+    ) -> Arrived<Synchronous> {
+        let _ = token;
+        match left {
+            Some(left) => Mailbox::arrived(self.worker.next_within(rt, left)),
+            None => Mailbox::arrived(self.worker.next(rt)),
+        }
+    }
+
+    /// Waits for the next notice to the notifier.
+    pub fn wait_as_notifier<R: Wait>(
+        &self,
+        rt: &R,
+        token: &mut Token<Asynchronous>,
+    ) -> Arrived<Asynchronous> {
+        let _ = token;
+        Mailbox::arrived(self.notifier.next(rt))
+    }
+
+    /// Waits until the reader of a connection may try again.
+    pub fn wait_for_room<R: Wait, S: ConnectionSide>(&self, rt: &R, token: &mut Token<S>) {
+        let _ = token;
+        let _ = self.reader(S::SIDE).next(rt);
+    }
+
+    /// Notifies all threads that the session is over. Its connections are shut.
+    pub(crate) fn end<R: Wait>(&self, rt: &R, closing: Closing) -> Closed {
+        let Closing { duty } = closing;
+        self.worker.post(rt, Notice::End);
+        self.notifier.post(rt, Notice::End);
+        self.sync_reader.post(rt, Notice::End);
+        self.async_reader.post(rt, Notice::End);
+        duty.end();
+        Closed(())
+    }
+}

@@ -1,0 +1,118 @@
+// A session that threads serve.
+use crate::linear::{Closed, Closing};
+use crate::link::Link;
+use crate::{Mailbox, SessionLock};
+use psu_locks::Session as Number;
+use psu_session::Session;
+use std::alloc::{AllocError, Global};
+use std::io::{self, ErrorKind};
+use std::sync::{Arc, Condvar, Mutex, Wait};
+use std::time::Duration;
+
+// The second connection of a session.
+#[derive(Drop)]
+enum Second {
+    // It has not come.
+    Awaited,
+    // It is there.
+    Open(Arc<Link>),
+    // It has ended, or does not come any more.
+    Ended,
+}
+
+/// The session has its second connection, or is over.
+#[derive(Clone, Copy, Debug, PartialEq, Eq)]
+pub struct NotAwaited;
+
+/// A session that threads serve: its number, its value behind a mutex, the notices to its threads, and its connections.
+#[derive(Drop)]
+pub struct ServedSession {
+    pub number: Number,
+    pub session: SessionLock,
+    pub mailbox: Mailbox,
+    first: Arc<Link>,
+    second: Mutex<Second>,
+    ended: Condvar,
+}
+
+impl ServedSession {
+    /// Returns a session that waits for its second connection.
+    pub fn new(
+        alloc: Global,
+        number: Number,
+        session: Session,
+        first: Arc<Link>,
+    ) -> Result<ServedSession, AllocError> {
+        Ok(ServedSession {
+            number,
+            session: SessionLock::new(session),
+            mailbox: Mailbox::new(alloc)?,
+            first,
+            second: Mutex::new(Second::Awaited),
+            ended: Condvar::new(),
+        })
+    }
+
+    /// Limits how long a read of the first connection waits, unless the second one has come. Returns whether it is
+    /// limited; an error where no time is left.
+    pub fn limit<R: Wait>(&self, rt: &R, left: Duration) -> io::Result<bool> {
+        let second = self.second.lock(rt);
+        if matches!(&*second, Second::Open(_)) {
+            return Ok(false);
+        }
+        if left < Duration::from_millis(1) {
+            return Err(io::Error::from(ErrorKind::TimedOut));
+        }
+        self.first.wait_at_most(Some(left))?;
+        Ok(true)
+    }
+
+    /// Adds the second connection. From now on reads of the first one wait without a limit.
+    pub fn join<R: Wait>(&self, rt: &R, link: Arc<Link>) -> Result<(), NotAwaited> {
+        let mut second = self.second.lock(rt);
+        if !matches!(&*second, Second::Awaited) || self.first.wait_at_most(None).is_err() {
+            return Err(NotAwaited);
+        }
+        *second = Second::Open(link);
+        Ok(())
+    }
+
+    /// Closes a session that is over: shuts both connections, and notifies all threads.
+    pub fn close<R: Wait>(&self, rt: &R, closing: Closing) -> Closed {
+        self.first.shut();
+        let mut second = self.second.lock(rt);
+        match &*second {
+            Second::Open(link) => link.shut(),
+            Second::Awaited => *second = Second::Ended,
+            Second::Ended => {}
+        }
+        drop(second);
+        self.mailbox.end(rt, closing)
+    }
+
+    /// Returns the first connection.
+    pub fn first(&self) -> Result<Arc<Link>, AllocError> {
+        Arc::try_clone(&self.first)
+    }
+
+    /// Ends a session, also where no thread serves it: shuts both connections, and notifies all threads.
+    pub fn abandon<R: Wait>(&self, rt: &R) {
+        let closing = self.session.abandon(rt);
+        let _closed = self.close(rt, closing);
+    }
+
+    /// The threads of the second connection have ended.
+    pub fn second_has_ended<R: Wait>(&self, rt: &R) {
+        *self.second.lock(rt) = Second::Ended;
+        self.ended.notify_all();
+    }
+
+    /// Waits for the threads of the second connection, if it ever came.
+    pub fn wait_for_second<R: Wait>(&self, rt: &R) {
+        let second = self.second.lock(rt);
+        drop(
+            self.ended
+                .wait_while(rt, second, |second| matches!(second, Second::Open(_))),
+        );
+    }
+}
