@@ -1,0 +1,39 @@
+// Results of lock requests of other sessions.
+ghost use Rattle.std.specs.Prelude.{◌≡◌};
+
+use crate::LockedRegistry;
+use crate::duty::Duty;
+use psu_exec::{Grant, Sessions};
+
+/// The sessions whose lock requests a call of the device has granted, or failed. It has no `Drop`: the result is passed
+/// on to them, and there is no other way to end it.
+pub struct Granted {
+    sessions: Sessions,
+    grant: Grant,
+    duty: Duty,
+}
+
+impl Granted {
+    // Returns the result of the lock requests of sessions.
+    pub(crate) fn new(sessions: Sessions, grant: Grant) -> Granted
+        ensures sessions { result.sessions ≡ sessions }
+        ensures grant { result.grant ≡ grant }
+    {
+        Granted {
+            sessions,
+            grant,
+            duty: Duty(()),
+        }
+    }
+
+    /// Passes the result on to the sessions.
+    pub fn pass_on<R: LockedRegistry>(self, registry: &R) {
+        let Granted {
+            sessions,
+            grant,
+            duty,
+        } = self;
+        let Duty(_) = duty;
+        registry.pass_on(&sessions, grant);
+    }
+}
