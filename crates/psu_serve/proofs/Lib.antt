@@ -1,3 +1,2 @@
-pub mod Seats
-pub mod Served
-pub mod Sides
+pub mod Adding
+pub mod Calling

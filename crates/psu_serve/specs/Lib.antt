@@ -1,5 +1,2 @@
-pub mod Condition
-pub mod PowerOn
-pub mod Seen
-pub mod Served
-pub mod Serving
+pub mod Added
+pub mod Called

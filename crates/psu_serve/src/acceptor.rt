@@ -1,13 +1,13 @@
 // The server: it powers on, and gives each connection a thread.
-use crate::caller::Caller;
-use crate::condition::Condition;
-use crate::connection::Connection;
+use crate::connection::Accepted;
 use crate::flushing::Flusher;
 use crate::serve_fault::ServeFault;
-use crate::starting::power_on;
+use crate::server::Server;
+use crate::silent::Silent;
 use psu_bench::Gate;
+use psu_callers::{Caller, Condition, power_on};
 use psu_disk::{Disk, FileDisk, OsFiles};
-use psu_members::{Link, Server, Silent};
+use psu_session_io::Link;
 use std::alloc::Global;
 use std::fs::File;
 use std::io::{Eprint, Print};
@@ -45,14 +45,14 @@ impl<D: Disk + Drop + Send + 'static, G: Gate + Drop + Send + Sync + 'static> Ac
     }
 
     // Returns a connection over a stream, which counts as silent until its first message.
-    fn connection<R: Wait>(&mut self, rt: &R, stream: TcpStream) -> io::Result<Connection<D, G>> {
+    fn connection<R: Wait>(&mut self, rt: &R, stream: TcpStream) -> io::Result<Accepted<D, G>> {
         stream.set_nodelay(true)?;
         let link = Arc::new(self.server.alloc, Link::new(stream))?;
         let server = Arc::try_clone(&self.server)?;
         let silent = Arc::try_clone(&self.silent)?;
         let caller = self.caller.split()?;
         let number = self.silent.lock(rt).add(Arc::try_clone(&link)?);
-        Ok(Connection {
+        Ok(Accepted {
             server,
             silent,
             number,
@@ -143,7 +143,7 @@ where
 {
     let caller = match power_on(alloc, disk, gate) {
         Ok(caller) => caller,
-        Err(fault) => return fault,
+        Err(fault) => return ServeFault::from(fault),
     };
     match accept_all(rt, alloc, port, caller, errors) {
         Ok(()) => ServeFault::Network,

@@ -1,31 +1,28 @@
 // A connection, from its first byte to its end.
-use crate::caller::Caller;
-use crate::notifier::notify;
-use crate::opening::{close, fatal, first_messages, open};
-use crate::reading::{read_async, read_sync, serve_messages};
-use crate::serving::Serving;
-use crate::worker::Worker;
+use crate::executing::{Executing, SyncReader, Worker};
+use crate::opening::{Opening, close, fatal, first_message, open, space};
+use crate::responding::{AsyncReader, Notifier, Responding};
+use crate::server::Server;
+use crate::shared_device::SharedDevice;
+use crate::silent::Silent;
 use psu_bench::Gate;
+use psu_callers::Caller;
 use psu_disk::Disk;
-use psu_exec::Session;
-use psu_hislip::{Channel, FatalCode, First, Message, Side};
-use psu_members::{Link, Member, Server, Silent};
-use std::alloc::Global;
+use psu_exec::Session as Number;
+use psu_hislip::{FatalCode, First};
+use psu_session_io::{Connection, Link, ServedSession, run};
 use std::rt::Clock;
 use std::sync::{Arc, Mutex, Wait};
 use std::thread::{JoinHandle, Threads};
 use std::time::Instant;
 use std::{io, thread};
 
-/// How much is read at once before a connection has said what it is.
-const FIRST: usize = 4_096;
-
 /// How much is read at once in a session.
-const PIECE: usize = 65_536;
+const SPACE: usize = 65_536;
 
-/// A connection.
+/// A connection that was accepted.
 #[derive(Drop)]
-pub struct Connection<D: Disk, G: Gate> {
+pub struct Accepted<D: Disk, G: Gate> {
     pub server: Arc<Server>,
     pub silent: Arc<Mutex<Silent>>,
     pub number: u64,
@@ -33,18 +30,26 @@ pub struct Connection<D: Disk, G: Gate> {
     pub caller: Caller<D, G>,
 }
 
-// A piece of memory to read into.
-fn piece(alloc: Global, size: usize) -> io::Result<Vec<u8>> {
-    let mut piece = Vec::new(alloc);
-    piece.resize(size, 0u8)?;
-    Ok(piece)
+// Returns the device of a session for a thread of it.
+fn device<'s, 'c, 'r, R: Wait, D: Disk, G: Gate>(
+    rt: &'r R,
+    server: &'s Server,
+    session: Number,
+    caller: &'c mut Caller<D, G>,
+) -> SharedDevice<'s, 'c, 'r, R, D, G> {
+    SharedDevice {
+        rt,
+        server,
+        session,
+        caller,
+    }
 }
 
-// The worker of a session, in a thread of its own.
+// Starts the worker of a session, in a thread of its own.
 fn start_worker<R, D, G>(
     rt: R,
     server: &Arc<Server>,
-    member: &Arc<Member>,
+    served: &Arc<ServedSession>,
     caller: &mut Caller<D, G>,
 ) -> Option<JoinHandle<()>>
 where
@@ -53,24 +58,31 @@ where
     G: Gate + Drop + Send + Sync + 'static,
 {
     let server = Arc::try_clone(server).ok()?;
-    let member = Arc::try_clone(member).ok()?;
-    let caller = caller.split().ok()?;
+    let served = Arc::try_clone(served).ok()?;
+    let first = served.first().ok()?;
+    let mut caller = caller.split().ok()?;
     thread::spawn(&rt, move || {
+        let server: &Server = &server;
+        let connection = Connection::new(first, Vec::new(server.alloc));
+        let device = device(&rt, server, served.number, &mut caller);
         let mut worker = Worker {
-            server: &server,
-            member: &member,
-            caller,
+            executing: Executing {
+                server,
+                served: &served,
+                connection,
+                device,
+            },
         };
-        worker.work(&rt)
+        run(&rt, &mut worker)
     })
     .ok()
 }
 
-// Its notifier, in another.
+// Starts the notifier of a session, in a thread of its own.
 fn start_notifier<R, D, G>(
     rt: R,
     server: &Arc<Server>,
-    member: &Arc<Member>,
+    served: &Arc<ServedSession>,
     link: &Arc<Link>,
     caller: &mut Caller<D, G>,
 ) -> Option<JoinHandle<()>>
@@ -80,219 +92,185 @@ where
     G: Gate + Drop + Send + Sync + 'static,
 {
     let server = Arc::try_clone(server).ok()?;
-    let member = Arc::try_clone(member).ok()?;
+    let served = Arc::try_clone(served).ok()?;
     let link = Arc::try_clone(link).ok()?;
     let mut caller = caller.split().ok()?;
     thread::spawn(&rt, move || {
-        let mut serving = Serving {
-            rt: &rt,
-            server: &server,
-            member: &member,
-            link: &link,
-            caller: &mut caller,
+        let server: &Server = &server;
+        let connection = Connection::new(link, Vec::new(server.alloc));
+        let device = device(&rt, server, served.number, &mut caller);
+        let mut notifier = Notifier {
+            responding: Responding {
+                server,
+                served: &served,
+                connection,
+                device,
+            },
         };
-        notify(&mut serving)
+        run(&rt, &mut notifier)
     })
     .ok()
 }
 
-impl<D: Disk + Drop, G: Gate + Drop> Connection<D, G> {
-    // A session, over its synchronous connection.
-    fn hold<R: Wait + Clock>(
-        &mut self,
-        rt: &R,
-        channel: &mut Channel<Global>,
-        rest: &[Message<Global>],
-    ) -> io::Result<()> {
+impl<D: Disk + Drop, G: Gate + Drop> Accepted<D, G> {
+    // Serves a session over its synchronous connection, until it is over.
+    fn start<R: Wait + Clock>(&mut self, rt: &R, opening: Opening) -> io::Result<()> {
         let opened = Instant::now(rt)?;
-        let Some(member) = open(rt, &self.server, &mut self.caller, &self.link)? else {
-            return self.link.send(rt, &fatal(FatalCode::TooManyClients));
+        let message = opening.message.as_slice();
+        let open = open(rt, &self.server, &mut self.caller, &self.link, message)?;
+        let Some((response, served)) = open else {
+            return self.link.write(&fatal(FatalCode::TooManyClients));
         };
-        let held = self.hold_open(rt, &member, opened, channel, rest);
-        member.end(rt);
-        member.wait_for_end(rt);
-        close(rt, &self.server, &mut self.caller, member.session);
-        held
+        let read = match self.link.write(&response.bytes()) {
+            Ok(()) => self.read(rt, &served, opened, opening.after),
+            Err(error) => Err(error),
+        };
+        served.abandon(rt);
+        served.wait_for_second(rt);
+        close(rt, &self.server, &mut self.caller, served.number);
+        read
     }
 
-    // Does what the messages of an open session ask for, until it ends.
-    fn hold_open<R: Wait + Clock>(
+    // Reads the synchronous connection of a session, until the session is over.
+    fn read<R: Wait + Clock>(
         &mut self,
         rt: &R,
-        member: &Member,
+        served: &ServedSession,
         opened: Instant,
-        channel: &mut Channel<Global>,
-        rest: &[Message<Global>],
+        after: Vec<u8>,
     ) -> io::Result<()> {
-        let mut piece = piece(self.server.alloc, PIECE)?;
-        let response = member.core.lock(rt).response().bytes();
-        self.link.send(rt, &response)?;
-        let mut serving = Serving {
-            rt,
-            server: &self.server,
-            member,
-            link: &self.link,
-            caller: &mut self.caller,
+        let number = served.number;
+        let server: &Server = &self.server;
+        let space = space(server.alloc, SPACE)?;
+        let connection = Connection::new(Arc::try_clone(&self.link)?, after);
+        let device = device(rt, server, number, &mut self.caller);
+        let mut reader = SyncReader {
+            space,
+            executing: Executing {
+                server,
+                served,
+                connection,
+                device,
+            },
+            opened,
+            limited: true,
         };
-        if serve_messages(&mut serving, Side::Sync, rest).is_ok() {
-            read_sync(&mut serving, opened, channel, piece.as_mut_slice());
-        }
+        run(rt, &mut reader);
         Ok(())
     }
 
-    // Does what the first messages of a session's second connection ask for. Whether the session goes on.
-    fn answer_first<R: Wait + Clock>(
-        &mut self,
-        rt: &R,
-        member: &Member,
-        messages: &[Message<Global>],
-    ) -> bool {
-        let mut serving = Serving {
-            rt,
-            server: &self.server,
-            member,
-            link: &self.link,
-            caller: &mut self.caller,
-        };
-        serve_messages(&mut serving, Side::Async, messages).is_ok()
+    // Returns the session of a number.
+    fn session<R: Wait>(&self, rt: &R, number: u32) -> Option<Arc<ServedSession>> {
+        let number = Number::new(u8::try_from(number).ok()?)?;
+        self.server.registry.lock(rt).session(number)
     }
 
-    // Reads it until the session ends.
-    fn hear<R: Wait + Clock>(
+    // Reads the asynchronous connection of a session, until the session is over.
+    fn listen<R: Wait + Clock>(
         &mut self,
         rt: &R,
-        member: &Member,
-        channel: &mut Channel<Global>,
+        served: &ServedSession,
+        opening: Opening,
     ) -> io::Result<()> {
-        let mut piece = piece(self.server.alloc, PIECE)?;
         self.link.wait_at_most(None)?;
-        let mut serving = Serving {
-            rt,
-            server: &self.server,
-            member,
-            link: &self.link,
-            caller: &mut self.caller,
+        let number = served.number;
+        let server: &Server = &self.server;
+        let space = space(server.alloc, SPACE)?;
+        let connection = Connection::new(Arc::try_clone(&self.link)?, opening.whole()?);
+        let device = device(rt, server, number, &mut self.caller);
+        let mut reader = AsyncReader {
+            space,
+            responding: Responding {
+                server,
+                served,
+                connection,
+                device,
+            },
         };
-        read_async(&mut serving, channel, piece.as_mut_slice());
+        run(rt, &mut reader);
         Ok(())
-    }
-
-    // The session that waits for this connection, where there is one of this number.
-    fn member<R: Wait>(&self, rt: &R, number: u32) -> Option<Arc<Member>> {
-        let session = Session::new(u8::try_from(number).ok()?)?;
-        self.server.registry.lock(rt).member(session)
     }
 }
 
-impl<D: Disk + Drop + Send + 'static, G: Gate + Drop + Send + Sync + 'static> Connection<D, G> {
-    // Hears the client of a session, beside its notifier.
-    fn listen<R>(&mut self, rt: R, member: &Arc<Member>, channel: &mut Channel<Global>)
+impl<D: Disk + Drop + Send + 'static, G: Gate + Drop + Send + Sync + 'static> Accepted<D, G> {
+    // Serves the asynchronous connection of a session beside its notifier, until the session is over.
+    fn listen_and_notify<R>(&mut self, rt: R, served: &Arc<ServedSession>, opening: Opening)
     where
         R: Threads + Wait + Clock + Copy + Send + 'static,
     {
-        let Some(notifier) = start_notifier(rt, &self.server, member, &self.link, &mut self.caller)
+        let Some(notifier) = start_notifier(rt, &self.server, served, &self.link, &mut self.caller)
         else {
             return;
         };
-        member.notices.look(&rt);
-        // Where no memory is left to hear it, the session ends.
-        let _ = self.hear(&rt, member, channel);
-        member.end(&rt);
+        // Where no memory is left for it, the session ends.
+        let _ = self.listen(&rt, served, opening);
+        served.abandon(&rt);
         notifier.join(&rt);
     }
 
-    // Serves a session over its second connection, beside its worker, until it ends.
-    fn attend<R>(
-        &mut self,
-        rt: R,
-        member: &Arc<Member>,
-        channel: &mut Channel<Global>,
-        messages: &[Message<Global>],
-    )
+    // Serves a session over its second connection, beside its worker, until the session is over.
+    fn attend<R>(&mut self, rt: R, served: &Arc<ServedSession>, opening: Opening)
     where
         R: Threads + Wait + Clock + Copy + Send + 'static,
     {
-        let Some(worker) = start_worker(rt, &self.server, member, &mut self.caller) else {
+        let Some(worker) = start_worker(rt, &self.server, served, &mut self.caller) else {
             return;
         };
-        if self.answer_first(&rt, member, messages) {
-            self.listen(rt, member, channel);
-        }
-        member.end(&rt);
+        self.listen_and_notify(rt, served, opening);
+        served.abandon(&rt);
         worker.join(&rt);
     }
 
-    // The second connection of a session: its worker and its notifier live as long as this.
-    fn join<R>(
-        &mut self,
-        rt: R,
-        member: &Arc<Member>,
-        channel: &mut Channel<Global>,
-        messages: &[Message<Global>],
-    ) -> io::Result<()>
+    // Joins this connection to a session that waits for its second connection.
+    fn join<R>(&mut self, rt: R, served: &Arc<ServedSession>, opening: Opening) -> io::Result<()>
     where
         R: Threads + Wait + Clock + Copy + Send + 'static,
     {
-        let theirs = Arc::try_clone(&self.link)?;
-        if !member.join(&rt, theirs) {
-            return self
-                .link
-                .send(&rt, &fatal(FatalCode::InvalidInitialization));
+        let link = Arc::try_clone(&self.link)?;
+        if served.join(&rt, link).is_err() {
+            return self.link.write(&fatal(FatalCode::InvalidInitialization));
         }
-        self.attend(rt, member, channel, messages);
-        member.end(&rt);
-        member.is_over(&rt);
+        self.attend(rt, served, opening);
+        served.abandon(&rt);
+        served.second_has_ended(&rt);
         Ok(())
     }
 
-    // What a connection's first message asks for, up to its end.
-    fn begin<R>(
-        &mut self,
-        rt: R,
-        channel: &mut Channel<Global>,
-        messages: &[Message<Global>],
-    ) -> io::Result<()>
+    // Serves what a connection's first message requests, up to its end.
+    fn begin<R>(&mut self, rt: R, opening: Opening) -> io::Result<()>
     where
         R: Threads + Wait + Clock + Copy + Send + 'static,
     {
-        let [first, rest @ ..] = messages else {
-            return Ok(());
-        };
-        match First::of(first) {
-            First::Refused(code) => self.link.send(&rt, &fatal(code)),
-            First::Start => self.hold(&rt, channel, rest),
-            First::Join(number) => match self.member(&rt, number) {
-                None => self
-                    .link
-                    .send(&rt, &fatal(FatalCode::InvalidInitialization)),
-                Some(member) => self.join(rt, &member, channel, messages),
+        match opening.first {
+            First::Refused(code) => self.link.write(&fatal(code)),
+            First::Start => self.start(&rt, opening),
+            First::Join(number) => match self.session(&rt, number) {
+                None => self.link.write(&fatal(FatalCode::InvalidInitialization)),
+                Some(served) => self.join(rt, &served, opening),
             },
         }
     }
 
-    // A connection up to its end.
+    // Serves a connection up to its end.
     fn serve<R>(&mut self, rt: R) -> io::Result<()>
     where
         R: Threads + Wait + Clock + Copy + Send + 'static,
     {
-        let alloc = self.server.alloc;
-        let mut channel = Channel::new(alloc);
-        let mut piece = piece(alloc, FIRST)?;
-        let messages = first_messages(&rt, &self.link, &mut channel, piece.as_mut_slice());
+        let opening = first_message(&rt, self.server.alloc, &self.link);
         self.silent.lock(&rt).remove(self.number);
-        match messages? {
-            Some(messages) => self.begin(rt, &mut channel, messages.as_slice()),
+        match opening? {
+            Some(opening) => self.begin(rt, opening),
             None => Ok(()),
         }
     }
 
-    /// A connection, to its end.
+    /// Serves a connection up to its end.
     pub fn run<R>(&mut self, rt: R)
     where
         R: Threads + Wait + Clock + Copy + Send + 'static,
     {
         let _ = self.serve(rt);
         self.silent.lock(&rt).remove(self.number);
-        self.link.end();
+        self.link.shut();
     }
 }

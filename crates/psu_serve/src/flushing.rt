@@ -2,15 +2,14 @@
 ghost use Rattle.std.specs.Prelude.{◌≡◌};
 ghost use Rattle.psu_exec.specs.Calls.{JobEnd, Taken};
 ghost use Rattle.psu_bench.specs.Rounds.{IsEndOf};
-ghost use Rattle.psu_serve.specs.Seen.{GivesBack, IsRound};
+ghost use Rattle.psu_callers.specs.Seen.{GivesBack, IsRound};
 
-use crate::caller::Caller;
-use crate::condition::Condition;
+use crate::reporter::Reporter;
+use crate::server::Server;
 use psu_bench::Gate;
+use psu_callers::{Caller, Condition, Others};
 use psu_disk::Disk;
-use psu_exec::{End, Finished, Grant, Job, NoJob};
-use psu_hislip::lock_response;
-use psu_members::Server;
+use psu_exec::{End, Finished, Job, NoJob};
 use std::alloc::Global;
 use std::io::Eprint;
 use std::rt::Clock;
@@ -75,17 +74,15 @@ impl<'a, D: Disk + Drop, G: Gate + Drop, E: Eprint> Flusher<'a, D, G, E> {
         }
     }
 
-    // Gives a job's end back, wakes those whose waits are over and those that wait for room, and tells who asks for service. The work that is left
-    // the flusher knows of: it does not ring its own bell, which would end its pause.
+    // Gives back a finished job, and reports what that has caused.
     fn give_back<R: Wait>(&mut self, rt: &R, finished: Finished<D, Global>)
         ensures call { GivesBack D.honest (finished_of finished.end) self.old.caller.seat self.new.caller.seat }
     {
-        let (over, notifications) = self.caller.give_back(rt, finished);
-        let registry = self.server.registry.lock(rt);
-        registry.wake(rt, &over);
-        registry.wake_late(rt);
-        drop(registry);
-        self.server.call(rt, &notifications.requesting);
+        let caused = self.caller.give_back(rt, finished);
+        caused.report(&Reporter {
+            rt,
+            server: self.server,
+        });
     }
 
     // Runs a job outside the device's turn, and gives its result back.
@@ -130,12 +127,13 @@ impl<'a, D: Disk + Drop, G: Gate + Drop, E: Eprint> Flusher<'a, D, G, E> {
         if left > 0 {
             return Some(left);
         }
-        let registry = self.server.registry.lock(rt);
+        let others = Reporter {
+            rt,
+            server: self.server,
+        };
+        let registry = others.lock_registry();
         let now = self.server.now(rt);
-        let failed = self.caller.tick(rt, now);
-        if let Some(header) = lock_response(Ok(Grant::Failed)) {
-            registry.answer(rt, &failed, header);
-        }
+        self.caller.tick(rt, now).pass_on(&registry);
         drop(registry);
         self.left(rt)
     }

@@ -1,32 +1,27 @@
-//! The server over loopback: it powers on, accepts connections, and gives each a thread. A connection opens or joins a session, whose threads read,
-//! execute, notify and write; one more thread flushes. What a message requests and what a unit does are decided by the crates below; here it is read,
-//! called and written.
+//! The server over loopback: it powers on, accepts connections, and gives each a thread. A connection opens or joins a
+//! session, whose threads read, lock the session, pass in what they read, execute, take what is to be sent, and write; one
+//! more thread flushes. What is received, executed and sent is decided by the crates below.
 #![tactic(auto)]
 
 mod acceptor;
-mod caller;
-mod condition;
+mod bell;
 mod connection;
-mod execution;
+mod executing;
 mod flushing;
-mod notifier;
+mod laws;
 mod opening;
-mod reading;
+mod registry;
+mod reporter;
+mod responding;
 mod serve_fault;
-mod serving;
-mod shared_gate;
-mod starting;
-mod worker;
+mod server;
+mod shared_device;
+mod silent;
 
 pub use acceptor::{serve, serve_disk};
-pub use caller::Caller;
-pub use condition::Condition;
-pub use execution::Execution;
 pub use flushing::Flusher;
+pub use laws::calls_are_in_the_history;
 pub use psu_bench::{Gate, Open, Point};
-pub use reading::serve_messages;
 pub use serve_fault::ServeFault;
-pub use serving::Serving;
-pub use shared_gate::SharedGate;
-pub use starting::{Served, power_on};
-pub use worker::Worker;
+pub use server::Server;
+pub use shared_device::SharedDevice;

@@ -1,91 +1,164 @@
 // A connection up to its first message, and sessions that open and close.
-use crate::caller::Caller;
-use crate::reading::SILENCE;
-use crossbeam_channel::unbounded;
+use crate::executing::SILENCE;
+use crate::reporter::Reporter;
+use crate::server::Server;
 use psu_bench::Gate;
+use psu_callers::{Caller, Others};
 use psu_disk::Disk;
-use psu_exec::{Grant, Session};
-use psu_hislip::{Channel, FatalCode, Header, Message, MessageType, lock_response};
-use psu_members::{Heard, Link, Member, Server};
+use psu_exec::Session as Number;
+use psu_hislip::{Channel, FatalCode, First, Header, MessageType};
+use psu_session::Session;
+use psu_session_io::{Link, ReadResult, ServedSession};
 use std::alloc::Global;
-use std::io;
+use std::io::{self, ErrorKind};
 use std::rt::Clock;
 use std::sync::{Arc, Wait};
 use std::time::{Duration, Instant};
+
+/// How much is read at once before a connection has sent its first message.
+const SPACE: usize = 4_096;
 
 /// The sixteen bytes of a FatalError.
 pub fn fatal(code: FatalCode) -> [u8; 16] {
     Header::new(MessageType::FatalError, code.code(), 0, 0).bytes()
 }
 
-/// The messages up to the first piece that ends one; none where the connection ends or takes too long.
-pub fn first_messages<R: Clock>(
-    rt: &R,
-    link: &Link,
-    channel: &mut Channel<Global>,
-    piece: &mut [u8],
-) -> io::Result<Option<Vec<Message<Global>>>> {
+/// What a connection has sent first.
+#[derive(Drop)]
+pub struct Opening {
+    /// What its first message requests.
+    pub first: First,
+    /// The bytes of this message.
+    pub message: Vec<u8>,
+    /// The bytes that were read after it.
+    pub after: Vec<u8>,
+}
+
+impl Opening {
+    /// Returns all bytes that were read.
+    pub fn whole(self) -> io::Result<Vec<u8>> {
+        let Opening {
+            first: _,
+            mut message,
+            after,
+        } = self;
+        message.extend_from_slice(after.as_slice())?;
+        Ok(message)
+    }
+}
+
+// The first message of a connection, as far as it is read.
+#[derive(Drop)]
+struct FirstMessage {
+    channel: Channel<Global>,
+    bytes: Vec<u8>,
+}
+
+impl FirstMessage {
+    // Adds bytes. Returns what the connection has sent first once its first message is whole.
+    fn add(&mut self, alloc: Global, bytes: &[u8]) -> io::Result<Option<Opening>> {
+        for place in 0..bytes.len() {
+            self.bytes.push(bytes[place])?;
+            let messages = self.channel.feed(&bytes[place..=place])?;
+            if let Some(first) = messages.first() {
+                let after = bytes[place + 1..].to_vec(alloc)?;
+                return Ok(Some(Opening {
+                    first: First::of(first),
+                    message: std::mem::replace(&mut self.bytes, Vec::new(alloc)),
+                    after,
+                }));
+            }
+        }
+        Ok(None)
+    }
+}
+
+/// Returns an area of memory to read into.
+pub fn space(alloc: Global, size: usize) -> io::Result<Vec<u8>> {
+    let mut space = Vec::new(alloc);
+    space.resize(size, 0u8)?;
+    Ok(space)
+}
+
+/// Reads the first message of a connection; `None` where the connection ends or takes too long.
+pub fn first_message<R: Clock>(rt: &R, alloc: Global, link: &Link) -> io::Result<Option<Opening>> {
     let start = Instant::now(rt)?;
+    let mut space = space(alloc, SPACE)?;
+    let mut message = FirstMessage {
+        channel: Channel::new(alloc),
+        bytes: Vec::new(alloc),
+    };
     for _ in 0..u64::MAX {
         let left = Duration::from_secs(SILENCE).saturating_sub(start.elapsed(rt)?);
         if left < Duration::from_millis(1) {
             return Ok(None);
         }
         link.wait_at_most(Some(left))?;
-        let count = match link.read(piece) {
-            Heard::Bytes(count) => count,
-            Heard::Nothing => continue,
-            Heard::End => return Ok(None),
+        let count = match link.read(space.as_mut_slice()) {
+            ReadResult::Bytes(count) => count,
+            ReadResult::Nothing => continue,
+            ReadResult::End => return Ok(None),
         };
-        let messages = channel.feed(&piece[..count])?;
-        if !messages.is_empty() {
-            return Ok(Some(messages));
+        if let Some(opening) = message.add(alloc, &space[..count])? {
+            return Ok(Some(opening));
         }
     }
     Ok(None)
 }
 
-// A session that the registry and its connection know.
-fn shared(alloc: Global, member: Member) -> io::Result<(Arc<Member>, Arc<Member>)> {
-    let member = Arc::new(alloc, member)?;
-    let known = Arc::try_clone(&member)?;
-    Ok((known, member))
+// Returns a session whose synchronous connection has sent these bytes first, with its response to them, as the registry
+// and its connection share it.
+fn opened(
+    alloc: Global,
+    number: Number,
+    link: &Arc<Link>,
+    message: &[u8],
+) -> io::Result<(Header, Arc<ServedSession>, Arc<ServedSession>)> {
+    let Ok(session) = Session::open(alloc, u16::from(number.number()), message) else {
+        return Err(io::Error::from(ErrorKind::OutOfMemory));
+    };
+    let response = session.response();
+    let served = ServedSession::new(alloc, number, session, Arc::try_clone(link)?)?;
+    let served = Arc::new(alloc, served)?;
+    let known = Arc::try_clone(&served)?;
+    Ok((response, known, served))
 }
 
-/// Opens a session over its synchronous connection; none where there are too many. Its number is given back where memory for it is refused.
+/// Opens a session over its synchronous connection, whose first message has these bytes, and returns it with its response;
+/// `None` where there are too many sessions. Its number is free again where memory for it is refused.
 pub fn open<R: Wait, D: Disk + Drop, G: Gate + Drop>(
     rt: &R,
     server: &Server,
     caller: &mut Caller<D, G>,
     link: &Arc<Link>,
-) -> io::Result<Option<Arc<Member>>> {
-    let work = unbounded(server.alloc)?;
-    let sync = Arc::try_clone(link)?;
-    let mut registry = server.registry.lock(rt);
-    let Ok(session) = caller.open_session(rt) else {
+    message: &[u8],
+) -> io::Result<Option<(Header, Arc<ServedSession>)>> {
+    let others = Reporter { rt, server };
+    let mut registry = others.lock_registry();
+    let Ok(number) = caller.open_session(rt) else {
         return Ok(None);
     };
-    let member = Member::new(server.alloc, session, sync, work);
-    let Ok((known, member)) = shared(server.alloc, member) else {
-        drop(caller.close_session(rt, session));
-        return Err(io::Error::from(io::ErrorKind::OutOfMemory));
-    };
-    registry.put(session, Some(known));
-    Ok(Some(member))
+    match opened(server.alloc, number, link, message) {
+        Ok((response, known, served)) => {
+            registry.registry.put(number, Some(known));
+            Ok(Some((response, served)))
+        }
+        Err(error) => {
+            caller.close_session(rt, number).pass_on(&registry);
+            Err(error)
+        }
+    }
 }
 
-/// Closes a session and gives its number back: nothing of it is left.
+/// Closes a session and frees its number.
 pub fn close<R: Wait, D: Disk + Drop, G: Gate + Drop>(
     rt: &R,
     server: &Server,
     caller: &mut Caller<D, G>,
-    session: Session,
+    number: Number,
 ) {
-    let mut registry = server.registry.lock(rt);
-    registry.put(session, None);
-    let granted = caller.close_session(rt, session);
-    if let Some(header) = lock_response(Ok(Grant::Granted)) {
-        registry.answer(rt, &granted, header);
-    }
-    registry.wake_all(rt);
+    let others = Reporter { rt, server };
+    let mut registry = others.lock_registry();
+    registry.registry.put(number, None);
+    caller.close_session(rt, number).pass_on(&registry);
 }

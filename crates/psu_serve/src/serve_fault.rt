@@ -1,8 +1,7 @@
 // Why a server does not start.
+use psu_callers::PowerOnFault;
 use psu_disk::OpenFault;
-use psu_exec::{PowerCause, StartCause};
-use psu_items::OpenCause;
-use std::alloc::AllocError;
+use psu_exec::StartCause;
 use thiserror::Error;
 
 /// Why a server does not start.
@@ -22,26 +21,11 @@ pub enum ServeFault {
     Memory,
 }
 
-impl From<OpenCause> for ServeFault {
-    fn from(cause: OpenCause) -> Self {
-        match StartCause::of_opening(cause) {
-            Some(cause) => ServeFault::Open(cause),
-            None => ServeFault::Memory,
+impl From<PowerOnFault> for ServeFault {
+    fn from(fault: PowerOnFault) -> Self {
+        match fault {
+            PowerOnFault::Start(cause) => ServeFault::Open(cause),
+            PowerOnFault::Memory => ServeFault::Memory,
         }
-    }
-}
-
-impl From<PowerCause> for ServeFault {
-    fn from(cause: PowerCause) -> Self {
-        match StartCause::of_power_on(cause) {
-            Some(cause) => ServeFault::Open(cause),
-            None => ServeFault::Memory,
-        }
-    }
-}
-
-impl From<AllocError> for ServeFault {
-    fn from(_: AllocError) -> Self {
-        ServeFault::Memory
     }
 }

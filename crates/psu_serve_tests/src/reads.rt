@@ -1,5 +1,5 @@
 // The results of a read on a connection.
-use psu_members::Heard;
+use psu_session_io::ReadResult;
 use std::io::{Error, ErrorKind};
 use std::test::Fail;
 
@@ -12,15 +12,15 @@ fn an_interrupted_read_is_no_end(rt: HostRuntime) -> Result<(), Fail> {
         ErrorKind::WouldBlock,
         ErrorKind::TimedOut,
     ] {
-        assert!(rt; Heard::of(&Err(Error::from(kind))) == Heard::Nothing);
+        assert!(rt; ReadResult::of(&Err(Error::from(kind))) == ReadResult::Nothing);
     }
     Ok(())
 }
 
 #[test]
 fn a_read_of_nothing_is_the_end(rt: HostRuntime) -> Result<(), Fail> {
-    assert!(rt; Heard::of(&Ok(0)) == Heard::End);
-    assert!(rt; Heard::of(&Err(Error::from(ErrorKind::ConnectionReset))) == Heard::End);
-    assert!(rt; Heard::of(&Ok(16)) == Heard::Bytes(16));
+    assert!(rt; ReadResult::of(&Ok(0)) == ReadResult::End);
+    assert!(rt; ReadResult::of(&Err(Error::from(ErrorKind::ConnectionReset))) == ReadResult::End);
+    assert!(rt; ReadResult::of(&Ok(16)) == ReadResult::Bytes(16));
     Ok(())
 }

@@ -1,7 +1,0 @@
-use Rattle.std.proofs.Common.{ap}
-use Rattle.psu_serve.specs.Serving.{IsServed}
-use Rattle.psu_serve.proofs.Sides.{comes_on_part}
-use Rattle.psu_serve.proofs.worker.Worker.release.Goals as goal
-
-pub returns : goal.returns
-returns g c = comes_on_part (λ x. x.member.now.session) (λ x. x.caller.now.seat) (IsServed g.D.Disk.honest) (λ x y deed d. (ap (λ m. m.now.session) d.1, d.2)) _ _ c.give_up.ensures

@@ -1,0 +1,75 @@
+// The sessions that are open.
+use psu_exec::{Grant, Session, Sessions};
+use psu_session_io::ServedSession;
+use std::sync::{Arc, Wait};
+
+/// The sessions that are open. A thread holds it while it opens or ends a session, or makes a call that grants or fails
+/// the lock requests of others: so a number that the device returns is that of the session that is registered here. It is
+/// locked after a session and before the device.
+#[derive(Drop)]
+pub struct Registry {
+    sessions: [Option<Arc<ServedSession>>; 16],
+}
+
+impl Registry {
+    /// Returns a registry without sessions.
+    pub fn new() -> Registry {
+        Registry {
+            sessions: [
+                None, None, None, None, None, None, None, None, None, None, None, None, None, None,
+                None, None,
+            ],
+        }
+    }
+
+    /// Registers the session of a number, or removes it.
+    pub fn put(&mut self, number: Session, session: Option<Arc<ServedSession>>) {
+        self.sessions[number.place()] = session;
+    }
+
+    /// Returns the session of a number.
+    pub fn session(&self, number: Session) -> Option<Arc<ServedSession>> {
+        Some(Arc::try_clone(self.sessions[number.place()].as_ref()?).ok()?)
+    }
+
+    /// Notifies sessions of the result of their lock requests.
+    pub fn grant<R: Wait>(&self, rt: &R, sessions: &Sessions, grant: Grant) {
+        for number in sessions.as_slice() {
+            if let Some(session) = &self.sessions[number.place()] {
+                session.mailbox.grant(rt, grant);
+            }
+        }
+    }
+
+    /// Notifies sessions that the device may have service requests for them.
+    pub fn request_service<R: Wait>(&self, rt: &R, sessions: &Sessions) {
+        for number in sessions.as_slice() {
+            if let Some(session) = &self.sessions[number.place()] {
+                session.mailbox.request_service(rt);
+            }
+        }
+    }
+
+    /// Wakes sessions whose waits are over.
+    pub fn wake<R: Wait>(&self, rt: &R, sessions: &Sessions) {
+        for number in sessions.as_slice() {
+            if let Some(session) = &self.sessions[number.place()] {
+                session.mailbox.wake(rt);
+            }
+        }
+    }
+
+    /// Wakes the sessions whose units wait for room.
+    pub fn wake_late<R: Wait>(&self, rt: &R) {
+        for session in self.sessions.iter().flatten() {
+            session.mailbox.wake_late(rt);
+        }
+    }
+
+    /// Wakes all sessions: locks have changed.
+    pub fn wake_all<R: Wait>(&self, rt: &R) {
+        for session in self.sessions.iter().flatten() {
+            session.mailbox.wake(rt);
+        }
+    }
+}

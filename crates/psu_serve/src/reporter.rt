@@ -1,0 +1,68 @@
+// The other threads of the server, for a thread that calls the device.
+use crate::registry::Registry;
+use crate::server::Server;
+use psu_callers::{LockedRegistry, Others};
+use psu_exec::{Grant, Session, Sessions};
+use std::sync::{MutexGuard, Wait};
+
+/// Reports to the other threads of the server what the calls of a thread have caused.
+#[derive(Drop)]
+pub struct Reporter<'a, 'r, R: Wait> {
+    pub rt: &'r R,
+    pub server: &'a Server,
+}
+
+/// The registry of the server, locked by a thread.
+#[derive(Drop)]
+pub struct HeldRegistry<'a, 'r, R: Wait> {
+    rt: &'r R,
+    pub registry: MutexGuard<'a, Registry>,
+}
+
+impl<'a, 'r, R: Wait> Reporter<'a, 'r, R> {
+    /// Wakes a session: what its next unit waits for may have come.
+    pub fn wake(&self, session: Session) {
+        let mut sessions = Sessions::new();
+        sessions.push(session);
+        self.server.registry.lock(self.rt).wake(self.rt, &sessions);
+    }
+}
+
+impl<'a, 'r, R: Wait> Others for Reporter<'a, 'r, R> {
+    type Registry = HeldRegistry<'a, 'r, R>;
+
+    fn lock_registry(&self) -> HeldRegistry<'a, 'r, R> {
+        HeldRegistry {
+            rt: self.rt,
+            registry: self.server.registry.lock(self.rt),
+        }
+    }
+
+    fn service_requested(&self, sessions: &Sessions) {
+        if !sessions.is_empty() {
+            self.server
+                .registry
+                .lock(self.rt)
+                .request_service(self.rt, sessions);
+        }
+    }
+
+    fn wake_flusher(&self) {
+        self.server.bell.ring(self.rt);
+    }
+
+    fn job_ended(&self, over: &Sessions) {
+        let registry = self.server.registry.lock(self.rt);
+        registry.wake(self.rt, over);
+        registry.wake_late(self.rt);
+    }
+}
+
+impl<'a, 'r, R: Wait> LockedRegistry for HeldRegistry<'a, 'r, R> {
+    fn pass_on(&self, sessions: &Sessions, grant: Grant) {
+        self.registry.grant(self.rt, sessions, grant);
+        if grant == Grant::Granted {
+            self.registry.wake_all(self.rt);
+        }
+    }
+}
