@@ -121,10 +121,9 @@ impl SharedSession {
             duty,
             side: _,
         } = bytes;
-        if self.session.is_full(S::SIDE) {
-            return self.over(duty);
+        if !self.session.is_full(S::SIDE) {
+            let _received = self.session.receive(now, S::SIDE, bytes, device);
         }
-        let _received = self.session.receive(now, S::SIDE, bytes, device);
         self.over(duty)
     }
 
