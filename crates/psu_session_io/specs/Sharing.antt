@@ -14,8 +14,8 @@ use Rattle.psu_session.specs.Releasing.{due_at}
 use Rattle.psu_session.specs.Step.{IsLockGranted, IsReceived, IsServiceRequested, IsTaken, IsTicked, Steps}
 use Rattle.psu_session.specs.declared.proceeded.Proceeded.{Proceeded}
 use Rattle.psu_session.specs.declared.proceeded.Proceeded.TheVariants.{Idle, Completed, Waits}
-use Rattle.psu_session_io.specs.declared.shared.Drained.{Drained}
-use Rattle.psu_session_io.specs.declared.shared.Drained.TheVariants.{More, AllDone}
+use Rattle.psu_session_io.specs.declared.ending.Drained.{Drained}
+use Rattle.psu_session_io.specs.declared.ending.Drained.TheVariants.{More, AllDone}
 use Rattle.psu_session_io.specs.declared.notice.Notice.{Notice}
 use Rattle.psu_session_io.specs.declared.notice.Notice.TheVariants as notice
 use Rattle.psu_session_io.specs.declared.linear.Received.{Received}

@@ -7,6 +7,7 @@
 #![tactic(auto)]
 
 mod connection;
+mod ending;
 mod line;
 mod linear;
 mod link;
@@ -19,6 +20,7 @@ mod side;
 mod thread;
 
 pub use connection::{Connection, Incoming};
+pub use ending::Drained;
 pub use linear::{
     Arrived, BytesRead, Closed, Closing, Disconnected, Next, Outgoing, Pending, Received,
     Remainder, Taken, Written,
@@ -28,6 +30,6 @@ pub use lock::SessionLock;
 pub use mailbox::Mailbox;
 pub use notice::Notice;
 pub use served::{NotAwaited, ServedSession};
-pub use shared::{Drained, SharedSession};
+pub use shared::SharedSession;
 pub use side::{Asynchronous, ConnectionSide, Synchronous};
 pub use thread::{Body, Token, run};

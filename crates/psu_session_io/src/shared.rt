@@ -1,12 +1,10 @@
 // The value of a session that threads share.
-ghost use Rattle.std.specs.Prelude.{◌≡◌, ◌≢◌, ◌↔◌, true, false, None, [], ◌∷◌, IsTrue, IfOk, IfSome, OnOk, OnErr};
+ghost use Rattle.std.specs.Prelude.{◌≡◌, ◌≢◌, ◌↔◌, true, false, None, [], ◌∷◌, IsTrue, IfOk, OnOk, OnErr};
 ghost use Rattle.psu_hislip.specs.declared.side.Side.TheVariants.{Sync, Async};
 ghost use Rattle.psu_session.specs.Events.{Wrote};
 ghost use Rattle.psu_session.specs.State.{HasWork};
-ghost use Rattle.psu_session.specs.Holding.{IsFull};
-ghost use Rattle.psu_session.specs.Serving.{PerformsStep};
-ghost use Rattle.psu_session.specs.Step.{IsReceived, IsWritten};
-ghost use Rattle.psu_session_io.specs.Sharing.{Executes, Discards, IsDrained, Leaves, MayContinue, MayRequestService, Notifies, Receives, Takes, IsForOthers, IsUnwritten, HasRoom, OnMore, waits_after};
+ghost use Rattle.psu_session.specs.Step.{IsWritten};
+ghost use Rattle.psu_session_io.specs.Sharing.{Executes, Leaves, MayContinue, MayRequestService, Notifies, Receives, Takes, IsForOthers, IsUnwritten, HasRoom, waits_after};
 
 use crate::linear::{
     Arrived, BytesRead, Closing, Disconnected, Duty, Outgoing, Pending, Received, Remainder, Taken,
@@ -20,13 +18,10 @@ use psu_messages::Need;
 use psu_session::{Device, Ended, Proceeded, Session};
 use std::marker::PhantomData;
 
-/// At most how many units a call that continues a session tries.
-const TRIES: u32 = 4_096;
-
 /// A session as its threads share it: what they bring and take are linear values.
 #[derive(Drop)]
 pub struct SharedSession {
-    session: Session,
+    pub(crate) session: Session,
     // A connection has ended, or memory was refused: nothing is received or sent any more.
     lost: bool,
     // What the next unit waits for. It is tried again once that may have come.
@@ -34,15 +29,6 @@ pub struct SharedSession {
     // Whether the readers wait for room.
     sync_reader_waits: bool,
     async_reader_waits: bool,
-}
-
-/// The result of a step of the execution of what a session that is over was sent before.
-#[derive(Clone, Copy, Debug, PartialEq, Eq)]
-pub enum Drained {
-    /// There is more, and what was executed counts as so many tries of a unit.
-    More(u32),
-    /// Nothing is left that need not wait.
-    AllDone,
 }
 
 impl SharedSession {
@@ -60,7 +46,7 @@ impl SharedSession {
     }
 
     // Returns that the session is over.
-    fn over(&mut self, duty: Duty) -> Closing
+    pub(crate) fn over(&mut self, duty: Duty) -> Closing
         ensures { self.new ≡ record self.old { lost = true } }
     {
         self.lost = true;
@@ -102,29 +88,6 @@ impl SharedSession {
             })),
             Err(Ended) => Err(self.over(duty)),
         }
-    }
-
-    /// Receives bytes that were read from a connection of a session that is over, unless it holds too much.
-    pub fn receive_last<S: ConnectionSide, D: Device>(
-        &mut self,
-        now: u64,
-        bytes: BytesRead<'_, S>,
-        device: &mut D,
-    ) -> Closing
-        ensures full { IsFull S.SIDE self.old.session.state → (self.new.session ≡ self.old.session) × (device.new ≡ device.old) }
-        ensures received { (IsFull S.SIDE self.old.session.state → ⊥) → self.new.session.over ≡ false
-            → PerformsStep D.does (IsReceived now S.SIDE bytes.entry.bytes.now) self.old.session.state device.old self.new.session.state device.new }
-        ensures ended { self.new.lost ≡ true }
-    {
-        let BytesRead {
-            bytes,
-            duty,
-            side: _,
-        } = bytes;
-        if !self.session.is_full(S::SIDE) {
-            let _received = self.session.receive(now, S::SIDE, bytes, device);
-        }
-        self.over(duty)
     }
 
     // Sends the session's service request, if the device has one and the asynchronous connection is there.
@@ -368,43 +331,5 @@ impl SharedSession {
     {
         let Disconnected { duty } = disconnected;
         self.over(duty)
-    }
-
-    // Discards the output of a connection.
-    fn discard(&mut self, side: Side) -> Result<(), Ended>
-        ensures { OnOk result (Discards self.old.session.state self.new.session.state) }
-    {
-        if self.session.has_ended() {
-            return Err(Ended);
-        }
-        self.session.written(side);
-        match self.session.take_output(side)? {
-            Some(_bytes) => Ok(()),
-            None => Ok(()),
-        }
-    }
-
-    // Continues the execution, and discards the output of both connections. Returns as how many tries that counts.
-    fn execute_last<D: Device>(&mut self, device: &mut D) -> Result<Option<u32>, Ended>
-        ensures { IfOk result (λ units. IfSome units (λ _. IsDrained D.does self.old.session.state device.old self.new.session.state device.new)) }
-    {
-        let units = match self.session.proceed(device)? {
-            Proceeded::Completed => 1,
-            Proceeded::Waits(Need::Turn) => TRIES,
-            Proceeded::Idle | Proceeded::Waits(_) => return Ok(None),
-        };
-        self.discard(Side::Sync)?;
-        self.discard(Side::Async)?;
-        Ok(Some(units))
-    }
-
-    /// Continues the execution of what a session that is over was sent before. Its responses are discarded.
-    pub fn drain<D: Device>(&mut self, device: &mut D) -> Drained
-        ensures { OnMore result (IsDrained D.does self.old.session.state device.old self.new.session.state device.new) }
-    {
-        match self.execute_last(device) {
-            Ok(Some(units)) => Drained::More(units),
-            Ok(None) | Err(Ended) => Drained::AllDone,
-        }
     }
 }
