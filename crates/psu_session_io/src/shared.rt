@@ -76,6 +76,10 @@ impl SharedSession {
         ensures ended { OnErr result (self.new.lost ≡ true) }
     {
         if self.session.is_full(S::SIDE) {
+            // No room comes any more where the session is over.
+            if self.lost {
+                return Err(self.over(bytes.into_duty()));
+            }
             self.wait_for_room(S::SIDE);
             return Ok(Received::Full(bytes));
         }
