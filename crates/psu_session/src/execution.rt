@@ -67,7 +67,11 @@ impl<'a, 'b, 'c, D: Device> Executor<Global> for Execution<'a, 'b, 'c, D> {
         let Some(frames) = frames else {
             return Err(Ended);
         };
-        self.output.extend_from_slice(frames.as_slice())?;
+        if self.output.is_empty() {
+            *self.output = frames;
+        } else {
+            self.output.extend_from_slice(frames.as_slice())?;
+        }
         self.device.sent();
         Ok(())
     }

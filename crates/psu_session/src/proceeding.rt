@@ -18,6 +18,9 @@ impl Parts {
         ensures some { IfSome result (λ next. IsNextWork (state_of self.old) next (state_of self.new)) }
         ensures none { IsNone result → (state_of self.new ≡ state_of self.old) × ((state_of self.old).running ≡ None) × ((state_of self.old).waiting ≡ []) }
     {
+        if !self.has_work() {
+            return None;
+        }
         if let Some(running) = mem::replace(&mut self.running, None) {
             return Some(Next::Order(running));
         }
