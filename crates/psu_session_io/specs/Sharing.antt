@@ -26,7 +26,7 @@ use Rattle.psu_session_io.specs.declared.linear.Taken.TheVariants.{Bytes, Nothin
 
 -- The bytes are received, or the session is full and they are returned.
 abbrev pub Receives : {X S : Type 0} → (X → Call → X → Type 0) → ℕ → Side → List ℕ → Received S → State → X → State → X → Type 0
-Receives does now side bytes (All pending) s x t y = PerformsStep does (IsReceived now side bytes) s x t y
+Receives does now side bytes (All pending) s x t y = (IsFull side s → ⊥) × PerformsStep does (IsReceived now side bytes) s x t y
 Receives does now side bytes (Full returned) s x t y = IsFull side s × (returned.bytes.now ≡ bytes) × (t ≡ s) × (y ≡ x)
 
 -- ---- execution
