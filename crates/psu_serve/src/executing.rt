@@ -13,8 +13,8 @@ use std::time::{Duration, Instant};
 /// How long a connection may take to its first message, and a session to its second connection, in seconds.
 pub const SILENCE: u64 = 10;
 
-/// How many units are tried at most after a session's end: as many as a transmission has bytes, so one without macros is
-/// executed.
+/// How many units are tried at most after a session's end: as many as a transmission has bytes, so one without macros
+/// is executed.
 const LAST_UNITS: u32 = 65_536;
 
 /// How many reads are made at most after a session's end. A connection that is shut ends before.

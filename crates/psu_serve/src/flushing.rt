@@ -15,7 +15,8 @@ use std::io::Eprint;
 use std::rt::Clock;
 use std::sync::Wait;
 
-/// How long the flusher waits after a job that did not go well, in milliseconds, unless others have something to be flushed before.
+/// How long the flusher waits after a job that did not go well, in milliseconds, unless others have something to be
+/// flushed before.
 const PAUSE: u64 = 1000;
 
 /// What a round came to.

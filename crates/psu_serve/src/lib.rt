@@ -1,6 +1,6 @@
 //! The server over loopback: it powers on, accepts connections, and gives each a thread. A connection opens or joins a
-//! session, whose threads read, lock the session, pass in what they read, execute, take what is to be sent, and write; one
-//! more thread flushes. What is received, executed and sent is decided by the crates below.
+//! session, whose threads read, lock the session, pass in what they read, execute, take what is to be sent, and write;
+//! one more thread flushes. What is received, executed and sent is decided by the crates below.
 #![tactic(auto)]
 
 mod acceptor;

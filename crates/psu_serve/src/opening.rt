@@ -1,4 +1,10 @@
 // A connection up to its first message, and sessions that open and close.
+ghost use Rattle.std.specs.Prelude.{◌≡◌, ◌++◌, IfOk, length};
+ghost use Rattle.psu_hislip.specs.Faults.{fatal_code};
+ghost use Rattle.psu_hislip.specs.Frame.{header_of};
+ghost use Rattle.psu_hislip.specs.Header.{header_bytes};
+ghost use Rattle.psu_hislip.specs.declared.message_type.MessageType.TheVariants.{FatalError};
+
 use crate::executing::SILENCE;
 use crate::reporter::Reporter;
 use crate::server::Server;
@@ -19,7 +25,9 @@ use std::time::{Duration, Instant};
 const SPACE: usize = 4_096;
 
 /// The sixteen bytes of a FatalError.
-pub fn fatal(code: FatalCode) -> [u8; 16] {
+pub fn fatal(code: FatalCode) -> [u8; 16]
+    ensures { result ≡ header_bytes (header_of FatalError (fatal_code code) 0 0) }
+{
     Header::new(MessageType::FatalError, code.code(), 0, 0).bytes()
 }
 
@@ -36,7 +44,9 @@ pub struct Opening {
 
 impl Opening {
     /// Returns all bytes that were read.
-    pub fn whole(self) -> io::Result<Vec<u8>> {
+    pub fn whole(self) -> io::Result<Vec<u8>>
+        ensures { IfOk result (λ whole. whole.items ≡ self.message.items ++ self.after.items) }
+    {
         let Opening {
             first: _,
             mut message,
@@ -74,7 +84,9 @@ impl FirstMessage {
 }
 
 /// Returns an area of memory to read into.
-pub fn space(alloc: Global, size: usize) -> io::Result<Vec<u8>> {
+pub fn space(alloc: Global, size: usize) -> io::Result<Vec<u8>>
+    ensures { IfOk result (λ space. length space.items ≡ size) }
+{
     let mut space = Vec::new(alloc);
     space.resize(size, 0u8)?;
     Ok(space)
@@ -124,8 +136,8 @@ fn opened(
     Ok((response, known, served))
 }
 
-/// Opens a session over its synchronous connection, whose first message has these bytes, and returns it with its response;
-/// `None` where there are too many sessions. Its number is free again where memory for it is refused.
+/// Opens a session over its synchronous connection, whose first message has these bytes, and returns it with its
+/// response; `None` where there are too many sessions. Its number is free again where memory for it is refused.
 pub fn open<R: Wait, D: Disk + Drop, G: Gate + Drop>(
     rt: &R,
     server: &Server,

@@ -4,8 +4,8 @@ use psu_session_io::ServedSession;
 use std::sync::{Arc, Wait};
 
 /// The sessions that are open. A thread holds it while it opens or ends a session, or makes a call that grants or fails
-/// the lock requests of others: so a number that the device returns is that of the session that is registered here. It is
-/// locked after a session and before the device.
+/// the lock requests of others: so a number that the device returns is that of the session that is registered here. It
+/// is locked after a session and before the device.
 #[derive(Drop)]
 pub struct Registry {
     sessions: [Option<Arc<ServedSession>>; 16],

@@ -214,7 +214,7 @@ IsWrittenIn side between = (some : List Event) × (more : List Event) × (betwee
 later : (side : Side) (x : Event) (xs : List Event) → IsWrittenIn side xs → IsWrittenIn side (x ∷ xs)
 later side x xs (some, more, is) = (x ∷ some, more, ap (λ (z : List Event). x ∷ z) is)
 
--- where somebody writes before these events and nobody after them
+-- where a thread writes before these events and no thread after them
 written_in : (side : Side) (xs : List Event) → writes_after side true xs ≡ false → IsWrittenIn side xs
 written_in side [] e = absurd (cc (e))
 written_in side (events.BytesReceived on received_bytes ∷ xs) e = later side _ xs (written_in side xs e)

@@ -204,7 +204,7 @@ pub record IsEnded (s : State) (done : List Event) (t : State) : Type 0 where
 
 -- ---- the output
 
--- All bytes of the output of a connection are taken. Nobody wrote there, and who takes them writes them.
+-- All bytes of the output of a connection are taken. No thread wrote there, and the thread that takes them writes them.
 pub record IsTaken (side : Side) (bytes : List ℕ) (s : State) (done : List Event) (t : State) : Type 0 where
   pub free : writes side s ≡ false
   pub all : output side s ≡ bytes

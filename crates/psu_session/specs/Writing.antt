@@ -12,7 +12,7 @@ on_same Sync Sync here elsewhere = here
 on_same Async Async here elsewhere = here
 on_same one other here elsewhere = elsewhere
 
--- whether somebody writes on a connection after an event
+-- whether a thread writes on a connection after an event
 abbrev pub writes_by : Side → Bool → Event → Bool
 writes_by side writing (BytesReceived on received_bytes) = writing
 writes_by side writing (LockGranted grant) = writing
@@ -30,11 +30,11 @@ abbrev pub writes_after : Side → Bool → List Event → Bool
 writes_after side writing [] = writing
 writes_after side writing (event ∷ events) = writes_after side (writes_by side writing event) events
 
--- The state says who writes: somebody writes on a connection where the last event of the two is that bytes are taken.
+-- The state says who writes: a thread writes on a connection where the last event of the two is that bytes are taken.
 abbrev pub TheWriterIsKnown : Type 0
 TheWriterIsKnown = (start : Start) (history : List Event) (s : State) → IsHistory start history s → (side : Side) → writes side s ≡ writes_after side false history
 
--- Bytes are taken only while nobody writes: between two such events of a connection the first bytes are written.
+-- Bytes are taken only while no thread writes: between two such events of a connection the first bytes are written.
 abbrev pub EachTakeIsWritten : Type 0
 EachTakeIsWritten = (start : Start) (history : List Event) (s : State) → IsHistory start history s → (side : Side) (before between after : List Event) (first second : List ℕ)
     → history ≡ before ++ Took side first ∷ (between ++ Took side second ∷ after) → (some : List Event) × (more : List Event) × (between ≡ some ++ Wrote side ∷ more)

@@ -33,9 +33,9 @@ pub struct Parts {
     pub sync_output: Vec<u8>,
     /// The bytes that are to be sent on the asynchronous connection.
     pub async_output: Vec<u8>,
-    /// Whether somebody writes bytes on the synchronous connection that were taken before.
+    /// Whether a thread writes bytes on the synchronous connection that were taken before.
     pub sync_writes: bool,
-    /// Whether somebody writes bytes on the asynchronous connection that were taken before.
+    /// Whether a thread writes bytes on the asynchronous connection that were taken before.
     pub async_writes: bool,
     /// How much the transmissions that are queued or in execution count as.
     pub held: Credit,

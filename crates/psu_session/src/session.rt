@@ -220,7 +220,7 @@ impl Session {
         self.parts.core.response()
     }
 
-    /// Takes all bytes that are to be sent on a connection, for the caller to write. There are none where somebody still
+    /// Takes all bytes that are to be sent on a connection, for the caller to write. There are none where a thread still
     /// writes there, until `written` is called, or where nothing is to be sent.
     pub fn take_output(&mut self, side: Side) -> Result<Option<Vec<u8>>, Ended>
         ensures was { OnOk result (self.old.over ≡ false) }

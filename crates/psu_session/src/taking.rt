@@ -20,7 +20,7 @@ impl Parts {
         }
     }
 
-    // Sets whether somebody writes on a connection.
+    // Sets whether a thread writes on a connection.
     fn set_writing(&mut self, side: Side, writing: bool)
         ensures { state_of self.new ≡ with_writes side (state_of self.old) writing }
     {
@@ -52,7 +52,7 @@ impl Parts {
         }
     }
 
-    /// Takes all bytes that are to be sent on a connection, if there are any and nobody writes there.
+    /// Takes all bytes that are to be sent on a connection, if there are any and no thread writes there.
     pub fn take(&mut self, side: Side) -> Option<Vec<u8>>
         ensures some { IfSome result (λ bytes. IsTaken side bytes.items (state_of self.old) (Took side bytes.items ∷ []) (state_of self.new)) }
         ensures none { IsNone result → (state_of self.new ≡ state_of self.old) × ((writes side (state_of self.old) ≡ true) ⊎ (output side (state_of self.old) ≡ [])) }

@@ -1,9 +1,10 @@
-//! A session as its threads share it: its value behind a mutex, its two connections, and the notices between its threads.
+//! A session as its threads share it: its value behind a mutex, its two connections, and the notices between its
+//! threads.
 //!
-//! No contract can say what a thread did under a mutex, so what a thread must not forget is a linear value, which has no
-//! `Drop`: bytes that were read, a session that has to be continued, bytes that are to be written, the receipt that they
-//! are written, what is left to other threads, a notice that arrived, a connection that ended, and a session that has to
-//! be closed. Only this crate makes and ends such values. A thread that leaves one out does not compile.
+//! No contract can say what a thread did under a mutex, so what a thread must not forget is a linear value, which has
+//! no `Drop`: bytes that were read, a session that has to be continued, bytes that are to be written, the receipt that
+//! they are written, what is left to other threads, a notice that arrived, a connection that ended, and a session that
+//! has to be closed. Only this crate makes and ends such values. A thread that leaves one out does not compile.
 #![tactic(auto)]
 
 mod connection;

@@ -7,8 +7,8 @@ use std::sync::Wait;
 use std::sync::atomic::{AtomicBool, Ordering};
 use std::time::Duration;
 
-/// A channel of notices to one thread. At most one notice of a kind is on its way, so the channel is never full: to post
-/// one neither waits nor allocates.
+/// A channel of notices to one thread. At most one notice of a kind is on its way, so the channel is never full: to
+/// post one neither waits nor allocates.
 #[derive(Drop)]
 pub(crate) struct Line {
     sender: Sender<Notice>,

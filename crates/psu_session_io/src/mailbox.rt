@@ -11,8 +11,8 @@ use std::sync::Wait;
 use std::sync::atomic::{AtomicBool, Ordering};
 use std::time::Duration;
 
-/// The notices to the threads of a session: its worker, its notifier and its two readers. Other sessions and the flusher
-/// post notices here while they hold locks, since to post one neither waits for another thread nor allocates.
+/// The notices to the threads of a session: its worker, its notifier and its two readers. Other sessions and the
+/// flusher post notices here while they hold locks, since to post one neither waits for another thread nor allocates.
 #[derive(Drop)]
 pub struct Mailbox {
     worker: Line,
@@ -83,8 +83,8 @@ impl Mailbox {
         }
     }
 
-    /// Notifies the other threads of what a thread that executes leaves to them. A unit that waits for room is tried once
-    /// more after that is known to the flusher, since there may have been room in the meantime.
+    /// Notifies the other threads of what a thread that executes leaves to them. A unit that waits for room is tried
+    /// once more after that is known to the flusher, since there may have been room in the meantime.
     pub fn notify_others<R: Wait>(&self, rt: &R, remainder: Remainder<Synchronous>) -> Next {
         let Remainder {
             more,

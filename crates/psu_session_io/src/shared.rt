@@ -34,7 +34,9 @@ pub struct SharedSession {
 impl SharedSession {
     /// Returns a session that no thread serves yet.
     pub(crate) fn new(session: Session) -> SharedSession
-        ensures { result.session ≡ session }
+        ensures session { result.session ≡ session }
+        ensures lost { result.lost ≡ false }
+        ensures waits { result.waits ≡ None }
     {
         SharedSession {
             session,
@@ -114,6 +116,7 @@ impl SharedSession {
     ) -> Result<Pending<S>, Closing>
         ensures notified { OnOk result (Notifies D.does now arrived.notice self.old.session.state device.old self.new.session.state device.new) }
         ensures waits { OnOk result (self.new.waits ≡ waits_after arrived.notice self.old.waits) }
+        ensures was { OnOk result (self.old.lost ≡ false) }
         ensures ended { OnErr result (self.new.lost ≡ true) }
     {
         let Arrived { notice, duty, side } = arrived;
@@ -141,8 +144,8 @@ impl SharedSession {
         }
     }
 
-    // Continues the execution, unless a unit waits and is not to be tried again. Returns whether there is more to execute
-    // at once.
+    // Continues the execution, unless a unit waits and is not to be tried again. Returns whether there is more to
+    // execute at once.
     fn proceed<D: Device>(&mut self, again: bool, device: &mut D) -> Result<bool, Ended>
         ensures continues { IfOk result (λ more. MayContinue D.does again more self.old.waits self.new.waits self.old.session.state device.old self.new.session.state device.new) }
         ensures sync { self.new.sync_reader_waits ≡ self.old.sync_reader_waits }
@@ -264,6 +267,7 @@ impl SharedSession {
         device: &mut D,
     ) -> Result<Taken<Synchronous>, Closing>
         ensures executed { IfOk result (λ taken. Executes D.does pending.again self.old.waits self.old.sync_reader_waits self.old.async_reader_waits taken self.old.session.state device.old self.new.session.state device.new) }
+        ensures was { OnOk result (self.old.lost ≡ false) }
         ensures ended { OnErr result (self.new.lost ≡ true) }
     {
         let Pending {
@@ -289,6 +293,7 @@ impl SharedSession {
         pending: Pending<Asynchronous>,
     ) -> Result<Taken<Asynchronous>, Closing>
         ensures responded { IfOk result (λ taken. Takes Async false self.old.waits self.old.sync_reader_waits self.old.async_reader_waits taken self.old.session.state self.new.session.state) }
+        ensures was { OnOk result (self.old.lost ≡ false) }
         ensures ended { OnErr result (self.new.lost ≡ true) }
     {
         let Pending {
@@ -331,7 +336,7 @@ impl SharedSession {
 
     /// Notes that a connection has ended: the session is over.
     pub fn disconnect(&mut self, disconnected: Disconnected) -> Closing
-        ensures { self.new.lost ≡ true }
+        ensures { self.new ≡ record self.old { lost = true } }
     {
         let Disconnected { duty } = disconnected;
         self.over(duty)

@@ -4,9 +4,9 @@ use std::marker::PhantomData;
 use std::rt::Clock;
 use std::sync::Wait;
 
-/// The token of a thread of a session, of the side on which it writes. It is lent to the lock of the session for as long
-/// as the session is held, and to each call that may block on a connection or for a notice: so a thread that holds a
-/// session neither reads, writes nor waits, nor holds a second session.
+/// The token of a thread of a session, of the side on which it writes. It is lent to the lock of the session for as
+/// long as the session is held, and to each call that may block on a connection or for a notice: so a thread that holds
+/// a session neither reads, writes nor waits, nor holds a second session.
 pub struct Token<S> {
     side: PhantomData<S>,
 }
