@@ -87,9 +87,12 @@ impl<A: Allocator + Copy> Bytes<A> {
         ensures ok { IfOk result (λ copy. copy ≡ bytes.now) }
         ensures many { OnErr result (16 < length bytes.now) }
     {
-        let mut copy = Bytes::new(alloc);
-        copy.put(bytes)?;
-        Ok(copy)
+        if bytes.len() <= FEW {
+            return Ok(Bytes::few(alloc, bytes));
+        }
+        Ok(Bytes {
+            held: Held::Many(bytes.to_vec(alloc)?),
+        })
     }
 
     /// Appends bytes. Only where there are then more than 16, it needs an allocation; if that fails, nothing has
