@@ -1,6 +1,6 @@
 // Texts as they are spelled in a row: `\n` is NL, `{a*64}` is 64 a, and `nothing` is the empty text.
 use psu_exec::ScpiError;
-use psu_sessions::Input;
+use psu_messages::Input;
 use psu_tables::written;
 use std::alloc::Global;
 

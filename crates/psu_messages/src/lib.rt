@@ -5,6 +5,7 @@
 mod executor;
 mod expansion;
 mod expansions;
+mod input;
 mod laws;
 mod messages;
 mod need;
@@ -17,6 +18,7 @@ mod tries;
 
 pub use executor::Executor;
 pub use expansion::Expansion;
+pub use input::Input;
 pub use laws::{
     calls_are_one_execution, over_is_done, over_is_messages, over_is_sent, so_far_is_messages,
 };

@@ -13,10 +13,9 @@ use crate::reading::{pass_over, request_at};
 use crate::refused::units_of;
 use crate::responses::{add_response, close};
 use crate::tries::{Tried, attempt};
-use crate::{Executor, Expansion, Need, Progress};
+use crate::{Executor, Expansion, Input, Need, Progress};
 use psu_exec::{Outcome, Request, ScpiError};
 use psu_lex::{Bytes, Unit};
-use psu_sessions::Input;
 use psu_tree::Path;
 use std::alloc::Allocator;
 

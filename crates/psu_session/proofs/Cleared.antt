@@ -6,7 +6,7 @@ use Rattle.psu_hislip.specs.Stream.{Received}
 use Rattle.psu_hislip.specs.declared.origin.Origin.{Origin}
 use Rattle.psu_hislip.specs.declared.side.Side.TheVariants.{Sync, Async}
 use Rattle.psu_messages.specs.Effects.{Effect}
-use Rattle.psu_exchange.specs.Exchange.{asked}
+use Rattle.psu_session.specs.Exchange.{asked}
 use Rattle.psu_session.specs.Cleared.{IsAfterResponses, worked}
 use Rattle.psu_session.specs.Events as events
 use Rattle.psu_session.specs.Events.{Event, Came, Did, Put, exchange_history, put, taken}

@@ -14,10 +14,10 @@ use Rattle.psu_hislip.specs.declared.origin.Origin.{Origin}
 use Rattle.psu_hislip.specs.declared.side.Side.{Side}
 use Rattle.psu_hislip.specs.declared.side.Side.TheVariants.{Sync, Async}
 use Rattle.psu_hislip.proofs.Runs.{core_after-append}
-use Rattle.psu_sessions.specs.Locking.{kind_of}
-use Rattle.psu_exchange.specs.Exchange as exchange
-use Rattle.psu_exchange.specs.Exchange.{Done, Order, asked, core_at, order_in, orders, replies, reply_of}
-use Rattle.psu_exchange.specs.Life.{Happening as ExchangeEvent, Did, Replied, bytes_in, came, deed_in, done_in, replied, reply_in, told_by, written}
+use Rattle.psu_session.specs.Locking.{kind_of}
+use Rattle.psu_session.specs.Exchange as exchange
+use Rattle.psu_session.specs.Exchange.{Done, Order, asked, core_at, order_in, orders, replies, reply_of}
+use Rattle.psu_session.specs.Exchanged.{ExchangeEvent, Did, Replied, bytes_in, came, execution_in, executions, replied, reply_in, arrivals_in, written}
 use Rattle.psu_session.specs.Events as session
 use Rattle.psu_session.specs.Events.{Event, bytes_received, bytes_received_by, if_same, exchange_history, put, exchange_view, taken, taken_by, waits_after}
 use Rattle.psu_session.specs.Step.{Does, Each, IsLocked, IsServiceRequested, IsQueried, IsLockGranted, granted, happened, puts_any, works_in}
@@ -29,13 +29,13 @@ pub exchange_history-append : (xs ys : List Event) → exchange_history (xs ++ y
 exchange_history-append xs ys = flat_map-append exchange_view xs ys
 
 pub came-append : (xs ys : List ExchangeEvent) → came (xs ++ ys) ≡ came xs ++ came ys
-came-append xs ys = flat_map-append told_by xs ys
+came-append xs ys = flat_map-append arrivals_in xs ys
 
 pub replied-append : (xs ys : List ExchangeEvent) → replied (xs ++ ys) ≡ replied xs ++ replied ys
 replied-append xs ys = flat_map-append reply_in xs ys
 
-pub done-append : (xs ys : List ExchangeEvent) → done_in (xs ++ ys) ≡ done_in xs ++ done_in ys
-done-append xs ys = flat_map-append deed_in xs ys
+pub done-append : (xs ys : List ExchangeEvent) → executions (xs ++ ys) ≡ executions xs ++ executions ys
+done-append xs ys = flat_map-append execution_in xs ys
 
 pub written-append : (xs ys : List ExchangeEvent) → written (xs ++ ys) ≡ written xs ++ written ys
 written-append xs ys = flat_map-append bytes_in xs ys
@@ -91,7 +91,7 @@ pub replies_no_arrivals : (frames : List (List ℕ)) → came (as_replies frames
 replies_no_arrivals [] = refl
 replies_no_arrivals (one ∷ frames) = replies_no_arrivals frames
 
-pub replies_done : (frames : List (List ℕ)) → done_in (as_replies frames) ≡ []
+pub replies_done : (frames : List (List ℕ)) → executions (as_replies frames) ≡ []
 replies_done [] = refl
 replies_done (one ∷ frames) = replies_done frames
 
@@ -160,7 +160,7 @@ pub effects_replied : (origin : Origin) (done : List Done) → replied (as_effec
 effects_replied origin [] = refl
 effects_replied origin (d ∷ done) = effects_replied origin done
 
-pub effects_done : (origin : Origin) (done : List Done) → done_in (as_effects origin done) ≡ as_effects origin done
+pub effects_done : (origin : Origin) (done : List Done) → executions (as_effects origin done) ≡ as_effects origin done
 effects_done origin [] = refl
 effects_done origin (d ∷ done) = ap (λ (z : List ExchangeEvent). Did origin d.effect d.frames ∷ z) (effects_done origin done)
 

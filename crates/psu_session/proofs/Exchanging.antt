@@ -8,9 +8,9 @@ use Rattle.psu_hislip.specs.Channel.{Fed}
 use Rattle.psu_hislip.specs.Stream.{Received}
 use Rattle.psu_hislip.specs.declared.side.Side.{Side}
 use Rattle.psu_hislip.specs.declared.side.Side.TheVariants.{Sync, Async}
-use Rattle.psu_exchange.specs.Exchange as exchange
-use Rattle.psu_exchange.specs.Exchange.{Done, EachEnds, HasEnded, Order, Turn, orders, replies}
-use Rattle.psu_exchange.specs.Life.{Happening as ExchangeEvent, Did, replied}
+use Rattle.psu_session.specs.Exchange as exchange
+use Rattle.psu_session.specs.Exchange.{Done, EachEnds, HasEnded, Order, Turn, orders, replies}
+use Rattle.psu_session.specs.Exchanged.{ExchangeEvent, Did, replied}
 use Rattle.psu_session.specs.Events.{Event, exchange_history}
 use Rattle.psu_session.specs.History.{IsExchangeHistory}
 use Rattle.psu_session.specs.Step.{IsHistory, Steps}
@@ -42,7 +42,7 @@ at_first start = record {
     core = refl;
     in_order = refl;
     turns_done = refl;
-    courses = All-nil TurnReaches;
+    reached = All-nil TurnReaches;
     reaches = tt;
     ends = All-nil (HasEnded start.session []);
     each_done = λ before after o d f is. absurd (none_after before (Did o d f) after (sym is));
@@ -104,7 +104,7 @@ are_exchanges start history s is_history =
         waiting = orders_in s.waiting;
         in_order = in_order;
         turns_done = k.turns_done ∙ sym (flat_map-append exchange.happened k.ended last);
-        courses = All-append TurnReaches k.ended last k.courses (last_reaches s.running k.done k.reaches);
+        reached = All-append TurnReaches k.ended last k.reached (last_reaches s.running k.done k.reaches);
         ends = each_ends start.session l k.ended s.running k.done k.ends;
         done = k.each_done;
         replies_sent = k.each_replied;

@@ -8,7 +8,7 @@ use Rattle.psu_messages.specs.Executions.{Reaches, Progress, Advances}
 use Rattle.psu_messages.specs.Effects as messages
 use Rattle.psu_messages.specs.Effects.{Effect}
 use Rattle.psu_messages.specs.Units.{Source}
-use Rattle.psu_exchange.specs.Exchange.{Done, effects, frames}
+use Rattle.psu_session.specs.Exchange.{Done, effects, frames}
 use Rattle.psu_session.specs.Events.{Call, call_of, calls}
 use Rattle.psu_session.specs.Step.{AreFramed, happened}
 use Rattle.psu_session.specs.Serving.{AdvancesOrder, Puts, Runs}

@@ -7,14 +7,14 @@ use Rattle.psu_hislip.specs.Core.{outcome_of}
 use Rattle.psu_hislip.specs.Stream.{Received}
 use Rattle.psu_hislip.specs.declared.side.Side.{Side}
 use Rattle.psu_hislip.specs.declared.side.Side.TheVariants.{Sync, Async}
-use Rattle.psu_sides.specs.Messages.{clears, parameter}
+use Rattle.psu_session.specs.Numbers.{clears, number_on, parameter}
 use Rattle.psu_messages.specs.Executions.{beginning}
-use Rattle.psu_exchange.specs.Exchange as exchange
+use Rattle.psu_session.specs.Exchange as exchange
 use Rattle.psu_session.specs.Credit.{cost, cost_of, costs, held_with}
 use Rattle.psu_session.specs.Events.{Event}
 use Rattle.psu_session.specs.Holding.{cost_running}
 use Rattle.psu_session.specs.Releases.{releases_in}
-use Rattle.psu_session.specs.Step.{EachReceived, IsMessageReceived, Step, Steps, running, number_on, release_in, works_in}
+use Rattle.psu_session.specs.Step.{EachReceived, IsMessageReceived, Step, Steps, running, release_in, works_in}
 use Rattle.psu_session.specs.Step.Step.{Receives, Notifies, Ticks, Begins, Works, ReleasesLock, Ends, Takes, Writes}
 use Rattle.psu_session.specs.Step.Steps.{Still, Then}
 use Rattle.psu_session.specs.State.{Running, Release, Start, State, Work, Execute, ReleaseLock, added, due, fresh, numbered, order_of_work, orders_in, owed_with, settled, with_channel, with_core, with_held, with_output, with_owed, with_work, with_writes}

@@ -5,7 +5,7 @@ use Rattle.psu_locks.specs.declared.kind.Kind.{Kind}
 use Rattle.psu_hislip.specs.Action.{Act}
 use Rattle.psu_hislip.specs.LockResponses.{lock_response}
 use Rattle.psu_hislip.specs.declared.header.Header.{Header}
-use Rattle.psu_sessions.specs.Locking.{kind_of}
+use Rattle.psu_session.specs.Locking.{kind_of}
 use Rattle.psu_session.specs.Events.{Event, DeviceCalled, Locked, waits_after}
 use Rattle.psu_session.specs.Requests.{immediate, immediate_in}
 use Rattle.psu_session.specs.Step.{Does, Each, IsLocked, puts_any}

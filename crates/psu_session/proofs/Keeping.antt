@@ -15,9 +15,9 @@ use Rattle.psu_hislip.specs.declared.side.Side.TheVariants.{Sync}
 use Rattle.psu_messages.specs.Executions.{Reaches, Progress, IsOver, beginning}
 use Rattle.psu_messages.specs.Executions.Reaches.{Begins as ReachesBegins}
 use Rattle.psu_messages.specs.Effects.{Effect}
-use Rattle.psu_exchange.specs.Exchange as exchange
-use Rattle.psu_exchange.specs.Exchange.{Done, EachIsDone, EachIsReplied, HasEnded, IsDone, IsFramed, Order, Turn, asked, core_at, effects, order_in, orders, replies, reply_of}
-use Rattle.psu_exchange.specs.Life.{Happening as ExchangeEvent, Came, Did, came, done_in, replied}
+use Rattle.psu_session.specs.Exchange as exchange
+use Rattle.psu_session.specs.Exchange.{Done, EachIsDone, EachIsReplied, HasEnded, IsDone, IsFramed, Order, Turn, asked, core_at, effects, order_in, orders, replies, reply_of}
+use Rattle.psu_session.specs.Exchanged.{ExchangeEvent, Came, Did, came, executions, replied}
 use Rattle.psu_session.specs.Step.{AreFramed, running, works_in}
 use Rattle.psu_session.specs.State.{Running, State, Work, Execute, order_of_work, orders_in, with_core, with_output, with_work}
 use Rattle.psu_session.proofs.ExchangeEvents.{as_effects, as_replies, asked-append, asked_still, came-append, core-append, core_still, effects_done, effects_replied, effects_no_arrivals, done-append, orders_of_works, origin_among, origins_of_orders, replied-append, replies_done, replies_replied, replies_no_arrivals}
@@ -33,7 +33,7 @@ abbrev pub order_in_turn : Turn → Order
 order_in_turn turn = turn.order
 
 abbrev pub turn_of : Running → List Done → Turn
-turn_of g done = record { order = g.order; done = done; course = g.progress }
+turn_of g done = record { order = g.order; done = done; progress = g.progress }
 
 abbrev pub current : Option Running → List Done → List Turn
 current None done = []
@@ -44,7 +44,7 @@ HasReached None done = Unit {0}
 HasReached (Some g) done = Reaches g.order.source (effects done) g.progress
 
 abbrev pub TurnReaches : Turn → Type 0
-TurnReaches turn = Reaches turn.order.source (effects turn.done) turn.course
+TurnReaches turn = Reaches turn.order.source (effects turn.done) turn.progress
 
 -- what holds of a session's events and state
 pub record Kept (session : ℕ) (l : List ExchangeEvent) (s : State) : Type 0 where
@@ -52,8 +52,8 @@ pub record Kept (session : ℕ) (l : List ExchangeEvent) (s : State) : Type 0 wh
   pub done : List Done
   pub core : s.core ≡ core_at session l
   pub in_order : orders session l ≡ map order_in_turn ended ++ (map order_in_turn (current s.running done) ++ orders_in s.waiting)
-  pub turns_done : done_in l ≡ flat_map exchange.happened ended ++ flat_map exchange.happened (current s.running done)
-  pub courses : All TurnReaches ended
+  pub turns_done : executions l ≡ flat_map exchange.happened ended ++ flat_map exchange.happened (current s.running done)
+  pub reached : All TurnReaches ended
   pub reaches : HasReached s.running done
   pub ends : All (HasEnded session l) ended
   pub each_done : EachIsDone session l
@@ -66,8 +66,8 @@ pub none_after : {X : Type 0} (xs : List X) (y : X) (ys : List X) → xs ++ y �
 none_after [] y ys e = absurd (cc (e))
 none_after (x ∷ xs) y ys e = absurd (cc (e))
 
-no_effect : (m more after : List ExchangeEvent) (o : Origin) (d : Effect) (f : List ℕ) → done_in m ≡ [] → m ≡ more ++ Did o d f ∷ after → ⊥
-no_effect m more after o d f none is = none_after (done_in more) (Did o d f) (done_in after) (sym (done-append more (Did o d f ∷ after)) ∙ ap done_in (sym is) ∙ none)
+no_effect : (m more after : List ExchangeEvent) (o : Origin) (d : Effect) (f : List ℕ) → executions m ≡ [] → m ≡ more ++ Did o d f ∷ after → ⊥
+no_effect m more after o d f none is = none_after (executions more) (Did o d f) (executions after) (sym (done-append more (Did o d f ∷ after)) ∙ ap executions (sym is) ∙ none)
 
 -- a prefix of events without a message
 no_arrivals : (m more after : List ExchangeEvent) → came m ≡ [] → m ≡ more ++ after → came more ≡ []
@@ -149,7 +149,7 @@ module _ (session : ℕ) (l : List ExchangeEvent) (side : Side) (message : Recei
   message_keeps s k =
       let m = message_events frames in
       let one : came m ≡ arrival side message ∷ [] = ap (λ (z : List Arrival). arrival side message ∷ z) (replies_no_arrivals frames) in
-      let none : done_in m ≡ [] = replies_done frames in
+      let none : executions m ≡ [] = replies_done frames in
       let more : orders_in s.waiting ++ flat_map order_in out.actions ≡ orders_in (s.waiting ++ flat_map works_in out.actions)
       = ap (λ (z : List Order). orders_in s.waiting ++ z) (sym (orders_of_works out.actions)) ∙ sym (flat_map-append order_of_work s.waiting (flat_map works_in out.actions)) in
       record {
@@ -160,8 +160,8 @@ module _ (session : ℕ) (l : List ExchangeEvent) (side : Side) (message : Recei
             ∙ append_assoc (map order_in_turn k.ended) (map order_in_turn (current s.running k.done) ++ orders_in s.waiting) (flat_map order_in out.actions)
             ∙ ap (λ (z : List Order). map order_in_turn k.ended ++ z) (append_assoc (map order_in_turn (current s.running k.done)) (orders_in s.waiting) (flat_map order_in out.actions))
             ∙ ap (λ (z : List Order). map order_in_turn k.ended ++ (map order_in_turn (current s.running k.done) ++ z)) more;
-        turns_done = done-append l m ∙ ap (λ (z : List ExchangeEvent). done_in l ++ z) none ∙ append-nil (done_in l) ∙ k.turns_done;
-        courses = k.courses;
+        turns_done = done-append l m ∙ ap (λ (z : List ExchangeEvent). executions l ++ z) none ∙ append-nil (executions l) ∙ k.turns_done;
+        reached = k.reached;
         reaches = k.reaches;
         ends = All-map (HasEnded session l) (HasEnded session (l ++ m)) (gone_on session l m) k.ended k.ends;
         each_done = done_on session l m k.each_done (λ more after o d f is. absurd (no_effect m more after o d f none is));
@@ -189,7 +189,7 @@ begins session l s order later none first k = record {
   core = k.core;
   in_order = k.in_order ∙ ap (λ (z : Option Running). map order_in_turn k.ended ++ (map order_in_turn (current z k.done) ++ orders_in s.waiting)) none ∙ ap (λ (z : List Work). map order_in_turn k.ended ++ orders_in z) first;
   turns_done = k.turns_done ∙ ap (λ (z : Option Running). flat_map exchange.happened k.ended ++ flat_map exchange.happened (current z k.done)) none;
-  courses = k.courses;
+  reached = k.reached;
   reaches = ReachesBegins;
   ends = k.ends;
   each_done = k.each_done;
@@ -200,7 +200,7 @@ begins session l s order later none first k = record {
 pub ends_order : (session : ℕ) (l : List ExchangeEvent) (s : State) (order : Order) (progress : Progress) → s.running ≡ Some (running order progress) → IsOver order.source progress ⊎ (IsCurrent s.core order.origin → ⊥) → Kept session l s
     → Kept session l (with_work s s.waiting None)
 ends_order session l s order progress is ended k =
-    let turn : Turn = record { order = order; done = k.done; course = progress } in
+    let turn : Turn = record { order = order; done = k.done; progress = progress } in
     let over : HasEnded session l turn = elim ended [
       | inl o ↦ inl o
       | inr gone ↦ inr (record { before = l; after = []; is = sym (append-nil l); has_come = has_come session l s k order progress is; gone = subst (λ (z : Core). IsCurrent z order.origin → ⊥) k.core gone })
@@ -214,7 +214,7 @@ ends_order session l s order progress is ended k =
           ∙ sym (append_assoc (map order_in_turn k.ended) (order ∷ []) (orders_in s.waiting)) ∙ ap (λ (z : List Order). z ++ orders_in s.waiting) (sym (map-append order_in_turn k.ended (turn ∷ [])));
       turns_done = k.turns_done ∙ ap (λ (z : Option Running). flat_map exchange.happened k.ended ++ flat_map exchange.happened (current z k.done)) is
           ∙ sym (flat_map-append exchange.happened k.ended (turn ∷ [])) ∙ sym (append-nil (flat_map exchange.happened (k.ended ++ turn ∷ [])));
-      courses = All-append TurnReaches k.ended (turn ∷ []) k.courses (All-cons TurnReaches turn [] reaches (All-nil TurnReaches));
+      reached = All-append TurnReaches k.ended (turn ∷ []) k.reached (All-cons TurnReaches turn [] reaches (All-nil TurnReaches));
       reaches = tt;
       ends = All-append (HasEnded session l) k.ended (turn ∷ []) k.ends (All-cons (HasEnded session l) turn [] over (All-nil (HasEnded session l)));
       each_done = k.each_done;
@@ -260,12 +260,12 @@ works session l s order progress new done is here reaches framed bytes k =
       done = k.done ++ done;
       core = k.core ∙ sym (core_still session l m quiet);
       in_order = ap (λ (z : List Act). flat_map order_in z) asks ∙ k.in_order ∙ ap (λ (z : Option Running). map order_in_turn k.ended ++ (map order_in_turn (current z k.done) ++ orders_in s.waiting)) is;
-      turns_done = done-append l m ∙ ap (λ (z : List ExchangeEvent). z ++ done_in m) k.turns_done ∙ ap (λ (z : List ExchangeEvent). (flat_map exchange.happened k.ended ++ flat_map exchange.happened (current s.running k.done)) ++ z) (effects_done order.origin done)
+      turns_done = done-append l m ∙ ap (λ (z : List ExchangeEvent). z ++ executions m) k.turns_done ∙ ap (λ (z : List ExchangeEvent). (flat_map exchange.happened k.ended ++ flat_map exchange.happened (current s.running k.done)) ++ z) (effects_done order.origin done)
           ∙ ap (λ (z : Option Running). (flat_map exchange.happened k.ended ++ flat_map exchange.happened (current z k.done)) ++ m) is
           ∙ append_assoc (flat_map exchange.happened k.ended) (as_effects order.origin k.done ++ []) m
           ∙ ap (λ (z : List ExchangeEvent). flat_map exchange.happened k.ended ++ (z ++ m)) (append-nil (as_effects order.origin k.done))
           ∙ ap (λ (z : List ExchangeEvent). flat_map exchange.happened k.ended ++ z) (sym (map-append (λ (d : Done). Did order.origin d.effect d.frames) k.done done) ∙ sym (append-nil (as_effects order.origin (k.done ++ done))));
-      courses = k.courses;
+      reached = k.reached;
       reaches = subst (λ (z : List Effect). Reaches order.source z new) (sym (map-append (λ (d : Done). d.effect) k.done done)) (reaches (effects k.done) (subst (λ (z : Option Running). HasReached z k.done) is k.reaches));
       ends = All-map (HasEnded session l) (HasEnded session (l ++ m)) (gone_on session l m) k.ended k.ends;
       each_done = done_on session l m k.each_done (λ more after o d f then.

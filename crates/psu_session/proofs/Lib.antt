@@ -18,3 +18,9 @@ pub mod Releases
 pub mod Writes
 pub mod Holding
 pub mod Cleared
+pub mod Mapped
+pub mod Framing
+pub mod AnsweredMessages
+pub mod Answering
+pub mod Ordering
+pub mod SomeExchange

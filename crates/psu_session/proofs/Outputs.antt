@@ -9,15 +9,15 @@ use Rattle.psu_hislip.specs.Stream.{Received}
 use Rattle.psu_hislip.specs.declared.origin.Origin.{Origin}
 use Rattle.psu_hislip.specs.declared.side.Side.{Side}
 use Rattle.psu_hislip.specs.declared.side.Side.TheVariants.{Sync, Async}
-use Rattle.psu_sides.specs.Messages.{clears, parameter}
+use Rattle.psu_session.specs.Numbers.{clears, number_on, parameter}
 use Rattle.psu_messages.specs.Executions.{beginning}
-use Rattle.psu_exchange.specs.Exchange as exchange
-use Rattle.psu_exchange.specs.Exchange.{Done}
-use Rattle.psu_exchange.specs.Life.{on}
+use Rattle.psu_session.specs.Exchange as exchange
+use Rattle.psu_session.specs.Exchange.{Done}
+use Rattle.psu_session.specs.Exchanged.{on}
 use Rattle.psu_session.specs.Credit.{cost, cost_of}
 use Rattle.psu_session.specs.Events as events
 use Rattle.psu_session.specs.Events.{Event, put, taken}
-use Rattle.psu_session.specs.Step.{EachReceived, IsMessageReceived, Step, arrived, running, happened, number_on, release_in, works_in}
+use Rattle.psu_session.specs.Step.{EachReceived, IsMessageReceived, Step, arrived, running, happened, release_in, works_in}
 use Rattle.psu_session.specs.Step.Step.{Receives, Notifies, Ticks, Begins, Works, ReleasesLock, Ends, Takes, Writes}
 use Rattle.psu_session.specs.State.{Running, Release, State, Work, added, numbered, output, settled, with_channel, with_core, with_held, with_output, with_owed, with_work, with_writes}
 use Rattle.psu_session.proofs.ExchangeEvents.{caused_taken, effects_put, effects_put_none, effects_take, immediate_keep, taken-append}

@@ -4,7 +4,7 @@ use Rattle.std.specs.Prelude.{flat_map, map}
 use Rattle.std.proofs.lemmas.List.{append-nil}
 use Rattle.std.proofs.lemmas.List.Concat.{flat_map-append}
 use Rattle.psu_hislip.specs.Action.{Act}
-use Rattle.psu_exchange.specs.Exchange.{Order, order_in}
+use Rattle.psu_session.specs.Exchange.{Order, order_in}
 use Rattle.psu_session.specs.Releases.{before_release, releases_in, requested, requested_in}
 use Rattle.psu_session.specs.Step.{release_in, works_in}
 use Rattle.psu_session.specs.State.{Release, Work, Execute, ReleaseLock, due, is_due, left, order_of_work, orders_in}

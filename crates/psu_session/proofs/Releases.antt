@@ -16,16 +16,16 @@ use Rattle.psu_hislip.specs.declared.header.Header.{Header}
 use Rattle.psu_hislip.specs.declared.origin.Origin.{Origin}
 use Rattle.psu_hislip.specs.declared.side.Side.{Side}
 use Rattle.psu_hislip.specs.declared.side.Side.TheVariants.{Sync, Async}
-use Rattle.psu_sides.specs.Messages.{clears, parameter}
+use Rattle.psu_session.specs.Numbers.{clears, number_on, parameter}
 use Rattle.psu_messages.specs.Executions.{beginning}
-use Rattle.psu_exchange.specs.Exchange.{Done, Order, asked, core_at, order_in, orders}
-use Rattle.psu_exchange.specs.Life.{came}
+use Rattle.psu_session.specs.Exchange.{Done, Order, asked, core_at, order_in, orders}
+use Rattle.psu_session.specs.Exchanged.{came}
 use Rattle.psu_session.specs.Credit.{cost, cost_of}
 use Rattle.psu_session.specs.Events as events
 use Rattle.psu_session.specs.Events.{Event, LockReleased, exchange_history}
 use Rattle.psu_session.specs.Releases.{IsInPlace, released, released_in, releases_in, requested, requested_in}
 use Rattle.psu_session.specs.Requests.{immediate}
-use Rattle.psu_session.specs.Step.{Each, EachReceived, IsLockGranted, IsMessageReceived, IsServiceRequested, Step, Steps, granted, running, happened, number_on, release_in, works_in}
+use Rattle.psu_session.specs.Step.{Each, EachReceived, IsLockGranted, IsMessageReceived, IsServiceRequested, Step, Steps, granted, running, happened, release_in, works_in}
 use Rattle.psu_session.specs.Step.Step.{Receives, Notifies, Ticks, Begins, Works, ReleasesLock, Ends, Takes, Writes}
 use Rattle.psu_session.specs.Step.Steps.{Still, Then}
 use Rattle.psu_session.specs.State.{Running, Release, Start, State, Work, Execute, ReleaseLock, added, due, fresh, numbered, order_of_work, orders_in, settled, with_channel, with_core, with_held, with_output, with_owed, with_work, with_writes}

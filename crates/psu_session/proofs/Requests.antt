@@ -14,9 +14,9 @@ use Rattle.psu_hislip.specs.Stream.{Received}
 use Rattle.psu_hislip.specs.declared.header.Header.{Header}
 use Rattle.psu_hislip.specs.declared.origin.Origin.{Origin}
 use Rattle.psu_hislip.specs.declared.side.Side.{Side}
-use Rattle.psu_sessions.specs.Locking.{kind_of}
-use Rattle.psu_exchange.specs.Exchange.{Done, asked, core_at}
-use Rattle.psu_exchange.specs.Life.{came}
+use Rattle.psu_session.specs.Locking.{kind_of}
+use Rattle.psu_session.specs.Exchange.{Done, asked, core_at}
+use Rattle.psu_session.specs.Exchanged.{came}
 use Rattle.psu_session.specs.Events as events
 use Rattle.psu_session.specs.Events.{Call, Event, exchange_history, waits_after, waits_by, waits_by_call}
 use Rattle.psu_session.specs.Requests.{AreServed, immediate, serving, serving_in}

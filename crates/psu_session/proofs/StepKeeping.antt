@@ -9,14 +9,14 @@ use Rattle.psu_hislip.specs.Core.{Core, Outcome, outcome_of}
 use Rattle.psu_hislip.specs.Stream.{Received}
 use Rattle.psu_hislip.specs.declared.side.Side.{Side}
 use Rattle.psu_hislip.specs.declared.side.Side.TheVariants.{Sync, Async}
-use Rattle.psu_sides.specs.Messages.{clears, parameter}
-use Rattle.psu_exchange.specs.Exchange as exchange
-use Rattle.psu_exchange.specs.Exchange.{Order, core_at, orders, reply_of}
-use Rattle.psu_exchange.specs.Life.{Happening as ExchangeEvent, Came}
+use Rattle.psu_session.specs.Numbers.{clears, number_on, parameter}
+use Rattle.psu_session.specs.Exchange as exchange
+use Rattle.psu_session.specs.Exchange.{Order, core_at, orders, reply_of}
+use Rattle.psu_session.specs.Exchanged.{ExchangeEvent, Came}
 use Rattle.psu_session.specs.Credit.{cost, cost_of}
 use Rattle.psu_session.specs.Events as events
 use Rattle.psu_session.specs.Events.{Event, exchange_history}
-use Rattle.psu_session.specs.Step.{EachReceived, IsMessageReceived, Step, arrived, number_on, release_in, works_in}
+use Rattle.psu_session.specs.Step.{EachReceived, IsMessageReceived, Step, arrived, release_in, works_in}
 use Rattle.psu_session.specs.Step.Step.{Receives, Notifies, Ticks, Begins, Works, ReleasesLock, Ends, Takes, Writes}
 use Rattle.psu_session.specs.State.{Running, State, added, due, numbered, order_of_work, orders_in, settled, with_channel, with_core, with_held, with_output, with_owed, with_work, with_writes}
 use Rattle.psu_session.proofs.ExchangeEvents.{as_effects, as_replies, caused_seen, effects_seen, each_seen, exchange_history-append}
@@ -39,7 +39,7 @@ transfer session l s t core g orders k = record {
   in_order = k.in_order ∙ ap (λ (z : Option Running). map order_in_turn k.ended ++ (map order_in_turn (current z k.done) ++ orders_in s.waiting)) (sym g)
       ∙ ap (λ (z : List Order). map order_in_turn k.ended ++ (map order_in_turn (current t.running k.done) ++ z)) (sym orders);
   turns_done = k.turns_done ∙ ap (λ (z : Option Running). flat_map exchange.happened k.ended ++ flat_map exchange.happened (current z k.done)) (sym g);
-  courses = k.courses;
+  reached = k.reached;
   reaches = subst (λ (z : Option Running). HasReached z k.done) (sym g) k.reaches;
   ends = k.ends;
   each_done = k.each_done;

@@ -4,7 +4,7 @@ use Rattle.std.proofs.lemmas.List.{append-nil}
 use Rattle.psu_hislip.specs.Answer.{answer_size}
 use Rattle.psu_hislip.specs.Core.{IsCurrent}
 use Rattle.psu_messages.specs.Executions.{Progress, IsOver, beginning}
-use Rattle.psu_exchange.specs.Exchange.{Order, frames}
+use Rattle.psu_session.specs.Exchange.{Order, frames}
 use Rattle.psu_session.specs.Credit.{cost, cost_of}
 use Rattle.psu_session.specs.Events.{Call, Event, LockReleased}
 use Rattle.psu_session.specs.Step.{AreFramed, IsReachable, Step, Steps, running, happened}

@@ -9,15 +9,15 @@ use Rattle.psu_hislip.specs.Runs.{Arrival}
 use Rattle.psu_hislip.specs.Stream.{Received}
 use Rattle.psu_hislip.specs.declared.side.Side.{Side}
 use Rattle.psu_hislip.specs.declared.side.Side.TheVariants.{Sync, Async}
-use Rattle.psu_sides.specs.Messages.{clears, parameter}
+use Rattle.psu_session.specs.Numbers.{clears, number_on, parameter}
 use Rattle.psu_messages.specs.Executions.{beginning}
-use Rattle.psu_exchange.specs.Exchange as exchange
-use Rattle.psu_exchange.specs.Exchange.{core_at}
-use Rattle.psu_exchange.specs.Life.{Happening as ExchangeEvent, came, came_on, on}
+use Rattle.psu_session.specs.Exchange as exchange
+use Rattle.psu_session.specs.Exchange.{core_at}
+use Rattle.psu_session.specs.Exchanged.{ExchangeEvent, came, came_on, on}
 use Rattle.psu_session.specs.Credit.{cost, cost_of}
 use Rattle.psu_session.specs.Events as events
 use Rattle.psu_session.specs.Events.{Event, bytes_received, exchange_history}
-use Rattle.psu_session.specs.Step.{EachReceived, Feeds, IsMessageReceived, Step, running, number_on, release_in, works_in}
+use Rattle.psu_session.specs.Step.{EachReceived, Feeds, IsMessageReceived, Step, running, release_in, works_in}
 use Rattle.psu_session.specs.Step.Step.{Receives, Notifies, Ticks, Begins, Works, ReleasesLock, Ends, Takes, Writes}
 use Rattle.psu_session.specs.State.{Running, Release, State, Work, added, channel_of, numbered, settled, with_channel, with_core, with_held, with_output, with_owed, with_work, with_writes}
 use Rattle.psu_session.proofs.ExchangeEvents.{caused_received, caused_seen, came-append, effects_receive_none, effects_seen, effects_no_arrivals, immediate_quiet, bytes_received-append, exchange_history-append, replies_no_arrivals}

@@ -12,12 +12,12 @@ use Rattle.psu_hislip.specs.declared.header.Header.{Header}
 use Rattle.psu_hislip.specs.declared.origin.Origin.{Origin}
 use Rattle.psu_hislip.specs.declared.side.Side.{Side}
 use Rattle.psu_hislip.specs.declared.side.Side.TheVariants.{Sync, Async}
-use Rattle.psu_sides.specs.Messages.{parameter}
-use Rattle.psu_exchange.specs.Exchange.{Done}
+use Rattle.psu_session.specs.Numbers.{number_on, parameter}
+use Rattle.psu_session.specs.Exchange.{Done}
 use Rattle.psu_session.specs.Events as events
 use Rattle.psu_session.specs.Events.{Event, LockGranted, waits_after}
 use Rattle.psu_session.specs.Requests.{immediate}
-use Rattle.psu_session.specs.Step.{Each, EachReceived, IsLockGranted, IsMessageReceived, IsServiceRequested, Step, Steps, granted, happened, number_on, release_in, works_in}
+use Rattle.psu_session.specs.Step.{Each, EachReceived, IsLockGranted, IsMessageReceived, IsServiceRequested, Step, Steps, granted, happened, release_in, works_in}
 use Rattle.psu_session.specs.Step.Step.{Receives, Notifies, Ticks, Begins, Works, ReleasesLock, Ends, Takes, Writes}
 use Rattle.psu_session.specs.Step.Steps.{Still, Then}
 use Rattle.psu_session.specs.State.{Start, State, added, fresh, numbered, with_channel, with_core, with_output, with_writes}

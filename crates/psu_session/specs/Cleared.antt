@@ -6,8 +6,8 @@ use Rattle.psu_hislip.specs.Runs.{begins_clear, origins}
 use Rattle.psu_hislip.specs.Stream.{Received}
 use Rattle.psu_hislip.specs.declared.origin.Origin.{Origin}
 use Rattle.psu_hislip.specs.declared.side.Side.TheVariants.{Sync, Async}
-use Rattle.psu_exchange.specs.Exchange.{asked}
-use Rattle.psu_exchange.specs.Life.{came}
+use Rattle.psu_session.specs.Exchange.{asked}
+use Rattle.psu_session.specs.Exchanged.{came}
 use Rattle.psu_session.specs.Events.{Event, BytesReceived, LockGranted, ServiceRequested, LockReleased, Came, DeviceCalled, Put, Did, Took, Wrote, exchange_history, put, taken}
 use Rattle.psu_session.specs.Step.{IsHistory}
 use Rattle.psu_session.specs.State.{Start, State}

@@ -1,7 +1,7 @@
 -- How much a session holds of what it has received and not executed.
 use Rattle.std.specs.Prelude.{ℕ, ◌+◌, List, [], ◌∷◌, length}
 use Rattle.psu_messages.specs.Units.{Source}
-use Rattle.psu_exchange.specs.Exchange.{Order}
+use Rattle.psu_session.specs.Exchange.{Order}
 
 -- an item counts as its bytes and 128, so that items without bytes are bounded too
 abbrev pub cost : ℕ → ℕ

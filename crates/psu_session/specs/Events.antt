@@ -18,7 +18,7 @@ use Rattle.psu_tree.specs.declared.unit_request.Request.{Request}
 use Rattle.psu_exec.specs.Device.{Reply}
 use Rattle.psu_messages.specs.Effects as messages
 use Rattle.psu_messages.specs.Effects.{Effect}
-use Rattle.psu_exchange.specs.Life as exchange
+use Rattle.psu_session.specs.Exchanged as exchange
 
 -- a call of the device, with its reply
 pub data Call : Type 0 where
@@ -189,11 +189,11 @@ bytes_received side history = flat_map (bytes_received_by side) history
 
 -- ---- the events as the laws of an exchange see them
 
-abbrev pub put_as : Side → List ℕ → List exchange.Happening
+abbrev pub put_as : Side → List ℕ → List exchange.ExchangeEvent
 put_as Sync frames = exchange.Replied frames ∷ []
 put_as Async frames = []
 
-abbrev pub exchange_view : Event → List exchange.Happening
+abbrev pub exchange_view : Event → List exchange.ExchangeEvent
 exchange_view (BytesReceived side received_bytes) = []
 exchange_view (LockGranted grant) = []
 exchange_view (ServiceRequested request) = []
@@ -205,5 +205,5 @@ exchange_view (Did origin effect frames) = exchange.Did origin effect frames ∷
 exchange_view (Took side bytes) = []
 exchange_view (Wrote side) = []
 
-abbrev pub exchange_history : List Event → List exchange.Happening
+abbrev pub exchange_history : List Event → List exchange.ExchangeEvent
 exchange_history history = flat_map exchange_view history

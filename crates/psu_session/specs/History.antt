@@ -4,8 +4,8 @@ use Rattle.psu_hislip.specs.Channel.{Fed}
 use Rattle.psu_hislip.specs.Stream.{Received}
 use Rattle.psu_hislip.specs.declared.side.Side.{Side}
 use Rattle.psu_hislip.specs.declared.side.Side.TheVariants.{Sync, Async}
-use Rattle.psu_exchange.specs.Exchange.{IsExchange, Turn, core_at, orders}
-use Rattle.psu_exchange.specs.Life.{written}
+use Rattle.psu_session.specs.Exchange.{IsExchange, Turn, core_at, orders}
+use Rattle.psu_session.specs.Exchanged.{written}
 use Rattle.psu_session.specs.Events.{Event, bytes_received, exchange_history, put, taken}
 use Rattle.psu_session.specs.Step.{IsOpening, IsHistory, Steps}
 use Rattle.psu_session.specs.State.{Start, State, orders_in, output}

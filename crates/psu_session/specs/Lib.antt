@@ -15,3 +15,9 @@ pub mod Writing
 pub mod Credit
 pub mod Holding
 pub mod Cleared
+pub mod Exchanged
+pub mod Exchange
+pub mod Answered
+pub mod SomeExchange
+pub mod Numbers
+pub mod Locking

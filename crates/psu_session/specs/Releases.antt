@@ -4,7 +4,7 @@ use Rattle.std.specs.Prelude.{◌≡◌, ℕ, zero, suc, ◌+◌, All, Result, L
 use Rattle.psu_locks.specs.declared.freed.Freed.{Freed}
 use Rattle.psu_locks.specs.declared.lock_refusal.LockRefusal.{LockRefusal}
 use Rattle.psu_hislip.specs.Action.{Act}
-use Rattle.psu_exchange.specs.Exchange.{HasEnded, Order, Turn, asked, orders}
+use Rattle.psu_session.specs.Exchange.{HasEnded, Order, Turn, asked, orders}
 use Rattle.psu_session.specs.Events.{Event, BytesReceived, LockGranted, ServiceRequested, LockReleased, Came, DeviceCalled, Put, Did, Took, Wrote, exchange_history}
 use Rattle.psu_session.specs.Step.{IsHistory, works_in}
 use Rattle.psu_session.specs.State.{Start, State, Work, Execute, ReleaseLock}

@@ -4,7 +4,7 @@
 use Rattle.std.specs.Prelude.{Bool, false, List, [], ◌∷◌, ◌++◌, flat_map}
 use Rattle.psu_locks.specs.declared.grant.Grant.{Grant}
 use Rattle.psu_hislip.specs.Action.{Act}
-use Rattle.psu_exchange.specs.Exchange.{asked}
+use Rattle.psu_session.specs.Exchange.{asked}
 use Rattle.psu_session.specs.Events.{Event, BytesReceived, LockGranted, ServiceRequested, LockReleased, Came, DeviceCalled, Put, Did, Took, Wrote, exchange_history, waits_after}
 use Rattle.psu_session.specs.Step.{Does, IsHistory}
 use Rattle.psu_session.specs.State.{Start, State}

@@ -9,9 +9,9 @@ use Rattle.psu_hislip.specs.Transmitted.Piece.{More}
 use Rattle.psu_hislip.specs.declared.origin.Origin.{Origin}
 use Rattle.psu_hislip.specs.declared.side.Side.TheVariants.{Sync, Async}
 use Rattle.psu_messages.specs.Effects.{Effect}
-use Rattle.psu_exchange.specs.Answered.{AreTheStreams, EachIsTold, IsAnswered, TakesAtMost, Weaves, pieces, text_in}
-use Rattle.psu_exchange.specs.Exchange.{Turn, asked}
-use Rattle.psu_exchange.specs.Life.{came, replied}
+use Rattle.psu_session.specs.Answered.{AreTheStreams, EachIsWholeOrEnded, IsAnswered, TakesAtMost, Weaves, pieces, text_in}
+use Rattle.psu_session.specs.Exchange.{Turn, asked}
+use Rattle.psu_session.specs.Exchanged.{came, replied}
 use Rattle.psu_session.specs.Events.{Event, Came, Did, bytes_received, exchange_history, taken}
 use Rattle.psu_session.specs.Step.{IsHistory}
 use Rattle.psu_session.specs.State.{Start, State}
@@ -27,7 +27,7 @@ pub record IsServed (start : Start) (opening : List ℕ) (history : List Event) 
       → (waiting : List (Option (List ℕ))) × (map text_kept (flat_map (λ (stretch : Stretch). stretch.whole) stretches ++ whole) ≡ flat_map (λ turn. text_in turn.order.source) turns ++ waiting)
   -- each transmission that is over is answered, message by message, under its MessageID; of another, a prefix of this
   -- was sent
-  pub answered : (greatest : ℕ) → TakesAtMost greatest start.session (exchange_history history) → All (IsAnswered greatest) turns × EachIsTold greatest start.session (exchange_history history) turns
+  pub answered : (greatest : ℕ) → TakesAtMost greatest start.session (exchange_history history) → All (IsAnswered greatest) turns × EachIsWholeOrEnded greatest start.session (exchange_history history) turns
   -- after an AsyncDeviceClear nothing is done for what was received before it (clears are counted modulo 2^64)
   pub cleared : length (came (exchange_history history)) < 2 ^ 64 → (before between after : List Event) (clear : Received) (origin : Origin) (effect : Effect) (frames : List ℕ)
       → history ≡ before ++ Came Async clear ∷ (between ++ Did origin effect frames ∷ after) → begins_clear (record { side = Async; message = clear }) ≡ true

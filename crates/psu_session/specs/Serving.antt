@@ -5,7 +5,7 @@ use Rattle.psu_hislip.specs.Core.{Core}
 use Rattle.psu_hislip.specs.declared.origin.Origin.{Origin}
 use Rattle.psu_messages.specs.Executions.{Reaches, Progress}
 use Rattle.psu_messages.specs.Effects.{Effect}
-use Rattle.psu_exchange.specs.Exchange.{Done, IsFramed, Order, effects, frames}
+use Rattle.psu_session.specs.Exchange.{Done, IsFramed, Order, effects, frames}
 use Rattle.psu_session.specs.Events.{Call, Event, calls}
 use Rattle.psu_session.specs.Step.{AreFramed, happened}
 use Rattle.psu_session.specs.State.{Release, State, Work, added}

@@ -2,7 +2,7 @@
 use Rattle.std.specs.Prelude.{Option, Some, None, List, map}
 use Rattle.psu_messages.specs.Shown.{progress_of}
 use Rattle.psu_messages.specs.Units.{source_of}
-use Rattle.psu_exchange.specs.Exchange as exchange
+use Rattle.psu_session.specs.Exchange as exchange
 use Rattle.psu_session.specs.State as state
 use Rattle.psu_session.specs.declared.order.Order.{Order}
 use Rattle.psu_session.specs.declared.release.Release.{Release}

@@ -5,9 +5,9 @@ use Rattle.psu_hislip.specs.Core.{Core}
 use Rattle.psu_hislip.specs.Runs.{started}
 use Rattle.psu_hislip.specs.declared.side.Side.{Side}
 use Rattle.psu_hislip.specs.declared.side.Side.TheVariants.{Sync, Async}
-use Rattle.psu_sessions.specs.Order.{is_ahead}
+use Rattle.psu_session.specs.Numbers.{is_ahead}
 use Rattle.psu_messages.specs.Executions.{Progress}
-use Rattle.psu_exchange.specs.Exchange.{Order}
+use Rattle.psu_session.specs.Exchange.{Order}
 use Rattle.psu_session.specs.Credit.{cost, held_with}
 use Rattle.psu_session.specs.Events.{Event, put, waits_after}
 

@@ -21,11 +21,11 @@ use Rattle.psu_hislip.specs.declared.message_type.MessageType.TheVariants.{Async
 use Rattle.psu_hislip.specs.declared.origin.Origin.{Origin}
 use Rattle.psu_hislip.specs.declared.side.Side.{Side}
 use Rattle.psu_hislip.specs.declared.side.Side.TheVariants.{Sync, Async}
-use Rattle.psu_sessions.specs.Locking.{kind_of}
-use Rattle.psu_sides.specs.Messages.{clears, number, parameter}
+use Rattle.psu_session.specs.Locking.{kind_of}
+use Rattle.psu_session.specs.Numbers.{clears, number_on, parameter}
 use Rattle.psu_messages.specs.Executions.{Reaches, Progress, IsOver, beginning}
 use Rattle.psu_messages.specs.Effects.{Effect}
-use Rattle.psu_exchange.specs.Exchange.{Done, IsFramed, Order, effects, frames, order_in}
+use Rattle.psu_session.specs.Exchange.{Done, IsFramed, Order, effects, frames, order_in}
 use Rattle.psu_session.specs.Credit.{cost, cost_of}
 use Rattle.psu_session.specs.Events.{Delivered, Queried, Informed, Locked, Cleared, Event, BytesReceived, LockGranted, ServiceRequested, LockReleased, Came, DeviceCalled, Put, Did, Took, Wrote, waits_after}
 use Rattle.psu_session.specs.State.{Running, Release, Start, State, Work, Execute, ReleaseLock, added, channel_of, fresh, numbered, output, settled, with_channel, with_core, with_held, with_output, with_owed, with_work, with_writes, writes}
@@ -85,11 +85,6 @@ works_in act = map Execute (order_in act)
 abbrev pub release_in : ℕ → ℕ → Act → List Release
 release_in now number Act.Release = record { number = number; requested_at = now } ∷ []
 release_in now number act = []
-
--- the number of a message of the synchronous channel, if it has one; numbers restart after a device clear
-abbrev pub number_on : Side → Received → Option ℕ
-number_on Sync message = number message
-number_on Async message = None
 
 -- The transmissions of a message are queued after what was received before, and after them the releases that have waited
 -- for this message; at a device clear all releases are queued.

@@ -3,20 +3,21 @@ ghost use Rattle.std.specs.Prelude.{◌≡◌, OnOk, [], ◌∷◌, Some, false}
 ghost use Rattle.psu_hislip.specs.Action.{act};
 ghost use Rattle.psu_hislip.specs.Header.{header_bytes};
 ghost use Rattle.psu_hislip.specs.declared.side.Side.TheVariants.{Async};
-ghost use Rattle.psu_sessions.specs.Locking.{kind_of};
+ghost use Rattle.psu_session.specs.Locking.{kind_of};
 ghost use Rattle.psu_session.specs.Events.{Put, calls};
 ghost use Rattle.psu_session.specs.Step.{Does, IsInformed, IsLocked, IsQueried, delivers, puts, release_in, works_in};
 ghost use Rattle.psu_session.specs.Serving.{Appends, Runs};
 ghost use Rattle.psu_session.specs.Shown.{order_of, state_of};
 ghost use Rattle.psu_session.specs.State.{Execute, added};
 
+use crate::locking::lock_kind;
 use crate::{Device, Ended, Order, Parts, Release, Work};
 use psu_hislip::{
     Action, Header, LockResponse, MessageType, Origin, Side, lock_info_response, lock_response,
 };
 use psu_lex::ScpiError;
 use psu_locks::Kind;
-use psu_sessions::{Input, lock_kind};
+use psu_messages::Input;
 use std::alloc::Global;
 
 // Reports to the device that the client has read the last response whole, if the client said so.

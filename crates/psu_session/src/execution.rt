@@ -11,8 +11,7 @@ ghost use Rattle.psu_session.specs.Shown.{order_of};
 use crate::{Device, Ended, Running};
 use psu_exec::{Outcome, Request};
 use psu_hislip::{Origin, SessionCore};
-use psu_messages::{Executor, Need, Progress, Refused, proceed};
-use psu_sessions::Input;
+use psu_messages::{Executor, Input, Need, Progress, Refused, proceed};
 use std::alloc::Global;
 
 /// The number of units that a call tries before others are let in.

@@ -8,7 +8,7 @@ ghost use Rattle.psu_session.specs.Served.{EachSessionIsServed};
 ghost use Rattle.psu_session.specs.Waiting.{EachWaitIsAnsweredOnce, OneRequestWaits, TheWaitIsKnown};
 ghost use Rattle.psu_session.specs.Writing.{EachTakeIsWritten, TheWriterIsKnown};
 
-use psu_exchange::from_bytes_to_bytes;
+use crate::from_bytes_to_bytes;
 
 /// Each history of a session is an exchange, which determines the session's state.
 pub fn histories_are_exchanges()

@@ -7,12 +7,15 @@ mod acting;
 mod credit;
 mod device;
 mod ended;
+mod exchange_laws;
 mod execution;
 mod feeding;
 mod filling;
 mod laws;
+mod locking;
 mod next;
 mod notifying;
+mod numbers;
 mod opening;
 mod order;
 mod parts;
@@ -29,6 +32,7 @@ mod work;
 use credit::Credit;
 pub use device::Device;
 pub use ended::Ended;
+pub use exchange_laws::{a_session_that_is_answered, from_bytes_to_bytes};
 pub use laws::{
     each_clear_is_acknowledged_last, each_item_is_counted, each_release_is_done,
     each_request_is_served, each_session_is_served, each_take_is_written, each_wait_is_answered,

@@ -4,7 +4,7 @@ ghost use Rattle.psu_messages.specs.Units.{source_of};
 ghost use Rattle.psu_session.specs.Credit.{size_of};
 
 use psu_hislip::Origin;
-use psu_sessions::Input;
+use psu_messages::Input;
 use std::alloc::Global;
 
 /// A transmission that is to be executed: its origin, and its text or the error that is reported in place of one.

@@ -4,9 +4,9 @@ ghost use Rattle.psu_hislip.specs.Channel.{Awaited, Fed};
 ghost use Rattle.psu_session.specs.Shown.{state_of};
 ghost use Rattle.psu_session.specs.State.{fresh};
 
+use crate::numbers::BEFORE_FIRST;
 use crate::{Credit, Release, Running, Work};
 use psu_hislip::{Channel, SessionCore};
-use psu_sides::BEFORE_FIRST;
 use std::alloc::Global;
 use std::collections::VecDeque;
 

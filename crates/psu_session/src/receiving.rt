@@ -2,50 +2,15 @@
 ghost use Rattle.std.specs.Prelude.{◌≡◌, OnOk, flat_map};
 ghost use Rattle.psu_hislip.specs.Action.{acts};
 ghost use Rattle.psu_hislip.specs.Stream.{received};
-ghost use Rattle.psu_sides.specs.Messages.{number, parameter};
-ghost use Rattle.psu_session.specs.Step.{Each, IsMessageReceived, number_on, release_in, works_in};
+ghost use Rattle.psu_session.specs.Step.{Each, IsMessageReceived, release_in, works_in};
 ghost use Rattle.psu_session.specs.Serving.{Appends, PerformsStep};
 ghost use Rattle.psu_session.specs.Shown.{state_of};
 ghost use Rattle.psu_session.specs.State.{numbered};
 
+use crate::numbers::{clears, number_on, parameter};
 use crate::{Device, Ended, Parts};
-use psu_hislip::{Action, Message, MessageType, Side};
-use psu_sides::{BEFORE_FIRST, clears};
+use psu_hislip::{Action, Message, Side};
 use std::alloc::Global;
-
-// Returns the number of a message of the synchronous channel, if it has one. Numbers restart after a device clear.
-fn number(message: &Message<Global>) -> Option<u32>
-    ensures { result ≡ number (received message.now) }
-{
-    let (Message::Frame(header, _) | Message::Oversize(header)) = message else {
-        return None;
-    };
-    match header.message_type()? {
-        MessageType::Data | MessageType::DataEnd | MessageType::Trigger => Some(header.parameter),
-        MessageType::DeviceClearComplete => Some(BEFORE_FIRST),
-        _ => None,
-    }
-}
-
-// Returns the number that counts as received with a message, if it has one.
-fn number_on(side: Side, message: &Message<Global>) -> Option<u32>
-    ensures { result ≡ number_on side (received message.now) }
-{
-    match side {
-        Side::Sync => number(message),
-        Side::Async => None,
-    }
-}
-
-// Returns the parameter of a message.
-fn parameter(message: &Message<Global>) -> u32
-    ensures { result ≡ parameter (received message.now) }
-{
-    match message {
-        Message::Frame(header, _) | Message::Oversize(header) => header.parameter,
-        Message::BadHeader => 0,
-    }
-}
 
 impl Parts {
     // Does or queues what the actions of a message request, one after another.

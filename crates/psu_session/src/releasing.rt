@@ -4,8 +4,8 @@ ghost use Rattle.psu_session.specs.Releasing.{due_at, is_first_due};
 ghost use Rattle.psu_session.specs.Shown.{release_of, releases_of, state_of};
 ghost use Rattle.psu_session.specs.State.{is_due, settled};
 
+use crate::numbers::is_ahead;
 use crate::{Ended, Parts, Release, Work};
-use psu_sessions::is_ahead;
 
 /// The time that a release waits for a message, in milliseconds.
 const PATIENCE: u64 = 100;

@@ -1,9 +1,9 @@
 use Rattle.std.proofs.Common.{◌≡◌, ℕ, false, ◌++◌, ◌∷◌, List, ap, ◌∙◌, subst}
 use Rattle.psu_hislip.specs.Core.{Core}
 use Rattle.psu_hislip.specs.declared.side.Side.TheVariants.{Sync, Async}
-use Rattle.psu_exchange.specs.Answered.{Weaves, pieces}
-use Rattle.psu_exchange.specs.Life as exchange
-use Rattle.psu_exchange.specs.Life.{replied}
+use Rattle.psu_session.specs.Answered.{Weaves, pieces}
+use Rattle.psu_session.specs.Exchanged as exchange
+use Rattle.psu_session.specs.Exchanged.{replied}
 use Rattle.psu_session.specs.Events.{Came, Did, bytes_received, exchange_history}
 use Rattle.psu_session.proofs.ExchangeEvents.{exchange_history-append}
 use Rattle.psu_session.proofs.laws.each_session_is_served.Goals as goal
@@ -25,6 +25,6 @@ returns c = λ start opening first history s on_sync on_async is_history.
       cleared = λ few before between after clear origin effect frames is begins.
           laws.cleared start.session sync async l h.turns x few (exchange_history before) (exchange_history between) (exchange_history after) clear origin effect frames
           (ap exchange_history is ∙ exchange_history-append before (Came Async clear ∷ (between ++ Did origin effect frames ∷ after))
-          ∙ ap (λ (z : List exchange.Happening). exchange_history before ++ exchange.Came Async clear ∷ z) (exchange_history-append between (Did origin effect frames ∷ after))) begins;
+          ∙ ap (λ (z : List exchange.ExchangeEvent). exchange_history before ++ exchange.Came Async clear ∷ z) (exchange_history-append between (Did origin effect frames ∷ after))) begins;
       sent = subst (λ (z : List ℕ). Weaves (replied l) (pieces h.turns) z) h.sent (laws.nothing_else start.session sync async l h.turns x);
     }

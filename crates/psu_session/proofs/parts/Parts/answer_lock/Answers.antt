@@ -3,7 +3,7 @@ use Rattle.psu_locks.specs.declared.kind.Kind.{Kind}
 use Rattle.psu_hislip.specs.LockResponses.{lock_answer}
 use Rattle.psu_hislip.specs.declared.header.Header.{Header}
 use Rattle.psu_hislip.specs.declared.lock_responses.LockResponse.TheVariants.{Error}
-use Rattle.psu_sessions.specs.Locking.{kind_of}
+use Rattle.psu_session.specs.Locking.{kind_of}
 use Rattle.psu_session.specs.Step.{IsLocked, puts}
 use Rattle.psu_session.specs.Shown.{state_of}
 use Rattle.psu_session.specs.State.{added}

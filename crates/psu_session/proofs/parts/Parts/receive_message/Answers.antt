@@ -3,9 +3,9 @@ use Rattle.psu_hislip.specs.Action.{Act, acts}
 use Rattle.psu_hislip.specs.Core.{Core, outcome_of}
 use Rattle.psu_hislip.specs.Stream.{received}
 use Rattle.psu_hislip.specs.declared.action.Action.{Action}
-use Rattle.psu_sides.specs.Messages.{clears, parameter}
+use Rattle.psu_session.specs.Numbers.{clears, number_on, parameter}
 use Rattle.psu_session.specs.Events.{Came}
-use Rattle.psu_session.specs.Step.{Each, arrived, number_on, release_in, works_in}
+use Rattle.psu_session.specs.Step.{Each, arrived, release_in, works_in}
 use Rattle.psu_session.specs.Shown.{state_of}
 use Rattle.psu_session.specs.State.{State, added, numbered, settled, with_core}
 use Rattle.psu_session.proofs.Serving.{on_ok}

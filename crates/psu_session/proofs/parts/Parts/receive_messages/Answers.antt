@@ -1,6 +1,6 @@
 use Rattle.std.proofs.Common.{◌+◌, List, drop, map, subst}
 use Rattle.psu_hislip.specs.Stream.{Received, received}
-use Rattle.psu_sides.proofs.Asking.{at_end, at_message}
+use Rattle.psu_session.proofs.ReceivedMessages.{at_end, at_message}
 use Rattle.psu_session.specs.Shown.{state_of}
 use Rattle.psu_session.proofs.ReceivedMessages.{Receiving, begins, received_all, receives}
 use Rattle.psu_session.proofs.parts.Parts.receive_messages.Goals as goal

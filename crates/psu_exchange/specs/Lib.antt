@@ -1,5 +1,0 @@
-pub mod Life
-pub mod Exchange
-pub mod Answered
-pub mod SomeExchange
-pub mod Readers

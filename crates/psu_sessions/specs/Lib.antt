@@ -1,4 +1,0 @@
-pub mod Credit
-pub mod Input
-pub mod Locking
-pub mod Order

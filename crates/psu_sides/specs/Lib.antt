@@ -1,5 +1,0 @@
-pub mod Actions
-pub mod Deeds
-pub mod Messages
-pub mod Running
-pub mod Telling
