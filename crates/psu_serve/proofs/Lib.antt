@@ -1,2 +1,8 @@
 pub mod Adding
 pub mod Calling
+pub mod Making
+pub mod Recording
+pub mod Responding
+pub mod Transmissions
+pub mod Replying
+pub mod Histories

@@ -20,7 +20,7 @@ mod silent;
 
 pub use acceptor::{serve, serve_disk};
 pub use flushing::Flusher;
-pub use laws::calls_are_in_the_history;
+pub use laws::{calls_are_in_the_history, each_response_is_of_the_history};
 pub use psu_bench::{Gate, Open, Point};
 pub use serve_fault::ServeFault;
 pub use server::Server;
