@@ -3,19 +3,22 @@ use Rattle.std.proofs.Common.{◌≡◌, ℕ, List, [], ◌∷◌, ◌++◌, map
 use Rattle.std.specs.List.{AllByRecursion}
 use Rattle.std.proofs.lemmas.List.Elements.{All-from_recursion, recursion_from_All}
 use Rattle.psu_hislip.specs.declared.side.Side.TheVariants.{Sync, Async}
-use Rattle.psu_turn.specs.Seats.{Sight}
+use Rattle.psu_turn.specs.History.{calls_by}
+use Rattle.psu_turn.specs.Seats.{Joins, Sight}
+use Rattle.psu_bench.specs.Calls.{AdmitsOn}
 use Rattle.psu_exec.specs.Calls.{Entry}
 use Rattle.psu_exec.specs.Device as device
-use Rattle.psu_session.specs.Answered as session
+use Rattle.psu_session.specs.Answered as exchange
 use Rattle.psu_session.specs.Answered.{EachIsAnswered, NothingElseIsSent, Weaves, pieces}
 use Rattle.psu_session.specs.Events.{Call, Event, bytes_received, exchange_history, taken}
 use Rattle.psu_session.specs.Exchange.{Order, Turn}
 use Rattle.psu_session.specs.Exchanged.{executions, replied, written}
 use Rattle.psu_session.specs.History.{HistoriesAreExchanges}
 use Rattle.psu_session.specs.State.{orders_in}
+use Rattle.psu_serve.specs.Added.{Adds}
 use Rattle.psu_serve.specs.Called.{IsCalled}
 use Rattle.psu_serve.specs.Made.{Made, history_of}
-use Rattle.psu_serve.specs.Recorded.{AreEffects, EachResponseIsOfTheHistory, IsAnswered, Recorded, RecordedTurn}
+use Rattle.psu_serve.specs.Recorded.{AreEffects, EachResponseIsOfTheHistory, IsAnswered, Recorded, RecordedTurn, Shows, entries_by}
 use Rattle.psu_serve.proofs.Making.{made_history}
 use Rattle.psu_serve.proofs.Recording.{HasEntries, of_all}
 use Rattle.psu_serve.proofs.Transmissions.{all_answered, turns_of}
@@ -27,6 +30,18 @@ events_of (r ∷ events) = ap (λ (z : List Event). r.made.event ∷ z) (events_
 orders_of : (turns : List RecordedTurn) → map (λ (turn : Turn). turn.order) (map (λ (r : RecordedTurn). r.turn) turns) ≡ map (λ (r : RecordedTurn). r.turn.order) turns
 orders_of [] = refl
 orders_of (r ∷ turns) = ap (λ (z : List Order). r.turn.order ∷ z) (orders_of turns)
+
+-- seats that are joined
+joined : (honest : Type 0) (old_one new_one old_other new_other both : Sight device.State Entry) (one other : List Entry) → Adds (AdmitsOn honest) old_one one new_one → Adds (AdmitsOn honest) old_other other new_other
+    → Joins (AdmitsOn honest) new_one new_other both → Shows honest both new_one (old_one.mine ++ one) × Shows honest both new_other (old_other.mine ++ other)
+joined honest old_one new_one old_other new_other both one other adds_one adds_other j = (
+  record {
+    legal = j.sees.legal;
+    begins = j.sees.seen;
+    own = ap (λ (k : ℕ). calls_by k both.seen) (sym j.sees.same.number) ∙ j.sees.own ∙ j.sees.mine ∙ adds_one.mine;
+  },
+  record { legal = j.sees.legal; begins = j.seen; own = j.own ∙ adds_other.mine },
+)
 
 pub each_response : {X : Type 0} {does : X → Call → X → Type 0} (honest : Type 0) (session : X → ℕ) (seat : X → Sight device.State Entry)
     → ((x y : X) (call : Call) → does x call y → (session y ≡ session x) × IsCalled honest (session x) (seat x) call (seat y)) → HistoriesAreExchanges → EachIsAnswered → NothingElseIsSent
@@ -48,14 +63,15 @@ each_response honest session seat makes exchanges answers nothing_else = λ star
       are = all.are;
       each = all.each;
       adds = all.adds;
+      joined = λ one other both j. joined honest (seat (first one)) (seat (last one)) (seat (first other)) (seat (last other)) both (entries_by one all.events) (entries_by other all.events) (all.adds one) (all.adds other) j;
       turns = turns.recorded_turns;
       in_order = h.waiting ∙ ap (λ (z : List Turn). map (λ turn. turn.order) z ++ orders_in s.waiting) (sym turns.are) ∙ ap (λ (z : List Order). z ++ orders_in s.waiting) (orders_of turns.recorded_turns);
       all_effects = turns.all_effects;
       each_effect = All-from_recursion (λ (r : RecordedTurn). AreEffects r.turn.order.origin r.events r.turn.done) turns.recorded_turns turns.each_effect;
       answered = λ greatest most. All-from_recursion (IsAnswered greatest) turns.recorded_turns
           (all_answered number greatest turns.recorded_turns
-          (subst (λ (z : List Turn). AllByRecursion (session.IsAnswered greatest) z) (sym turns.are)
-          (recursion_from_All (session.IsAnswered greatest) h.turns (answers start.session greatest sync async (exchange_history history) h.turns x most).0)) turns.each_effect turns.each);
+          (subst (λ (z : List Turn). AllByRecursion (exchange.IsAnswered greatest) z) (sym turns.are)
+          (recursion_from_All (exchange.IsAnswered greatest) h.turns (answers start.session greatest sync async (exchange_history history) h.turns x most).0)) turns.each_effect turns.each);
       sent = subst (λ (z : List ℕ). Weaves (replied (exchange_history history)) (pieces (map (λ r. r.turn) turns.recorded_turns)) z) h.sent
           (subst (λ (z : List Turn). Weaves (replied (exchange_history history)) (pieces z) (written (exchange_history history))) (sym turns.are) (nothing_else start.session sync async (exchange_history history) h.turns x));
     }

@@ -12,7 +12,8 @@ use Rattle.psu_exec.specs.Device as device
 use Rattle.psu_messages.specs.Answers.{answer_in}
 use Rattle.psu_messages.specs.Executions.{IsOver}
 use Rattle.psu_messages.specs.Messages.{IsMessage}
-use Rattle.psu_turn.specs.Seats.{Sight}
+use Rattle.psu_turn.specs.History.{StartsWith, calls_by}
+use Rattle.psu_turn.specs.Seats.{IsLegalFrom, Joins, Sight}
 use Rattle.psu_bench.specs.Calls.{AdmitsOn}
 use Rattle.psu_session.specs.Answered.{TakesAtMost, Weaves, pieces}
 use Rattle.psu_session.specs.Events.{Call, Event, BytesReceived, LockGranted, ServiceRequested, LockReleased, Came, DeviceCalled, Put, Did, Took, Wrote, calls_in, exchange_history, taken}
@@ -88,6 +89,12 @@ if_effect (Wrote side) r = []
 abbrev pub effects_of : List Recorded → List Recorded
 effects_of events = flat_map (λ r. if_effect r.made.event r) events
 
+-- a legal history begins with what the seat has seen, and has exactly these calls under its number
+pub record Shows (honest : Type 0) (history : Sight device.State Entry) (seat : Sight device.State Entry) (mine : List Entry) : Type 0 where
+  pub legal : IsLegalFrom (AdmitsOn honest) history.opening history.seen
+  pub begins : StartsWith history.seen seat.seen
+  pub own : calls_by seat.number history.seen ≡ mine
+
 -- The calls of a session's history are recorded in that of the device. The numbers of the session and the seats are those
 -- of the threads' devices, before the first call and after the last one.
 pub record IsRecorded (honest : Type 0) (session : ℕ → ℕ) (old new : ℕ → Sight device.State Entry) (start : Start) (made : List Made) (s : State) : Type 0 where
@@ -99,6 +106,9 @@ pub record IsRecorded (honest : Type 0) (session : ℕ → ℕ) (old new : ℕ �
   -- under the seat of each thread the one legal history that the seat has seen then has these, in their order, after what
   -- the seat had called before, and no others
   pub adds : (thread : ℕ) → Adds (AdmitsOn honest) (old thread) (entries_by thread events) (new thread)
+  -- so has, for both, the one legal history that two seats have seen once they are joined
+  pub joined : (one other : ℕ) (both : Sight device.State Entry) → Joins (AdmitsOn honest) (new one) (new other) both
+      → Shows honest both (new one) ((old one).mine ++ entries_by one events) × Shows honest both (new other) ((old other).mine ++ entries_by other events)
   -- transmissions are executed in the order of their arrival, and each effect is one of them
   pub turns : List RecordedTurn
   pub in_order : orders start.session (exchange_history (history_of made)) ≡ map (λ r. r.turn.order) turns ++ orders_in s.waiting

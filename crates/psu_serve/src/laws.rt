@@ -37,8 +37,8 @@ pub fn calls_are_in_the_history<'s, 'c, 'r, R: Wait + Clock, D: Disk + Drop, G: 
 /// `Executed`, or where the unit had to wait the one of `Settled`. Of this entry the theorem on power loss holds
 /// (`psu_bench::seen_histories_happen`, `histories_are_lives`): what was commanded before it is there when power returns.
 ///
-/// Each seat has seen a history of its own. Any two seats of a bench may be joined (`Bench::join`), and have then seen one
-/// history, which begins with both and has the calls of each under its number.
+/// Each seat has seen a history of its own, as far as the thread has called. Any two seats of a bench may be joined
+/// (`Bench::join`): they have then seen one legal history, which has the calls of both.
 pub fn each_response_is_of_the_history<
     's,
     'c,
