@@ -10,14 +10,14 @@ use Rattle.psu_exec.specs.Calls.{Entry}
 use Rattle.psu_exec.specs.Device as device
 use Rattle.psu_session.specs.Answered as exchange
 use Rattle.psu_session.specs.Answered.{EachIsAnswered, NothingElseIsSent, Weaves, pieces}
-use Rattle.psu_session.specs.Events.{Call, Event, bytes_received, exchange_history, taken}
+use Rattle.psu_session.specs.Events.{Call, Event, bytes_received, exchange_history}
 use Rattle.psu_session.specs.Exchange.{Order, Turn}
 use Rattle.psu_session.specs.Exchanged.{executions, replied, written}
 use Rattle.psu_session.specs.History.{HistoriesAreExchanges}
 use Rattle.psu_session.specs.State.{orders_in}
 use Rattle.psu_serve.specs.Added.{Adds}
 use Rattle.psu_serve.specs.Called.{IsCalled}
-use Rattle.psu_serve.specs.Made.{Made, history_of}
+use Rattle.psu_serve.specs.Made.{history_of}
 use Rattle.psu_serve.specs.Recorded.{AreEffects, EachResponseIsOfTheHistory, IsAnswered, Recorded, RecordedTurn, Shows, entries_by}
 use Rattle.psu_serve.proofs.Making.{made_history}
 use Rattle.psu_serve.proofs.Recording.{HasEntries, of_all}

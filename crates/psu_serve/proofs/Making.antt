@@ -1,5 +1,5 @@
 -- The history that the calls of threads make, and the calls of the device in it.
-use Rattle.std.proofs.Common.{◌≡◌, ℕ, List, [], ◌∷◌, ◌++◌, map, refl, sym, ap, ◌∙◌, subst, inl, inr}
+use Rattle.std.proofs.Common.{◌≡◌, ℕ, List, [], ◌∷◌, ◌++◌, refl, sym, ap, ◌∙◌, subst, inl, inr}
 use Rattle.std.proofs.lemmas.List.{map-append}
 use Rattle.psu_session.specs.Events.{Call, Event, calls}
 use Rattle.psu_session.specs.Serving.{Runs}
@@ -44,9 +44,9 @@ module _ {X : Type 0} {does : X → Call → X → Type 0} where
   made_history {start} (Calls {made = made} before thread done t next call others) =
       subst (λ (z : List Event). IsHistory start z t) (sym (history_more made thread done)) (steps_on (made_history before) (call_steps call))
 
-  -- calls of the device, one after another, are the first of them and then the others
-  pub runs_split : (xs ys : List Call) (x z : X) → Runs does x (xs ++ ys) z → (y : X) × Runs does x xs y × Runs does y ys z
-  runs_split [] ys x z runs = (x, refl, runs)
-  runs_split (call ∷ xs) ys x z (mid, did, more) =
-      let rest = runs_split xs ys mid z more in
-      (rest.0, (mid, did, rest.1), rest.2)
+-- calls of the device, one after another, are the first of them and then the others
+pub runs_split : {X : Type 0} (does : X → Call → X → Type 0) (xs ys : List Call) (x z : X) → Runs does x (xs ++ ys) z → (y : X) × Runs does x xs y × Runs does y ys z
+runs_split does [] ys x z runs = (x, refl, runs)
+runs_split does (call ∷ xs) ys x z (mid, did, more) =
+    let rest = runs_split does xs ys mid z more in
+    (rest.0, (mid, did, rest.1), rest.2)

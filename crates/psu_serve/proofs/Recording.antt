@@ -1,5 +1,5 @@
 -- The calls of a session's history as entries of the device's history.
-use Rattle.std.proofs.Common.{◌≡◌, ◌≢◌, ℕ, ◌==◌, if◌then◌else◌, true, false, All, List, [], ◌∷◌, ◌++◌, flat_map, map, refl, sym, ap, ◌∙◌, subst, append-nil, eq-eqb, ne_eqb}
+use Rattle.std.proofs.Common.{◌≡◌, ◌≢◌, ℕ, ◌==◌, if◌then◌else◌, All, List, [], ◌∷◌, ◌++◌, flat_map, map, refl, sym, ap, ◌∙◌, subst, append-nil, eq-eqb, ne_eqb}
 use mathlib.Core.Logic.{dite}
 use native.Mathlib.Decide.{ℕ_discrete}
 use Rattle.std.proofs.lemmas.List.{map-append}
@@ -47,7 +47,7 @@ module _ (honest : Type 0) (number : ℕ → ℕ) where
   of_call : (thread : ℕ) (done : List Event) (old new : Sight device.State Entry) → Runs (IsCalled honest (number thread)) old (calls done) new → OfCall thread old done new
   of_call thread [] old new now = record { events = []; are = refl; each = All-nil (HasEntries number); adds = adds_none old new now; mine = refl; others = λ other apart. refl }
   of_call thread (event ∷ done) old new runs =
-      let split = runs_split (calls_in event) (calls done) old new runs in
+      let split = runs_split (IsCalled honest (number thread)) (calls_in event) (calls done) old new runs in
       let one = all_called (number thread) old split.0 (calls_in event) split.1 in
       let more = of_call thread done split.0 new split.2 in
       let first : Recorded = record { made = record { thread = thread; event = event }; entries = one.entries } in

@@ -1,8 +1,7 @@
 -- A message of which one unit has a response.
-use Rattle.std.proofs.Common.{◌≡◌, ℕ, true, List, [], ◌∷◌, ◌++◌, flat_map, refl, sym, ap, ◌∙◌, subst, inl, inr}
+use Rattle.std.proofs.Common.{◌≡◌, ℕ, List, [], ◌∷◌, ◌++◌, flat_map, refl, ap, subst, inl, inr}
 use Rattle.psu_hislip.specs.Answer.{IsAnswerCutAnywhere}
 use Rattle.psu_answers.specs.Response.{response}
-use Rattle.psu_exec.specs.Calls.{Entry}
 use Rattle.psu_serve.specs.Recorded.{IsReplied, IsSent, OneResponseIsSent, Recorded, responses, responses_in}
 
 -- an element of which the only one comes

@@ -1,5 +1,5 @@
 -- The responses of a transmission, from the entries of its effects.
-use Rattle.std.proofs.Common.{◌≡◌, ◌⊎◌, ℕ, true, List, [], ◌∷◌, ◌++◌, flat_map, map, refl, sym, ap, ◌∙◌, subst, inl, inr, append_assoc, append-nil}
+use Rattle.std.proofs.Common.{◌≡◌, ◌⊎◌, ℕ, true, List, [], ◌∷◌, ◌++◌, flat_map, refl, sym, ap, ◌∙◌, subst, inl, inr, append-nil}
 use Rattle.std.specs.List.{AllByRecursion}
 use Rattle.psu_hislip.specs.Answer.{IsAnswerCutAnywhere}
 use Rattle.psu_hislip.specs.declared.origin.Origin.{Origin}
@@ -9,7 +9,7 @@ use Rattle.psu_messages.specs.Answers.{answer_in, answers}
 use Rattle.psu_messages.specs.Effects as messages
 use Rattle.psu_messages.specs.Effects.{Effect}
 use Rattle.psu_session.specs.Answered.{AreMessagesAnswered, IsMessageAnswered}
-use Rattle.psu_session.specs.Answered.AreMessagesAnswered as answered
+use Rattle.psu_session.specs.Answered as session
 use Rattle.psu_session.specs.Events.{Event, Did, call_of}
 use Rattle.psu_session.specs.Exchange.{Done, Order, effects, frames}
 use Rattle.psu_session.proofs.Mapped.{none_mapped}
@@ -59,22 +59,25 @@ module _ (number : ℕ → ℕ) where
     each_first : AllByRecursion (HasEntries number) first
     each_last : AllByRecursion (HasEntries number) last
 
+  -- one effect more before them
+  parted_more : (origin : Origin) (r : Recorded) (d : Done) (left right : List Done) (events : List Recorded) → r.made.event ≡ Did origin d.effect d.frames → HasEntries number r → Parted origin left right events → Parted origin (d ∷ left) right (r ∷ events)
+  parted_more origin r d left right events here one p = record {
+    first = r ∷ p.first;
+    last = p.last;
+    is = ap (λ (z : List Recorded). r ∷ z) p.is;
+    of_left = cc (here, p.of_left);
+    of_right = p.of_right;
+    each_first = (one, p.each_first);
+    each_last = p.each_last;
+  }
+
   parted : (origin : Origin) (left right : List Done) (events : List Recorded) → AreEffects origin events (left ++ right) → AllByRecursion (HasEntries number) events → Parted origin left right events
   parted origin [] right events e each = record { first = []; last = events; is = refl; of_left = refl; of_right = e; each_first = tt; each_last = each }
   parted origin (d ∷ left) right [] e each = absurd (cc (e))
   parted origin (d ∷ left) right (r ∷ events) e (one, each) =
       let here : r.made.event ≡ Did origin d.effect d.frames = cc (e) in
       let rest : AreEffects origin events (left ++ right) = cc (e) in
-      let p = parted origin left right events rest each in
-      record {
-        first = r ∷ p.first;
-        last = p.last;
-        is = ap (λ (z : List Recorded). r ∷ z) p.is;
-        of_left = cc (here, p.of_left);
-        of_right = p.of_right;
-        each_first = (one, p.each_first);
-        each_last = p.each_last;
-      }
+      parted_more origin r d left right events here one (parted origin left right events rest each)
 
   sent : (greatest id : ℕ) (origin : Origin) (message : List Recorded) (done : List Done) → AreEffects origin message done → AllByRecursion (HasEntries number) message → IsMessageAnswered greatest id done → IsSent greatest id message (frames done)
   sent greatest id origin message done are each is =
@@ -82,8 +85,8 @@ module _ (number : ℕ → ℕ) where
 
   pub all_sent : (greatest : ℕ) (order : Order) {units : ℕ} {done : List Done} (events : List Recorded) → AreMessagesAnswered greatest order.origin.id order.source units done → AreEffects order.origin events done
       → AllByRecursion (HasEntries number) events → AreSent greatest order units events
-  all_sent greatest order events answered.NoMessage e each = subst (λ (z : List Recorded). AreSent greatest order 0 z) (sym (none_mapped (λ (r : Recorded). r.made.event) events e)) NoMessage
-  all_sent greatest order events (answered.OneMore {done = before} earlier to message is answer) e each =
+  all_sent greatest order events session.AreMessagesAnswered.NoMessage e each = subst (λ (z : List Recorded). AreSent greatest order 0 z) (sym (none_mapped (λ (r : Recorded). r.made.event) events e)) NoMessage
+  all_sent greatest order events (session.AreMessagesAnswered.OneMore {done = before} earlier to message is answer) e each =
       let p = parted order.origin before message events e each in
       subst (λ (z : List Recorded). AreSent greatest order to z) (sym p.is)
       (OneMore (all_sent greatest order p.first earlier p.of_left p.each_first) to p.last message p.of_right is (sent greatest order.origin.id order.origin p.last message p.of_right p.each_last answer))

@@ -60,6 +60,20 @@ module _ (number : ℕ → ℕ) where
   passed : (origin : Origin) (done : List Done) (rest : List ExchangeEvent) (r : Recorded) (events : List Recorded) → effects_of (r ∷ events) ≡ effects_of events → Next origin done rest events → Next origin done rest (r ∷ events)
   passed origin done rest r events same n = record { first = n.first; later = n.later; is = same ∙ n.is; are = n.are; left = n.left; each_first = n.each_first; each_later = n.each_later }
 
+  -- an effect before them
+  begun : (origin : Origin) (d : Done) (done : List Done) (rest : List ExchangeEvent) (thread : ℕ) (other : Origin) (effect : Effect) (out : List ℕ) (entries : List Entry) (events : List Recorded)
+      → other ≡ origin → effect ≡ d.effect → out ≡ d.frames → HasEntries number (recorded thread (Did other effect out) entries) → Next origin done rest events
+      → Next origin (d ∷ done) rest (recorded thread (Did other effect out) entries ∷ events)
+  begun origin d done rest thread other effect out entries events same_origin same_effect same_frames one n = record {
+    first = recorded thread (Did other effect out) entries ∷ n.first;
+    later = n.later;
+    is = ap (λ (z : List Recorded). recorded thread (Did other effect out) entries ∷ z) n.is;
+    are = cc (same_origin, same_effect, same_frames, n.are);
+    left = n.left;
+    each_first = (one, n.each_first);
+    each_later = n.each_later;
+  }
+
   next_at : (origin : Origin) (rest : List ExchangeEvent) (thread : ℕ) (event : Event) (entries : List Entry) (events : List Recorded) (d : Done) (done : List Done)
       → ((those : List Done) → seen events ≡ seen_of origin those ++ rest → AllByRecursion (HasEntries number) events → Next origin those rest events)
       → seen (recorded thread event entries ∷ events) ≡ seen_of origin (d ∷ done) ++ rest → HasEntries number (recorded thread event entries) → AllByRecursion (HasEntries number) events
@@ -79,16 +93,7 @@ module _ (number : ℕ → ℕ) where
       let same_effect : effect ≡ d.effect = cc (e) in
       let same_frames : out ≡ d.frames = cc (e) in
       let others : seen events ≡ seen_of origin done ++ rest = cc (e) in
-      let n = more done others each in
-      record {
-        first = recorded thread (Did other effect out) entries ∷ n.first;
-        later = n.later;
-        is = ap (λ (z : List Recorded). recorded thread (Did other effect out) entries ∷ z) n.is;
-        are = cc (same_origin, same_effect, same_frames, n.are);
-        left = n.left;
-        each_first = (one, n.each_first);
-        each_later = n.each_later;
-      }
+      begun origin d done rest thread other effect out entries events same_origin same_effect same_frames one (more done others each)
 
   next : (origin : Origin) (rest : List ExchangeEvent) (events : List Recorded) (done : List Done) → seen events ≡ seen_of origin done ++ rest → AllByRecursion (HasEntries number) events → Next origin done rest events
   next origin rest [] [] e each = record { first = []; later = []; is = refl; are = refl; left = e; each_first = tt; each_later = each }
