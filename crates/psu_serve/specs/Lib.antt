@@ -1,4 +1,5 @@
 pub mod Added
 pub mod Called
 pub mod Made
+pub mod Opening
 pub mod Recorded

@@ -1,9 +1,11 @@
 // A connection up to its first message, and sessions that open and close.
-ghost use Rattle.std.specs.Prelude.{◌≡◌, ◌++◌, IfOk, length};
+ghost use Rattle.std.specs.Prelude.{◌≡◌, [], ◌∷◌, ◌++◌, IfOk, IfSome, IsNone, length};
+ghost use Rattle.psu_hislip.specs.Channel.{Fed};
 ghost use Rattle.psu_hislip.specs.Faults.{fatal_code};
 ghost use Rattle.psu_hislip.specs.Frame.{header_of};
 ghost use Rattle.psu_hislip.specs.Header.{header_bytes};
 ghost use Rattle.psu_hislip.specs.declared.message_type.MessageType.TheVariants.{FatalError};
+ghost use Rattle.psu_serve.specs.Opening.{IsFirst};
 
 use crate::executing::SILENCE;
 use crate::reporter::Reporter;
@@ -65,15 +67,33 @@ struct FirstMessage {
 }
 
 impl FirstMessage {
-    // Adds bytes. Returns what the connection has sent first once its first message is whole.
-    fn add(&mut self, alloc: Global, bytes: &[u8]) -> io::Result<Option<Opening>> {
+    // Adds a byte. Returns what the first message requests once it is whole.
+    fn push(&mut self, byte: u8) -> io::Result<Option<First>>
+        ensures bytes { IfOk result (λ _. self.new.bytes.items ≡ self.old.bytes.items ++ byte ∷ []) }
+        ensures whole { Fed self.old.channel self.old.bytes.items [] → IfOk result (λ some. IfSome some (λ first. IsFirst first self.new.bytes.items)) }
+        ensures fed { Fed self.old.channel self.old.bytes.items [] → IfOk result (λ some. IsNone some → Fed self.new.channel self.new.bytes.items []) }
+    {
+        self.bytes.push(byte)?;
+        let messages = self.channel.feed(&[byte])?;
+        match messages.first() {
+            Some(message) => Ok(Some(First::of(message))),
+            None => Ok(None),
+        }
+    }
+
+    // Adds bytes. Returns what the connection has sent first once its first message is whole: the bytes of the message
+    // and those after it are all that were added, in their order.
+    fn add(&mut self, alloc: Global, bytes: &[u8]) -> io::Result<Option<Opening>>
+        ensures all { IfOk result (λ some. IfSome some (λ opening. opening.message.items ++ opening.after.items ≡ self.old.bytes.items ++ bytes.now)) }
+        ensures whole { Fed self.old.channel self.old.bytes.items [] → IfOk result (λ some. IfSome some (λ opening. IsFirst opening.first opening.message.items)) }
+        ensures none { IfOk result (λ some. IsNone some → self.new.bytes.items ≡ self.old.bytes.items ++ bytes.now) }
+        ensures fed { Fed self.old.channel self.old.bytes.items [] → IfOk result (λ some. IsNone some → Fed self.new.channel self.new.bytes.items []) }
+    {
         for place in 0..bytes.len() {
-            self.bytes.push(bytes[place])?;
-            let messages = self.channel.feed(&bytes[place..=place])?;
-            if let Some(first) = messages.first() {
+            if let Some(first) = self.push(bytes[place])? {
                 let after = bytes[place + 1..].to_vec(alloc)?;
                 return Ok(Some(Opening {
-                    first: First::of(first),
+                    first,
                     message: std::mem::replace(&mut self.bytes, Vec::new(alloc)),
                     after,
                 }));
