@@ -13,6 +13,7 @@ use std::alloc::Global;
 
 impl Parts {
     // Returns the messages that these next bytes of a channel's stream complete.
+    #[inline(always)]
     fn feed(&mut self, side: Side, received_bytes: &[u8]) -> Result<Vec<Message<Global>>, Ended>
         ensures { IfOk result (λ messages. IsFed side received_bytes.now (map received messages.items) (state_of self.old) (state_of self.new)) }
     {

@@ -14,6 +14,7 @@ use std::mem;
 
 impl Parts {
     // Takes the transmission in execution, or else the first item of the queue.
+    #[inline(always)]
     fn next(&mut self) -> Option<Next>
         ensures some { IfSome result (λ next. IsNextWork (state_of self.old) next (state_of self.new)) }
         ensures none { IsNone result → (state_of self.new ≡ state_of self.old) × ((state_of self.old).running ≡ None) × ((state_of self.old).waiting ≡ []) }
@@ -43,6 +44,7 @@ impl Parts {
     }
 
     // Continues a transmission that was taken.
+    #[inline(always)]
     fn execute<D: Device>(&mut self, device: &mut D, running: Running) -> Result<Proceeded, Ended>
         ensures waits { IfOk result (λ proceeded. Awaits D.does proceeded device.new) }
         ensures done { IfOk result (λ proceeded. (s : State) → IsNext s (one_running running) (state_of self.old) → PerformsStep D.does (Proceeds proceeded) s device.old (state_of self.new) device.new) }

@@ -14,6 +14,7 @@ use std::alloc::Global;
 
 impl Parts {
     // Does or queues what the actions of a message request, one after another.
+    #[inline(always)]
     fn act_all<D: Device>(
         &mut self,
         device: &mut D,
@@ -41,6 +42,7 @@ impl Parts {
     }
 
     /// Passes a message of a channel to the core at a time in milliseconds, and does or queues what it requests.
+    #[inline(always)]
     pub fn receive_message<D: Device>(
         &mut self,
         now: u64,
