@@ -9,7 +9,7 @@ ghost use Rattle.psu_session.specs.State.{numbered};
 
 use crate::numbers::{clears, number_on, parameter};
 use crate::{Device, Ended, Parts};
-use psu_hislip::{Action, Message, Side};
+use psu_hislip::{Actions, Message, Side};
 use std::alloc::Global;
 
 impl Parts {
@@ -20,7 +20,7 @@ impl Parts {
         device: &mut D,
         now: u64,
         number: u32,
-        actions: Vec<Action<Global>>,
+        actions: Actions<Global>,
     ) -> Result<(), Ended>
         ensures { OnOk result (Appends D.does (Each (state_of self.old).lock_waits (acts actions.items)) (flat_map works_in (acts actions.items)) (flat_map (release_in now number) (acts actions.items)) (state_of self.old) device.old
             (state_of self.new) device.new) }
@@ -47,15 +47,17 @@ impl Parts {
         &mut self,
         now: u64,
         side: Side,
-        message: &Message<Global>,
+        message: Message<Global>,
         device: &mut D,
     ) -> Result<(), Ended>
-        ensures { OnOk result (PerformsStep D.does (IsMessageReceived now side (received message.now)) (state_of self.old) device.old (state_of self.new) device.new) }
+        ensures { OnOk result (PerformsStep D.does (IsMessageReceived now side (received message)) (state_of self.old) device.old (state_of self.new) device.new) }
     {
+        let number = number_on(side, &message);
+        let id = parameter(&message);
         let actions = self.core.on(side, message)?;
         let all = clears(actions.as_slice());
-        self.act_all(device, now, parameter(message), actions)?;
-        self.count(number_on(side, message));
+        self.act_all(device, now, id, actions)?;
+        self.count(number);
         self.settle(all, now)
     }
 }
