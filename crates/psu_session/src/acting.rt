@@ -107,8 +107,8 @@ impl Parts {
         }
     }
 
-    // Requests the lock of a string. A string that no lock has is refused, and so is a request while another one waits: its
-    // result could else be taken for that of the first.
+    // Requests the lock of a string. A string that no lock has is refused, and so is a request while another one waits:
+    // its result could else be taken for that of the first.
     fn answer_lock<D: Device>(
         &mut self,
         device: &mut D,

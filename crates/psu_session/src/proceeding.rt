@@ -80,8 +80,8 @@ impl Parts {
         self.running.is_some() || !self.waiting.is_empty()
     }
 
-    /// Continues the transmission in execution, or takes the first item of the queue, until a unit has to wait or others
-    /// are let in. A transmission that a device clear or a FatalError has ended is dropped.
+    /// Continues the transmission in execution, or takes the first item of the queue, until a unit has to wait or
+    /// others are let in. A transmission that a device clear or a FatalError has ended is dropped.
     pub fn proceed<D: Device>(&mut self, device: &mut D) -> Result<Proceeded, Ended>
         ensures waits { IfOk result (λ proceeded. Awaits D.does proceeded device.new) }
         ensures done { IfOk result (λ proceeded. PerformsStep D.does (Proceeds proceeded) (state_of self.old) device.old (state_of self.new) device.new) }
