@@ -5,7 +5,6 @@ use Rattle.std.specs.List.{list_any}
 use Rattle.psu_hislip.specs.Action.{Act}
 use Rattle.psu_hislip.specs.MessageType.{type_of}
 use Rattle.psu_hislip.specs.Stream.{Received, Frame, Oversize, BadHeader}
-use Rattle.psu_hislip.specs.declared.header.Header.{Header}
 use Rattle.psu_hislip.specs.declared.message_type.MessageType.{MessageType}
 use Rattle.psu_hislip.specs.declared.message_type.MessageType.TheVariants.{Data, DataEnd, Trigger, DeviceClearComplete}
 use Rattle.psu_hislip.specs.declared.side.Side.{Side}
