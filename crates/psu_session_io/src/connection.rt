@@ -70,7 +70,7 @@ impl<S> Connection<S> {
     fn has_received_all(&self) -> bool
         ensures { IsTrue result ↔ (self.now ≡ []) }
     {
-        self.received == self.before.len()
+        self.before[self.received..].is_empty()
     }
 
     // Reads what has come, or waits for it, unless bytes were read before.

@@ -4,7 +4,7 @@ ghost use Rattle.psu_hislip.specs.declared.side.Side.TheVariants.{Sync, Async};
 ghost use Rattle.psu_session.specs.Events.{Wrote};
 ghost use Rattle.psu_session.specs.State.{HasWork};
 ghost use Rattle.psu_session.specs.Step.{IsWritten};
-ghost use Rattle.psu_session_io.specs.Sharing.{Executes, Leaves, MayContinue, MayRequestService, Notifies, Receives, Takes, IsForOthers, IsUnwritten, HasRoom, HasSentAll, waits_after};
+ghost use Rattle.psu_session_io.specs.Sharing.{Executes, Leaves, MayContinue, MayRequestService, Notifies, Receives, Takes, IsForOthers, IsUnwritten, HasRoom, HasSent, HasSentAll, waits_after};
 
 use crate::linear::{
     Arrived, BytesRead, Closing, Disconnected, Duty, Outgoing, Pending, Received, Remainder, Taken,
@@ -234,15 +234,18 @@ impl SharedSession {
         }
     }
 
-    // Whether the session has failed, all its output is written, and no thread writes.
+    // Whether all output of a connection is written.
+    fn has_sent(&self, side: Side) -> bool
+        ensures { IsTrue result ↔ HasSent side self.now.session.state }
+    {
+        !self.session.has_output(side) && !self.session.writes(side)
+    }
+
+    // Whether the session has failed, and all its output is written.
     fn has_sent_all(&self) -> bool
         ensures { IsTrue result ↔ HasSentAll self.now.session.state }
     {
-        self.session.has_failed()
-            && !self.session.has_output(Side::Sync)
-            && !self.session.has_output(Side::Async)
-            && !self.session.writes(Side::Sync)
-            && !self.session.writes(Side::Async)
+        self.session.has_failed() && self.has_sent(Side::Sync) && self.has_sent(Side::Async)
     }
 
     // Takes what is to be written on a connection, or returns what is left to the other threads.
