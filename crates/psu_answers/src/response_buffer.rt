@@ -44,6 +44,8 @@ impl<A: Allocator + Copy> ResponseBuffer<A> {
         if self.answered {
             return put_joined(&mut self.text, answer);
         }
+        // With room for the NL, since most messages have one response.
+        self.text.reserve(answer.len().saturating_add(1))?;
         self.text.extend_from_slice(answer)?;
         self.answered = true;
         Ok(())

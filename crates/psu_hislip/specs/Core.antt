@@ -9,7 +9,7 @@ use Rattle.psu_hislip.specs.Stream.{Received}
 use Rattle.psu_hislip.specs.Frame.{header_of, frame_bytes}
 use Rattle.psu_hislip.specs.Action.{Act}
 use Rattle.psu_hislip.specs.LockResponses.{lock_code}
-use Rattle.psu_hislip.specs.Transmission.{added, executed}
+use Rattle.psu_hislip.specs.Transmission.{added, executed, HasBytes}
 use Rattle.psu_hislip.specs.declared.header.Header.{Header}
 use Rattle.psu_hislip.specs.declared.origin.Origin.{Origin}
 use Rattle.psu_hislip.specs.declared.side.Side.{Side}
@@ -201,6 +201,21 @@ row core AsyncRemoteLocalControl h payload = outcome_with (reply Async AsyncRemo
 row core AsyncMaximumMessageSize h payload = sized core payload
 row core AsyncStatusQuery h payload = outcome_with (Act.Status (is_delivered h) ∷ []) core
 row core type h payload = outcome_with [] core
+
+-- # Memory
+
+-- Data and DataEnd carry the parts of a transmission
+abbrev pub is_part : Option MessageType → Bool
+is_part (Some Data) = true
+is_part (Some DataEnd) = true
+is_part type = false
+
+-- A Data or a DataEnd whose transmission has bytes already: its payload is appended to them. No other message needs
+-- memory, since its actions hold their bytes inline or take over its payload.
+abbrev pub NeedsMemory : Core → Received → Type 0
+NeedsMemory core (Received.Frame h payload) = (is_part (type_of h.kind) ≡ true) × HasBytes core.transmission
+NeedsMemory core (Received.Oversize h) = ⊥
+NeedsMemory core Received.BadHeader = ⊥
 
 -- # A message
 

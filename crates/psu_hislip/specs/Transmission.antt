@@ -1,5 +1,5 @@
 -- A transmission: the concatenated payloads of its Data and its DataEnd. The maximum length is this project's profile.
-use Rattle.std.specs.Prelude.{ℕ, ◌+◌, nat_lt, if◌then◌else◌, Option, Some, None, List, [], ◌∷◌, ◌++◌, length}
+use Rattle.std.specs.Prelude.{ℕ, ◌+◌, ◌<◌, nat_lt, if◌then◌else◌, Option, Some, None, List, [], ◌∷◌, ◌++◌, length}
 use Rattle.psu_hislip.specs.Action.{Act}
 use Rattle.psu_hislip.specs.declared.origin.Origin.{Origin}
 
@@ -16,3 +16,8 @@ all_added transmission (more ∷ later) = all_added (added transmission more) la
 abbrev pub executed : Origin → Option (List ℕ) → Act
 executed origin None = Act.TooMuch origin
 executed origin (Some bytes) = Act.Execute origin bytes
+
+-- it has bytes that are kept
+abbrev pub HasBytes : Option (List ℕ) → Type 0
+HasBytes None = ⊥
+HasBytes (Some bytes) = 0 < length bytes

@@ -1,12 +1,17 @@
 // The actions that the messages of a session ask for.
 use crate::{Origin, Side};
+use arrayvec::ArrayVec;
 use std::alloc::Allocator;
+
+/// The maximum size of a message that an action sends, in bytes: a header, and the 8 bytes of a maximum message size,
+/// the longest payload among these messages. So an action holds its message inline, and no allocation can fail.
+pub const SENT_MOST: usize = 24;
 
 /// What a message of a session asks for.
 #[derive(Drop)]
 pub enum Action<A: Allocator + Copy> {
     /// These bytes are to be sent on this channel.
-    Send(Side, Vec<u8, A>),
+    Send(Side, ArrayVec<u8, SENT_MOST>),
     /// A transmission is whole and is to be executed.
     Execute(Origin, Vec<u8, A>),
     /// A transmission had more than 65,536 bytes, and none were kept: the instrument reports too much data.
@@ -29,3 +34,15 @@ pub enum Action<A: Allocator + Copy> {
     /// The session has ended.
     Closed,
 }
+
+// The action that fills the unused places of a list.
+impl<A: Allocator + Copy> Default for Action<A> {
+    fn default() -> Action<A> {
+        Action::Closed
+    }
+}
+
+/// The actions of one message, in order: two where the session ends (a FatalError, Closed), where a device clear begins
+/// (Clear, its acknowledgement) and where a client that has read the last response ends a transmission (Delivered,
+/// Execute or TooMuch), and at most one otherwise.
+pub type Actions<A> = ArrayVec<Action<A>, 2>;

@@ -1,12 +1,13 @@
 // The bytes of messages that are sent.
-ghost use Rattle.std.specs.Prelude.{◌≡◌, ◌++◌, [], ◌∷◌, length, IfOk, OnOk, OnErr};
+ghost use Rattle.std.specs.Prelude.{◌≡◌, ◌++◌, [], ◌∷◌, OnOk};
 ghost use Rattle.psu_hislip.specs.Header.{header_bytes};
 ghost use Rattle.psu_hislip.specs.Frame.{frame_bytes};
 ghost use Rattle.psu_hislip.specs.Action.{act, acts};
 ghost use Rattle.psu_hislip.specs.Action.Act.{Send};
 ghost use Rattle.psu_hislip.specs.Core.{reply};
 
-use crate::{Action, Header, MessageType, Side};
+use crate::{Action, Actions, Header, MessageType, Side};
+use arrayvec::ArrayVec;
 use std::alloc::{AllocError, Allocator};
 
 /// Appends a message with control code 0 to the bytes to send.
@@ -18,54 +19,52 @@ pub fn put_frame<A: Allocator + Copy>(
 ) -> Result<(), AllocError>
     ensures { OnOk result (bytes.new.items ≡ bytes.old.items ++ frame_bytes kind 0 parameter payload.now) }
 {
-    let header = Header::new(kind, 0, parameter, payload.len() as u64);
-    bytes.extend_from_slice(&header.bytes())?;
+    let header = Header::new(kind, 0, parameter, payload.len() as u64).bytes();
+    // The room of the whole frame, so that a response of one frame allocates once, and no more than its size.
+    bytes.reserve(header.len() + payload.len())?;
+    bytes.extend_from_slice(&header)?;
     bytes.extend_from_slice(payload)
 }
 
 /// Returns the action that sends a message without payload.
-pub fn send<A: Allocator + Copy>(
-    alloc: A,
-    side: Side,
-    header: Header,
-) -> Result<Action<A>, AllocError>
-    ensures { IfOk result (λ action. act action ≡ Send side (header_bytes header)) }
+pub fn send<A: Allocator + Copy>(side: Side, header: Header) -> Action<A>
+    ensures { act result ≡ Send side (header_bytes header) }
 {
-    let bytes = Vec::from_slice(alloc, &header.bytes())?;
-    Ok(Action::Send(side, bytes))
+    let mut bytes = ArrayVec::new();
+    bytes.try_extend_from_slice(&header.bytes()).unwrap();
+    Action::Send(side, bytes)
+}
+
+/// Returns the action that sends a message without control code and parameter, with a payload of 8 bytes.
+pub fn send_with<A: Allocator + Copy>(side: Side, kind: MessageType, payload: &[u8; 8]) -> Action<A>
+    ensures { act result ≡ Send side (frame_bytes kind 0 0 payload.now) }
+{
+    let header = Header::new(kind, 0, 0, payload.len() as u64);
+    let mut bytes = ArrayVec::new();
+    bytes.try_extend_from_slice(&header.bytes()).unwrap();
+    bytes.try_extend_from_slice(payload).unwrap();
+    Action::Send(side, bytes)
 }
 
 /// Returns the action that sends a message without parameter and payload.
-pub fn reply<A: Allocator + Copy>(
-    alloc: A,
-    side: Side,
-    kind: MessageType,
-    control: u8,
-) -> Result<Action<A>, AllocError>
-    ensures { IfOk result (λ action. act action ≡ reply side kind control) }
+pub fn reply<A: Allocator + Copy>(side: Side, kind: MessageType, control: u8) -> Action<A>
+    ensures { act result ≡ reply side kind control }
 {
-    send(alloc, side, Header::new(kind, control, 0, 0))
+    send(side, Header::new(kind, control, 0, 0))
 }
 
 /// Returns a list of this one action.
-pub fn one<A: Allocator + Copy>(
-    alloc: A,
-    action: Action<A>,
-) -> Result<Vec<Action<A>, A>, AllocError>
-    ensures { IfOk result (λ actions. acts actions.items ≡ act action ∷ []) }
+pub fn one<A: Allocator + Copy>(action: Action<A>) -> Actions<A>
+    ensures { acts result.items ≡ act action ∷ [] }
 {
-    let mut actions = Vec::new(alloc);
-    actions.push(action)?;
-    Ok(actions)
+    let mut actions = ArrayVec::new();
+    actions.push(action);
+    actions
 }
 
-/// Appends an action.
-pub fn put<A: Allocator + Copy>(
-    actions: &mut Vec<Action<A>, A>,
-    action: Action<A>,
-) -> Result<(), AllocError>
-    ensures { OnOk result (acts actions.new.items ≡ acts actions.old.items ++ act action ∷ []) }
+/// Returns a list of these two actions.
+pub fn two<A: Allocator + Copy>(first: Action<A>, second: Action<A>) -> Actions<A>
+    ensures { acts result.items ≡ act first ∷ act second ∷ [] }
 {
-    actions.push(action)?;
-    Ok(())
+    ArrayVec::from([first, second])
 }

@@ -26,7 +26,7 @@ mod side;
 mod step;
 mod transmission;
 
-pub use action::Action;
+pub use action::{Action, Actions, SENT_MOST};
 pub use channel::Channel;
 pub use device_clear::DeviceClear;
 pub use error_code::ErrorCode;

@@ -1,8 +1,9 @@
 // The session core: the protocol state of one session.
-ghost use Rattle.std.specs.Prelude.{◌≡◌, ◌+◌, ◌&&◌, not, length, ◌↔◌, IsTrue, IfOk, IfSome, IsSome, OnOk, OnErr, None};
+ghost use Rattle.std.specs.Prelude.{◌≡◌, ◌+◌, ◌&&◌, not, ◌++◌, ◌∷◌, [], length, ◌↔◌, IsTrue, true, IfOk, IfSome, IsSome, OnOk, OnErr, None, Some};
 ghost use Rattle.psu_hislip.specs.Stream.{received};
 ghost use Rattle.psu_hislip.specs.Action.{act, acts};
-ghost use Rattle.psu_hislip.specs.Core.{is_sync, joins, initializes, misplaced, fatal, ill_formed, is_delivered, delivered, is_begun, completes, completed, cleared, origin, IsCurrent, locked, sized, joining, triggered, row, outcome_of};
+ghost use Rattle.psu_hislip.specs.Transmission.{HasBytes};
+ghost use Rattle.psu_hislip.specs.Core.{is_sync, joins, initializes, misplaced, fatal, ill_formed, is_delivered, delivered, is_begun, completes, completed, cleared, origin, IsCurrent, locked, sized, joining, triggered, row, is_part, NeedsMemory, outcome_of};
 ghost use Rattle.psu_hislip.specs.Frame.{header_of};
 ghost use Rattle.psu_hislip.specs.Runs.{started};
 ghost use Rattle.psu_hislip.specs.Answer.{answer_size, IsAnswer, IsPart};
@@ -10,11 +11,13 @@ ghost use Rattle.psu_hislip.specs.declared.message_type.MessageType.TheVariants.
 
 use crate::answer::{answer_frames, answer_size, part_frames};
 use crate::faults::error;
-use crate::frames::{one, put, put_frame, reply};
+use crate::frames::{one, reply, send_with, two};
 use crate::transmission::Transmission;
 use crate::{
-    Action, DeviceClear, FatalCode, Header, LockResponse, Message, MessageType, Origin, Side,
+    Action, Actions, DeviceClear, FatalCode, Header, LockResponse, Message, MessageType, Origin,
+    Side,
 };
+use arrayvec::ArrayVec;
 use std::alloc::{AllocError, Allocator};
 use std::marker::Model;
 
@@ -64,32 +67,37 @@ fn is_delivered(header: Header) -> bool
 }
 
 // The action Delivered, where bit 0 of the control code is set.
-fn delivered<A: Allocator + Copy>(alloc: A, header: Header) -> Result<Vec<Action<A>, A>, AllocError>
-    ensures { IfOk result (λ actions. acts actions.items ≡ delivered header) }
+fn delivered<A: Allocator + Copy>(header: Header) -> Actions<A>
+    ensures { acts result.items ≡ delivered header }
 {
     if is_delivered(header) {
-        return one(alloc, Action::Delivered);
+        return one(Action::Delivered);
     }
-    Ok(Vec::new(alloc))
+    ArrayVec::new()
+}
+
+// The action Delivered, where bit 0 of the control code is set, and then another action.
+fn delivered_and<A: Allocator + Copy>(header: Header, last: Action<A>) -> Actions<A>
+    ensures { acts result.items ≡ delivered header ++ act last ∷ [] }
+{
+    if is_delivered(header) {
+        return two(Action::Delivered, last);
+    }
+    one(last)
 }
 
 // The action that an AsyncLock asks for.
-fn locked<A: Allocator + Copy>(
-    alloc: A,
-    header: Header,
-    string: &[u8],
-) -> Result<Action<A>, AllocError>
-    ensures { IfOk result (λ action. act action ≡ locked header string.now) }
+fn locked<A: Allocator + Copy>(header: Header, string: Vec<u8, A>) -> Action<A>
+    ensures { act result ≡ locked header string.items }
 {
     if header.control == 0 {
-        return Ok(Action::Release);
+        return Action::Release;
     }
     if string.len() > LOCK_STRING {
         let kind = MessageType::AsyncLockResponse;
-        return reply(alloc, Side::Async, kind, LockResponse::Error.code());
+        return reply(Side::Async, kind, LockResponse::Error.code());
     }
-    let string = Vec::from_slice(alloc, string)?;
-    Ok(Action::Lock(header.parameter, string))
+    Action::Lock(header.parameter, string)
 }
 
 impl<A: Allocator + Copy> SessionCore<A> {
@@ -199,101 +207,81 @@ impl<A: Allocator + Copy> SessionCore<A> {
         }
     }
 
-    fn data(&mut self, header: Header, payload: &[u8]) -> Result<Vec<Action<A>, A>, AllocError>
-        ensures done { IfOk result (λ actions. acts actions.items ≡ (row self.old Data header payload.now).actions) }
-        ensures core { OnOk result (self.new ≡ (row self.old Data header payload.now).core) }
+    fn data(&mut self, header: Header, payload: Vec<u8, A>) -> Result<Actions<A>, AllocError>
+        ensures done { IfOk result (λ actions. acts actions.items ≡ (row self.old Data header payload.items).actions) }
+        ensures core { OnOk result (self.new ≡ (row self.old Data header payload.items).core) }
         ensures refused { OnErr result (self.new ≡ self.old) }
+        ensures memory { OnErr result (HasBytes self.old.transmission) }
     {
-        let actions = delivered(self.alloc, header)?;
         self.transmission.add(payload)?;
         self.clear = DeviceClear::Idle;
-        Ok(actions)
+        Ok(delivered(header))
     }
 
-    fn data_end(&mut self, header: Header, payload: &[u8]) -> Result<Vec<Action<A>, A>, AllocError>
-        ensures done { IfOk result (λ actions. acts actions.items ≡ (row self.old DataEnd header payload.now).actions) }
-        ensures core { OnOk result (self.new ≡ (row self.old DataEnd header payload.now).core) }
+    fn data_end(&mut self, header: Header, payload: Vec<u8, A>) -> Result<Actions<A>, AllocError>
+        ensures done { IfOk result (λ actions. acts actions.items ≡ (row self.old DataEnd header payload.items).actions) }
+        ensures core { OnOk result (self.new ≡ (row self.old DataEnd header payload.items).core) }
         ensures refused { OnErr result (self.new ≡ self.old) }
+        ensures memory { OnErr result (HasBytes self.old.transmission) }
     {
-        let mut actions = delivered(self.alloc, header)?;
-        let last = self.transmission.executed(self.origin(header), payload)?;
-        put(&mut actions, last)?;
-        self.transmission.clear();
+        let origin = self.origin(header);
+        let last = self.transmission.end(origin, payload)?;
         self.clear = DeviceClear::Idle;
-        Ok(actions)
+        Ok(delivered_and(header, last))
     }
 
-    fn trigger(&mut self, header: Header) -> Result<Vec<Action<A>, A>, AllocError>
-        ensures done { IfOk result (λ actions. acts actions.items ≡ (triggered self.old header).actions) }
-        ensures core { OnOk result (self.new ≡ (triggered self.old header).core) }
-        ensures refused { OnErr result (self.new ≡ self.old) }
+    fn trigger(&mut self, header: Header) -> Actions<A>
+        ensures done { acts result.items ≡ (triggered self.old header).actions }
+        ensures core { self.new ≡ (triggered self.old header).core }
     {
-        let actions = one(self.alloc, Action::Trigger(self.origin(header)))?;
         self.clear = DeviceClear::Idle;
-        Ok(actions)
+        one(Action::Trigger(self.origin(header)))
     }
 
-    fn device_clear(&mut self) -> Result<Vec<Action<A>, A>, AllocError>
-        ensures done { IfOk result (λ actions. acts actions.items ≡ (cleared self.old).actions) }
-        ensures core { OnOk result (self.new ≡ (cleared self.old).core) }
-        ensures refused { OnErr result (self.new ≡ self.old) }
+    fn device_clear(&mut self) -> Actions<A>
+        ensures done { acts result.items ≡ (cleared self.old).actions }
+        ensures core { self.new ≡ (cleared self.old).core }
     {
-        let kind = MessageType::AsyncDeviceClearAcknowledge;
-        let mut actions = one(self.alloc, Action::Clear)?;
-        put(&mut actions, reply(self.alloc, Side::Async, kind, 0)?)?;
         self.transmission.clear();
         self.clear = match self.clear {
             DeviceClear::Early => DeviceClear::Idle,
             _ => DeviceClear::InProgress,
         };
         self.clears = self.clears.wrapping_add(1);
-        Ok(actions)
+        let kind = MessageType::AsyncDeviceClearAcknowledge;
+        two(Action::Clear, reply(Side::Async, kind, 0))
     }
 
-    fn complete_clear(&mut self) -> Result<Vec<Action<A>, A>, AllocError>
-        ensures done { IfOk result (λ actions. acts actions.items ≡ (completed self.old).actions) }
-        ensures core { OnOk result (self.new ≡ (completed self.old).core) }
-        ensures refused { OnErr result (self.new ≡ self.old) }
+    fn complete_clear(&mut self) -> Actions<A>
+        ensures done { acts result.items ≡ (completed self.old).actions }
+        ensures core { self.new ≡ (completed self.old).core }
     {
-        let kind = MessageType::DeviceClearAcknowledge;
-        let actions = one(self.alloc, reply(self.alloc, Side::Sync, kind, 0)?)?;
         self.clear = match self.clear {
             DeviceClear::InProgress => DeviceClear::Idle,
             _ => DeviceClear::Early,
         };
-        Ok(actions)
+        one(reply(Side::Sync, MessageType::DeviceClearAcknowledge, 0))
     }
 
-    fn message_size(&mut self, size: &[u8]) -> Result<Vec<Action<A>, A>, AllocError>
+    fn message_size(&mut self, size: &[u8]) -> Actions<A>
         requires { length size.now ≡ 8 }
-        ensures done { IfOk result (λ actions. acts actions.items ≡ (sized self.old size.now).actions) }
-        ensures core { OnOk result (self.new ≡ (sized self.old size.now).core) }
-        ensures refused { OnErr result (self.new ≡ self.old) }
+        ensures done { acts result.items ≡ (sized self.old size.now).actions }
+        ensures core { self.new ≡ (sized self.old size.now).core }
     {
-        let mut bytes = Vec::new(self.alloc);
-        put_frame(
-            &mut bytes,
-            MessageType::AsyncMaximumMessageSizeResponse,
-            0,
-            &SIZE,
-        )?;
-        let actions = one(self.alloc, Action::Send(Side::Async, bytes))?;
         let size = u64::from_be_bytes([
             size[0], size[1], size[2], size[3], size[4], size[5], size[6], size[7],
         ]);
         self.size = Some(size);
-        Ok(actions)
+        let kind = MessageType::AsyncMaximumMessageSizeResponse;
+        one(send_with(Side::Async, kind, &SIZE))
     }
 
-    fn join(&mut self) -> Result<Vec<Action<A>, A>, AllocError>
-        ensures done { IfOk result (λ actions. acts actions.items ≡ (joining self.old).actions) }
-        ensures core { OnOk result (self.new ≡ (joining self.old).core) }
-        ensures refused { OnErr result (self.new ≡ self.old) }
+    fn join(&mut self) -> Actions<A>
+        ensures done { acts result.items ≡ (joining self.old).actions }
+        ensures core { self.new ≡ (joining self.old).core }
     {
-        let kind = MessageType::AsyncInitializeResponse;
-        let actions = one(self.alloc, reply(self.alloc, Side::Async, kind, 0)?)?;
         self.joined = true;
-        Ok(actions)
+        one(reply(Side::Async, MessageType::AsyncInitializeResponse, 0))
     }
 
     // Processes a message without fault, by its type, and returns its actions.
@@ -301,29 +289,30 @@ impl<A: Allocator + Copy> SessionCore<A> {
         &mut self,
         kind: MessageType,
         header: Header,
-        payload: &[u8],
-    ) -> Result<Vec<Action<A>, A>, AllocError>
-        requires { ill_formed kind header payload.now ≡ None }
-        ensures done { IfOk result (λ actions. acts actions.items ≡ (row self.old kind header payload.now).actions) }
-        ensures core { OnOk result (self.new ≡ (row self.old kind header payload.now).core) }
+        payload: Vec<u8, A>,
+    ) -> Result<Actions<A>, AllocError>
+        requires { ill_formed kind header payload.items ≡ None }
+        ensures done { IfOk result (λ actions. acts actions.items ≡ (row self.old kind header payload.items).actions) }
+        ensures core { OnOk result (self.new ≡ (row self.old kind header payload.items).core) }
         ensures refused { OnErr result (self.new ≡ self.old) }
+        ensures memory { OnErr result ((is_part (Some kind) ≡ true) × HasBytes self.old.transmission) }
     {
         match kind {
-            MessageType::AsyncInitialize => self.join(),
+            MessageType::AsyncInitialize => Ok(self.join()),
             MessageType::Data => self.data(header, payload),
             MessageType::DataEnd => self.data_end(header, payload),
-            MessageType::Trigger => self.trigger(header),
-            MessageType::DeviceClearComplete => self.complete_clear(),
-            MessageType::AsyncDeviceClear => self.device_clear(),
-            MessageType::AsyncLock => one(self.alloc, locked(self.alloc, header, payload)?),
-            MessageType::AsyncLockInfo => one(self.alloc, Action::Info),
+            MessageType::Trigger => Ok(self.trigger(header)),
+            MessageType::DeviceClearComplete => Ok(self.complete_clear()),
+            MessageType::AsyncDeviceClear => Ok(self.device_clear()),
+            MessageType::AsyncLock => Ok(one(locked(header, payload))),
+            MessageType::AsyncLockInfo => Ok(one(Action::Info)),
             MessageType::AsyncRemoteLocalControl => {
                 let kind = MessageType::AsyncRemoteLocalResponse;
-                one(self.alloc, reply(self.alloc, Side::Async, kind, 0)?)
+                Ok(one(reply(Side::Async, kind, 0)))
             }
-            MessageType::AsyncMaximumMessageSize => self.message_size(payload),
-            MessageType::AsyncStatusQuery => one(self.alloc, Action::Status(is_delivered(header))),
-            _ => Ok(Vec::new(self.alloc)),
+            MessageType::AsyncMaximumMessageSize => Ok(self.message_size(&payload)),
+            MessageType::AsyncStatusQuery => Ok(one(Action::Status(is_delivered(header)))),
+            _ => Ok(ArrayVec::new()),
         }
     }
 
@@ -333,36 +322,37 @@ impl<A: Allocator + Copy> SessionCore<A> {
     ///
     /// The actions of the messages of both channels are performed in the order of these calls, and the bytes for the
     /// synchronous channel are sent in the order in which this call, `part` and `answer` returned them. After a fatal
-    /// error each message returns the one action Closed. Where allocation fails, nothing has changed and the message
-    /// can be passed again.
-    pub fn on(&mut self, side: Side, message: &Message<A>) -> Result<Vec<Action<A>, A>, AllocError>
-        ensures done { IfOk result (λ actions. acts actions.items ≡ (outcome_of self.old side (received message.now)).actions) }
-        ensures core { OnOk result (self.new ≡ (outcome_of self.old side (received message.now)).core) }
+    /// error each message returns the one action Closed.
+    ///
+    /// The payload is moved into the action or into the transmission. Only a Data or a DataEnd whose transmission has
+    /// bytes already is copied to them and needs memory. Where allocation fails, nothing has changed and an equal
+    /// message can be passed.
+    pub fn on(&mut self, side: Side, message: Message<A>) -> Result<Actions<A>, AllocError>
+        ensures done { IfOk result (λ actions. acts actions.items ≡ (outcome_of self.old side (received message)).actions) }
+        ensures core { OnOk result (self.new ≡ (outcome_of self.old side (received message)).core) }
         ensures refused { OnErr result (self.new ≡ self.old) }
+        ensures memory { OnErr result (NeedsMemory self.old (received message)) }
     {
         if self.failed {
-            return one(self.alloc, Action::Closed);
+            return Ok(one(Action::Closed));
         }
-        if let Some(code) = self.fatal(side, message) {
-            let kind = MessageType::FatalError;
-            let mut actions = one(self.alloc, reply(self.alloc, side, kind, code.code())?)?;
-            put(&mut actions, Action::Closed)?;
+        if let Some(code) = self.fatal(side, &message) {
             self.failed = true;
-            return Ok(actions);
+            let fault = reply(side, MessageType::FatalError, code.code());
+            return Ok(two(fault, Action::Closed));
         }
-        if self.discards(side, message) {
-            return Ok(Vec::new(self.alloc));
+        if self.discards(side, &message) {
+            return Ok(ArrayVec::new());
         }
-        if let Some(code) = error(side, message) {
-            let kind = MessageType::Error;
-            return one(self.alloc, reply(self.alloc, side, kind, code.code())?);
+        if let Some(code) = error(side, &message) {
+            return Ok(one(reply(side, MessageType::Error, code.code())));
         }
         let Message::Frame(header, payload) = message else {
-            return Ok(Vec::new(self.alloc));
+            return Ok(ArrayVec::new());
         };
         match header.message_type() {
-            Some(kind) => self.row(kind, *header, payload),
-            None => Ok(Vec::new(self.alloc)),
+            Some(kind) => self.row(kind, header, payload),
+            None => Ok(ArrayVec::new()),
         }
     }
 

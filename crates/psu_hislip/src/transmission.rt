@@ -1,11 +1,12 @@
 // A transmission: the payloads up to a DataEnd.
 ghost use Rattle.std.specs.Prelude.{◌≡◌, Some, [], IfOk, OnOk, OnErr};
 ghost use Rattle.psu_hislip.specs.Action.{act};
-ghost use Rattle.psu_hislip.specs.Transmission.{added, executed};
+ghost use Rattle.psu_hislip.specs.Transmission.{added, executed, HasBytes};
 
 use crate::{Action, Origin};
 use std::alloc::{AllocError, Allocator};
 use std::marker::Model;
+use std::mem;
 
 /// The maximum size of a transmission, in bytes.
 const MOST: usize = 65_536;
@@ -40,30 +41,47 @@ impl<A: Allocator + Copy> Transmission<A> {
         }
     }
 
-    /// Appends the payload of a Data. Where allocation fails, nothing has changed.
-    pub fn add(&mut self, payload: &[u8]) -> Result<(), AllocError>
-        ensures ok { OnOk result (self.new ≡ added self.old payload.now) }
+    /// Appends the payload of a Data. The first bytes are moved in; for more of them allocation may fail, and then
+    /// nothing has changed.
+    pub fn add(&mut self, payload: Vec<u8, A>) -> Result<(), AllocError>
+        ensures ok { OnOk result (self.new ≡ added self.old payload.items) }
         ensures err { OnErr result (self.new ≡ self.old) }
+        ensures memory { OnErr result (HasBytes self.old) }
     {
         if self.is_too_long || payload.len() > MOST - self.bytes.len() {
             self.bytes = Vec::new(self.alloc);
             self.is_too_long = true;
             return Ok(());
         }
-        self.bytes.extend_from_slice(payload)
+        if self.bytes.is_empty() {
+            self.bytes = payload;
+            return Ok(());
+        }
+        self.bytes.extend_from_slice(&payload)
     }
 
-    /// Returns the action of the transmission whose DataEnd has this payload.
-    pub fn executed(&self, origin: Origin, payload: &[u8]) -> Result<Action<A>, AllocError>
-        ensures { IfOk result (λ action. act action ≡ executed origin (added self.now payload.now)) }
+    /// Appends the payload of a DataEnd, returns the action of the whole transmission and begins the next one, which is
+    /// empty. Where allocation fails, nothing has changed.
+    pub fn end(&mut self, origin: Origin, payload: Vec<u8, A>) -> Result<Action<A>, AllocError>
+        ensures done { IfOk result (λ action. act action ≡ executed origin (added self.old payload.items)) }
+        ensures next { OnOk result (self.new ≡ Some []) }
+        ensures err { OnErr result (self.new ≡ self.old) }
+        ensures memory { OnErr result (HasBytes self.old) }
     {
-        if self.is_too_long || payload.len() > MOST - self.bytes.len() {
-            return Ok(Action::TooMuch(origin));
+        self.add(payload)?;
+        Ok(self.take(origin))
+    }
+
+    // Returns the action of a transmission that is whole, and begins the next one.
+    fn take(&mut self, origin: Origin) -> Action<A>
+        ensures done { act result ≡ executed origin self.old }
+        ensures next { self.new ≡ Some [] }
+    {
+        if self.is_too_long {
+            self.clear();
+            return Action::TooMuch(origin);
         }
-        let mut bytes = Vec::with_capacity(self.alloc, self.bytes.len() + payload.len())?;
-        bytes.extend_from_slice(&self.bytes)?;
-        bytes.extend_from_slice(payload)?;
-        Ok(Action::Execute(origin, bytes))
+        Action::Execute(origin, mem::replace(&mut self.bytes, Vec::new(self.alloc)))
     }
 
     /// Begins the next transmission, which is empty.

@@ -1,5 +1,5 @@
 -- The legal executions of a transmission: its effects, and the progress that they lead to.
-use Rattle.std.specs.Prelude.{◌≡◌, ◌⊎◌, ℕ, ◌<◌, Bool, true, false, Option, Some, None, is_some, List, [], ◌∷◌, ◌++◌, length, if◌then◌else◌}
+use Rattle.std.specs.Prelude.{◌≡◌, ◌⊎◌, ℕ, ◌<◌, Bool, true, false, Option, Some, None, is_some, List, [], ◌∷◌, ◌++◌, length}
 use Rattle.psu_tree.specs.declared.unit_request.Request.{Request}
 use Rattle.psu_lex.specs.Message.{Part}
 use Rattle.psu_exec.specs.Device.{Reply, Done, Answer, Error, Expand, Parked, Held, Later}

@@ -1,12 +1,10 @@
 // The execution of a transmission, unit by unit, with a response message for each message that has responses.
 ghost use Rattle.std.specs.Prelude.{◌≡◌, ◌+◌, ◌<◌, ◌^◌, true, false, None, IfOk, IfErr, IfSome, OnOk, OnErr};
-ghost use Rattle.psu_lex.specs.Message.{part};
-ghost use Rattle.psu_tree.specs.declared.unit_request.Request.{Request as RequestData};
 ghost use Rattle.psu_messages.specs.Effects.{IsAwaited};
 ghost use Rattle.psu_messages.specs.Executions.{Advances, IsInterrupted, IsNext, IsOver, NextUnit, StopsAt};
 ghost use Rattle.psu_messages.specs.Shown.{progress_of};
 ghost use Rattle.psu_messages.specs.Stepping.{plain, within};
-ghost use Rattle.psu_messages.specs.Units.{Asks, EndsMessage, Fault, IsRequest, Source, Text, path_at, source_of};
+ghost use Rattle.psu_messages.specs.Units.{Asks, EndsMessage, Fault, Source, Text, source_of};
 
 use crate::expansions::{expand, place_of};
 use crate::reading::{pass_over, request_at};
@@ -15,7 +13,7 @@ use crate::responses::{add_response, close};
 use crate::tries::{Tried, attempt};
 use crate::{Executor, Expansion, Input, Need, Progress};
 use psu_exec::{Outcome, Request, ScpiError};
-use psu_lex::{Bytes, Unit};
+use psu_lex::Bytes;
 use psu_tree::Path;
 use std::alloc::Allocator;
 
@@ -166,28 +164,6 @@ fn take_turn<A: Allocator + Copy, F: Executor<A>>(
     Ok(need)
 }
 
-// Reads the next unit at the path, and executes it.
-fn take_unit<'a, A: Allocator + Copy, F: Executor<A>>(
-    executor: &mut F,
-    alloc: A,
-    path: &mut Path<'a>,
-    unit: &Unit<'a>,
-    progress: &mut Progress<A>,
-) -> Result<Option<Need>, F::Stop>
-    requires { progress.old.units + 1 < 2 ^ 64 }
-    ensures advances { IfOk result (λ _. (request : RequestData) × IsRequest false (path_at path.old (part unit.now)) (part unit.now) request path.new
-        × ((source : Source) → Asks source progress.old.units request unit.now.first → Advances F.does source executor.old (progress_of progress.old) executor.new (progress_of progress.new))) }
-    ensures units { IfOk result (λ need. need ≡ None → progress.new.units ≡ progress.old.units + 1) }
-    ensures waits { IfOk result (λ some. IfSome some (IsAwaited F.does F.yields executor.new)) }
-    ensures stops { IfErr result (λ stop. (request : RequestData) × IsRequest false (path_at path.old (part unit.now)) (part unit.now) request path.new
-        × ((source : Source) → Asks source progress.old.units request unit.now.first
-        → StopsAt F.does F.fails F.stops source executor.old (progress_of progress.old) stop executor.new progress.new.gathered)) }
-{
-    let request = request_at(path, unit, false);
-    let need = take_turn(executor, alloc, unit.first, &request, progress)?;
-    Ok(need)
-}
-
 /// Executes the rest of a text, up to a unit that has to wait or before which the executor yields. Returns what is
 /// waited for, or none if the transmission is over. Another call continues the transmission, here or elsewhere. If the
 /// executor stops, it stops for good; responses that are not sent are still in the response buffer, except the response
@@ -216,7 +192,8 @@ pub fn execute_text<A: Allocator + Copy, F: Executor<A>>(
         if !executor.may_continue() {
             return Ok(Some(Need::Turn));
         }
-        let turn = take_unit(executor, alloc, &mut path, unit, progress)?;
+        let request = request_at(&mut path, unit, false);
+        let turn = take_turn(executor, alloc, unit.first, &request, progress)?;
         if let Some(need) = turn {
             return Ok(Some(need));
         }

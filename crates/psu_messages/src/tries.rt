@@ -1,7 +1,7 @@
 // One try of a unit.
 ghost use Rattle.std.specs.Prelude.{◌≡◌, IfOk, IfErr};
 ghost use Rattle.psu_exec.specs.Shown.{outcome_of};
-ghost use Rattle.psu_messages.specs.Effects.{Effect, IsTry, needs};
+ghost use Rattle.psu_messages.specs.Effects.{needs};
 ghost use Rattle.psu_messages.specs.Shown.{IsTried};
 ghost use Rattle.psu_messages.specs.Stepping.{IsBrokenOff};
 
@@ -31,23 +31,6 @@ fn need_of<A: Allocator + Copy>(outcome: &Outcome<A>) -> Option<Need>
     }
 }
 
-// Executes a unit, or settles one that was accepted.
-#[inline(always)]
-fn once<A: Allocator + Copy, F: Executor<A>>(
-    executor: &mut F,
-    parked: bool,
-    request: &Request<'_>,
-) -> Result<Outcome<A>, F::Stop>
-    ensures done { IfOk result (λ o. (effect : Effect) × F.does executor.old effect executor.new × IsTry parked request.now effect (outcome_of o)) }
-    ensures stopped { IfErr result (λ stop. IsBrokenOff F.fails F.stops executor.old parked request.now stop executor.new) }
-{
-    if parked {
-        executor.settle()
-    } else {
-        executor.execute(request)
-    }
-}
-
 /// Tries a unit once, whether it was accepted before or not.
 #[inline(always)]
 pub(crate) fn attempt<A: Allocator + Copy, F: Executor<A>>(
@@ -58,7 +41,11 @@ pub(crate) fn attempt<A: Allocator + Copy, F: Executor<A>>(
     ensures tried { IfOk result (IsTried F.does executor.old parked.old request.now executor.new parked.new) }
     ensures stopped { IfErr result (λ stop. IsBrokenOff F.fails F.stops executor.old parked.old request.now stop executor.new) }
 {
-    let outcome = once(executor, *parked, request)?;
+    let outcome = if *parked {
+        executor.settle()?
+    } else {
+        executor.execute(request)?
+    };
     match need_of(&outcome) {
         Some(Need::Flush) => {
             *parked = true;

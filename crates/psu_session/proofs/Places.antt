@@ -98,8 +98,8 @@ still_before (suc number) (ReleaseLock ∷ works) more h = still_before number w
 
 -- ---- the queue
 
--- Each release of a queue, the first of which has this number, is after the transmissions that were requested before it.
--- These transmissions are ahead of the queue.
+-- Each release of a queue, the first of which has this number, is after the transmissions that were requested before
+-- it. These transmissions are ahead of the queue.
 abbrev pub ArePlaced : ℕ → List Order → List Work → List Work → Type 0
 ArePlaced number ahead [] works = Unit {0}
 ArePlaced number ahead (Execute order ∷ queue) works = ArePlaced number (ahead ++ order ∷ []) queue works

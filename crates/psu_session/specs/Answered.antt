@@ -33,8 +33,8 @@ pub data AreMessagesAnswered (greatest id : ℕ) (source : Source) : ℕ → Lis
   NoMessage : AreMessagesAnswered greatest id source 0 []
   OneMore : {from : ℕ} {done : List Done} → AreMessagesAnswered greatest id source from done → (to : ℕ) (message : List Done) → IsMessage source from to (effects message) → IsMessageAnswered greatest id message → AreMessagesAnswered greatest id source to (done ++ message)
 
--- of a transmission in execution: its first messages are answered, and a prefix of the response that the next one has so
--- far is sent as Data
+-- of a transmission in execution: its first messages are answered, and a prefix of the response that the next one has
+-- so far is sent as Data
 pub record IsAnsweredSoFar (greatest id : ℕ) (source : Source) (done : List Done) : Type 0 where
   pub units : ℕ
   pub whole : List Done
@@ -46,7 +46,8 @@ pub record IsAnsweredSoFar (greatest id : ℕ) (source : Source) (done : List Do
   pub answered : joined (answers (effects begun)) ≡ sent ++ rest
   pub parts : IsPart greatest id sent (frames begun)
 
--- A transmission that is over is answered, message by message, under its MessageID; of another, a prefix of this is sent.
+-- A transmission that is over is answered, message by message, under its MessageID; of another, a prefix of this is
+-- sent.
 pub record IsAnswered (greatest : ℕ) (turn : Turn) : Type 0 where
   pub whole : IsOver turn.order.source turn.progress → AreMessagesAnswered greatest turn.order.origin.id turn.order.source turn.progress.standing.units turn.done
   pub so_far : IsAnsweredSoFar greatest turn.order.origin.id turn.order.source turn.done
@@ -102,8 +103,8 @@ text_in (Text bytes) = Some bytes ∷ []
 text_in (Fault TooMuchData) = None ∷ []
 text_in (Fault error) = []
 
--- In a session whose messages come in their order, the transmissions that are executed are those that the client sent, in
--- order and once each; one that a device clear cut off is none of them.
+-- In a session whose messages come in their order, the transmissions that are executed are those that the client sent,
+-- in order and once each; one that a device clear cut off is none of them.
 abbrev pub TransmissionsAreTheClients : Type 0
 TransmissionsAreTheClients = (session : ℕ) (sync async : List ℕ) (history : List ExchangeEvent) (turns : List Turn) → IsExchange session sync async history turns
     → (stretches : List Stretch) (last : List Arrival) (whole : List Transmission) (rest : List (List ℕ)) → came history ≡ flat_map run_of stretches ++ last → All IsStretch stretches

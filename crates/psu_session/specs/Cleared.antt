@@ -1,5 +1,6 @@
--- Device clears, over whole histories. Source: IVI-6.1 (the client discards what it receives on the synchronous connection
--- before DeviceClearAcknowledge, so this is sent after every response to what was received before the clear).
+-- Device clears, over whole histories. Source: IVI-6.1 (the client discards what it receives on the synchronous
+-- connection before DeviceClearAcknowledge, so this is sent after every response to what was received before the
+-- clear).
 use Rattle.std.specs.Prelude.{◌≡◌, ℕ, ◌^◌, ◌<◌, true, All, List, [], ◌∷◌, ◌++◌, flat_map, length}
 use Rattle.psu_hislip.specs.Channel.{Fed}
 use Rattle.psu_hislip.specs.Runs.{begins_clear, origins}

@@ -47,7 +47,8 @@ call_of (messages.Sent text last) = Sent
 pub data Event : Type 0 where
   -- the next bytes of a channel's stream are received
   BytesReceived : Side → List ℕ → Event
-  -- a lock request that waited has this result, and its response is appended to the output of the asynchronous connection
+  -- a lock request that waited has this result, and its response is appended to the output of the asynchronous
+  -- connection
   LockGranted : Grant → Event
   -- a service request is fetched from the device, and appended there if there is one
   ServiceRequested : Option ℕ → Event
@@ -57,10 +58,11 @@ pub data Event : Type 0 where
   Came : Side → Received → Event
   -- a call of the device for a message, immediately
   DeviceCalled : Call → Event
-  -- frames are appended to the output of a connection for a message, immediately: a reply of the core, or the response to
-  -- a call of the device
+  -- frames are appended to the output of a connection for a message, immediately: a reply of the core, or the response
+  -- to a call of the device
   Put : Side → List ℕ → Event
-  -- an effect of the transmission of an origin, with the frames that it appends to the output of the synchronous connection
+  -- an effect of the transmission of an origin, with the frames that it appends to the output of the synchronous
+  -- connection
   Did : Origin → Effect → List ℕ → Event
   -- bytes are taken from the output of a connection, to be written next; and they are written
   Took : Side → List ℕ → Event

@@ -79,8 +79,8 @@ EachEnds session history (turn ∷ next ∷ later) = HasEnded session history tu
 
 -- ---- what is sent
 
--- the frames of an effect: those of a piece of a response under the MessageID of its transmission, and none for any other
--- effect
+-- the frames of an effect: those of a piece of a response under the MessageID of its transmission, and none for any
+-- other effect
 abbrev pub IsFramed : ℕ → ℕ → Effect → List ℕ → Type 0
 IsFramed size id (Executed request reply) frames = frames ≡ []
 IsFramed size id (Settled reply) frames = frames ≡ []

@@ -10,8 +10,8 @@ use Rattle.psu_session.specs.Events.{Event, bytes_received, exchange_history, pu
 use Rattle.psu_session.specs.Step.{IsOpening, IsHistory, Steps}
 use Rattle.psu_session.specs.State.{Start, State, orders_in, output}
 
--- The history is an exchange of the session's two streams of bytes, the first of which begins with the bytes that opened
--- the session; and it determines the state.
+-- The history is an exchange of the session's two streams of bytes, the first of which begins with the bytes that
+-- opened the session; and it determines the state.
 pub record IsExchangeHistory (start : Start) (history : List Event) (s : State) : Type 0 where
   pub turns : List Turn
   pub exchange : (opening : List ℕ) (first : Received) → Fed start.sync opening (first ∷ []) → Fed start.async [] [] → IsExchange start.session (opening ++ bytes_received Sync history) (bytes_received Async history) (exchange_history history) turns

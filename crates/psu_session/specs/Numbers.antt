@@ -5,7 +5,6 @@ use Rattle.std.specs.List.{list_any}
 use Rattle.psu_hislip.specs.Action.{Act}
 use Rattle.psu_hislip.specs.MessageType.{type_of}
 use Rattle.psu_hislip.specs.Stream.{Received, Frame, Oversize, BadHeader}
-use Rattle.psu_hislip.specs.declared.header.Header.{Header}
 use Rattle.psu_hislip.specs.declared.message_type.MessageType.{MessageType}
 use Rattle.psu_hislip.specs.declared.message_type.MessageType.TheVariants.{Data, DataEnd, Trigger, DeviceClearComplete}
 use Rattle.psu_hislip.specs.declared.side.Side.{Side}
@@ -35,8 +34,8 @@ parameter (Frame header payload) = header.parameter
 parameter (Oversize header) = header.parameter
 parameter BadHeader = 0
 
--- a message is still to be received where its number is one of the next 65,536 after the last that was received; numbers
--- are modulo 2^32
+-- a message is still to be received where its number is one of the next 65,536 after the last that was received;
+-- numbers are modulo 2^32
 abbrev pub is_ahead : ℕ → ℕ → Bool
 is_ahead last number = nat_le 1 steps && nat_le steps 65536 where
   steps : ℕ

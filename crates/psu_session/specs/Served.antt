@@ -20,8 +20,8 @@ pub record IsServed (start : Start) (opening : List ℕ) (history : List Event) 
   pub turns : List Turn
   -- the messages that the core received are those of the bytes of the two connections
   pub streams : AreTheStreams (opening ++ bytes_received Sync history) (bytes_received Async history) (exchange_history history)
-  -- where the messages come in their order, the transmissions that are executed are those that the client sent, in order
-  -- and once each, and none that a device clear cut off
+  -- where the messages come in their order, the transmissions that are executed are those that the client sent, in
+  -- order and once each, and none that a device clear cut off
   pub transmissions : (stretches : List Stretch) (last : List Arrival) (whole : List Transmission) (rest : List (List ℕ)) → came (exchange_history history) ≡ flat_map run_of stretches ++ last → All IsStretch stretches
       → list_any begins_clear last ≡ false → flat_map piece_in last ≡ flat_map pieces_of whole ++ map More rest → s.core.failed ≡ false
       → (waiting : List (Option (List ℕ))) × (map text_kept (flat_map (λ (stretch : Stretch). stretch.whole) stretches ++ whole) ≡ flat_map (λ turn. text_in turn.order.source) turns ++ waiting)

@@ -42,8 +42,8 @@ owed_with (release ∷ releases) owed = owed_with releases (owed + cost 0)
 -- The frame readers of the two channels; the core of the protocol; the queue of what was received and has not begun, in
 -- the order of arrival; the releases that wait for a message, and the number of the message that was received last; the
 -- transmission in execution; whether a lock request waits for its result; the bytes that are to be sent on each
--- connection; whether a thread writes bytes there that were taken before; and how much the transmissions that are queued
--- or in execution count as, and the releases that are queued or wait.
+-- connection; whether a thread writes bytes there that were taken before; and how much the transmissions that are
+-- queued or in execution count as, and the releases that are queued or wait.
 pub record State : Type 0 where
   pub sync_channel : Awaited
   pub async_channel : Awaited

@@ -1,6 +1,6 @@
--- The steps of a session from one state to another, with the events of each. Source: IVI-6.1 (what a message requests is
--- done; a response has the MessageID of its transmission, and a device clear discards it) and IEEE 488.2, 6 (messages are
--- executed in the order of their arrival).
+-- The steps of a session from one state to another, with the events of each. Source: IVI-6.1 (what a message requests
+-- is done; a response has the MessageID of its transmission, and a device clear discards it) and IEEE 488.2, 6
+-- (messages are executed in the order of their arrival).
 use Rattle.std.specs.Prelude.{◌≡◌, ◌⊎◌, ℕ, ◌-◌, Bool, true, false, Option, Some, None, Result, Ok, List, [], ◌∷◌, ◌++◌, map, flat_map}
 use Rattle.psu_locks.specs.declared.freed.Freed.{Freed}
 use Rattle.psu_locks.specs.declared.grant.Grant.{Grant}
@@ -86,8 +86,8 @@ abbrev pub release_in : ℕ → ℕ → Act → List Release
 release_in now number Act.Release = record { number = number; requested_at = now } ∷ []
 release_in now number act = []
 
--- The transmissions of a message are queued after what was received before, and after them the releases that have waited
--- for this message; at a device clear all releases are queued.
+-- The transmissions of a message are queued after what was received before, and after them the releases that have
+-- waited for this message; at a device clear all releases are queued.
 abbrev pub arrived : ℕ → Side → Received → List Act → State → List Event → State
 arrived now side message acts s immediate =
     settled (clears acts) now (numbered (added s (flat_map works_in acts) (flat_map (release_in now (parameter message)) acts) immediate) (number_on side message))
@@ -174,8 +174,8 @@ pub record IsLockReleased (s : State) (done : List Event) (t : State) : Type 0 w
   pub are : done ≡ LockReleased reply ∷ []
   pub then : t ≡ added (with_owed (with_work s later None) (s.owed - cost 0)) [] [] done
 
--- Effects advance the transmission in execution. Nothing has ended it, and its responses are framed for the message size
--- that the client accepts.
+-- Effects advance the transmission in execution. Nothing has ended it, and its responses are framed for the message
+-- size that the client accepts.
 pub record IsWorked (s : State) (done : List Event) (t : State) : Type 0 where
   pub order : Order
   pub progress : Progress

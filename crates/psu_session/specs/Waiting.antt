@@ -1,5 +1,5 @@
--- Lock requests that wait, over whole histories. Source: IVI-6.1 (a lock request has one response, once the lock is granted
--- or the timeout is over).
+-- Lock requests that wait, over whole histories. Source: IVI-6.1 (a lock request has one response, once the lock is
+-- granted or the timeout is over).
 use Rattle.std.specs.Prelude.{◌≡◌, ℕ, true, false, Result, List, ◌∷◌, ◌++◌}
 use Rattle.psu_locks.specs.declared.grant.Grant.{Grant}
 use Rattle.psu_locks.specs.declared.kind.Kind.{Kind}

@@ -53,6 +53,7 @@ impl Parts {
     }
 
     // Queues a transmission.
+    #[inline(always)]
     fn order(&mut self, origin: Origin, input: Input<Global>) -> Result<(), Ended>
         ensures { OnOk result (state_of self.new ≡ added (state_of self.old) (Execute (order_of (record { origin = origin; input = input })) ∷ []) [] []) }
     {
@@ -106,8 +107,8 @@ impl Parts {
         }
     }
 
-    // Requests the lock of a string. A string that no lock has is refused, and so is a request while another one waits: its
-    // result could else be taken for that of the first.
+    // Requests the lock of a string. A string that no lock has is refused, and so is a request while another one waits:
+    // its result could else be taken for that of the first.
     fn answer_lock<D: Device>(
         &mut self,
         device: &mut D,
@@ -134,6 +135,7 @@ impl Parts {
     }
 
     /// Does what an action of a message requests, or queues it.
+    #[inline(always)]
     pub(crate) fn act<D: Device>(
         &mut self,
         device: &mut D,

@@ -82,6 +82,7 @@ impl<'a, 'b, 'c, D: Device> Executor<Global> for Execution<'a, 'b, 'c, D> {
 
 impl<'a, 'b, 'c, D: Device> Execution<'a, 'b, 'c, D> {
     // Continues until a unit has to wait or others are let in.
+    #[inline(always)]
     fn advance(
         &mut self,
         alloc: Global,
@@ -101,6 +102,7 @@ impl<'a, 'b, 'c, D: Device> Execution<'a, 'b, 'c, D> {
 }
 
 /// Continues a transmission, which nothing has ended, until a unit has to wait or others are let in.
+#[inline(always)]
 pub(crate) fn advance<D: Device>(
     alloc: Global,
     core: &SessionCore<Global>,

@@ -13,6 +13,7 @@ use std::alloc::Global;
 
 impl Parts {
     // Returns the messages that these next bytes of a channel's stream complete.
+    #[inline(always)]
     fn feed(&mut self, side: Side, received_bytes: &[u8]) -> Result<Vec<Message<Global>>, Ended>
         ensures { IfOk result (λ messages. IsFed side received_bytes.now (map received messages.items) (state_of self.old) (state_of self.new)) }
     {
@@ -33,12 +34,13 @@ impl Parts {
         &mut self,
         now: u64,
         side: Side,
-        messages: &[Message<Global>],
+        messages: Vec<Message<Global>>,
         device: &mut D,
     ) -> Result<(), Ended>
-        ensures { OnOk result (PerformsStep D.does (EachReceived now side (map received messages.now)) (state_of self.old) device.old (state_of self.new) device.new) }
+        ensures { OnOk result (PerformsStep D.does (EachReceived now side (map received messages.items)) (state_of self.old) device.old (state_of self.new) device.new) }
     {
-        for message in messages {
+        let mut rest = messages.into_iter();
+        while let Some(message) = rest.next() {
             self.receive_message(now, side, message, device)?;
         }
         Ok(())
@@ -56,6 +58,6 @@ impl Parts {
         ensures { OnOk result (PerformsStep D.does (IsReceived now side received_bytes.now) (state_of self.old) device.old (state_of self.new) device.new) }
     {
         let messages = self.feed(side, received_bytes)?;
-        self.receive_messages(now, side, messages.as_slice(), device)
+        self.receive_messages(now, side, messages, device)
     }
 }

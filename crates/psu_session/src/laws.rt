@@ -21,8 +21,8 @@ pub fn histories_extend()
 {}
 
 /// A session from the bytes that are received to those that are sent: its messages are those of the bytes, in one way;
-/// each transmission that is over is answered whole under its MessageID, message by message; and nothing else is sent on
-/// the synchronous connection but the core's replies.
+/// each transmission that is over is answered whole under its MessageID, message by message; and nothing else is sent
+/// on the synchronous connection but the core's replies.
 pub fn each_session_is_served()
     ensures { EachSessionIsServed }
 {
@@ -30,21 +30,21 @@ pub fn each_session_is_served()
     from_bytes_to_bytes();
 }
 
-/// What is done immediately for messages is what they request, each request once and in order (IVI-6.1): a status query, a
-/// lock request and a lock info query are answered by the reply of the device to that very call.
+/// What is done immediately for messages is what they request, each request once and in order (IVI-6.1): a status
+/// query, a lock request and a lock info query are answered by the reply of the device to that very call.
 pub fn each_request_is_served()
     ensures { EachRequestIsServed }
 {}
 
-/// Each release of a lock that messages request is done once, is in the queue, or waits for the message that it names. It is
-/// done after the transmissions that were received before its request have ended.
+/// Each release of a lock that messages request is done once, is in the queue, or waits for the message that it names.
+/// It is done after the transmissions that were received before its request have ended.
 pub fn each_release_is_done()
     ensures done { EachReleaseIsDone }
     ensures in_place { EachReleaseIsInPlace }
 {}
 
-/// A lock request that waits is answered once: its result is passed on only while it waits, and then it waits no longer.
-/// At most one request waits at a time, since the device is asked for no other one meanwhile.
+/// A lock request that waits is answered once: its result is passed on only while it waits, and then it waits no
+/// longer. At most one request waits at a time, since the device is asked for no other one meanwhile.
 pub fn each_wait_is_answered()
     ensures known { TheWaitIsKnown }
     ensures once { EachWaitIsAnsweredOnce }

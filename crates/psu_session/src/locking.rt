@@ -4,8 +4,8 @@ ghost use Rattle.psu_session.specs.Locking.{kind_of};
 
 use psu_locks::{Kind, LockString};
 
-/// Returns the lock that a string requests: the exclusive lock where it is empty, else the lock that is shared under it.
-/// `None` where the string has more than 256 bytes.
+/// Returns the lock that a string requests: the exclusive lock where it is empty, else the lock that is shared under
+/// it. `None` where the string has more than 256 bytes.
 pub(crate) fn lock_kind(string: &[u8]) -> Option<Kind>
     ensures { result ≡ kind_of string.now }
 {

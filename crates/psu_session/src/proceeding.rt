@@ -14,6 +14,7 @@ use std::mem;
 
 impl Parts {
     // Takes the transmission in execution, or else the first item of the queue.
+    #[inline(always)]
     fn next(&mut self) -> Option<Next>
         ensures some { IfSome result (λ next. IsNextWork (state_of self.old) next (state_of self.new)) }
         ensures none { IsNone result → (state_of self.new ≡ state_of self.old) × ((state_of self.old).running ≡ None) × ((state_of self.old).waiting ≡ []) }
@@ -43,6 +44,7 @@ impl Parts {
     }
 
     // Continues a transmission that was taken.
+    #[inline(always)]
     fn execute<D: Device>(&mut self, device: &mut D, running: Running) -> Result<Proceeded, Ended>
         ensures waits { IfOk result (λ proceeded. Awaits D.does proceeded device.new) }
         ensures done { IfOk result (λ proceeded. (s : State) → IsNext s (one_running running) (state_of self.old) → PerformsStep D.does (Proceeds proceeded) s device.old (state_of self.new) device.new) }
@@ -78,8 +80,8 @@ impl Parts {
         self.running.is_some() || !self.waiting.is_empty()
     }
 
-    /// Continues the transmission in execution, or takes the first item of the queue, until a unit has to wait or others
-    /// are let in. A transmission that a device clear or a FatalError has ended is dropped.
+    /// Continues the transmission in execution, or takes the first item of the queue, until a unit has to wait or
+    /// others are let in. A transmission that a device clear or a FatalError has ended is dropped.
     pub fn proceed<D: Device>(&mut self, device: &mut D) -> Result<Proceeded, Ended>
         ensures waits { IfOk result (λ proceeded. Awaits D.does proceeded device.new) }
         ensures done { IfOk result (λ proceeded. PerformsStep D.does (Proceeds proceeded) (state_of self.old) device.old (state_of self.new) device.new) }

@@ -9,17 +9,18 @@ ghost use Rattle.psu_session.specs.State.{numbered};
 
 use crate::numbers::{clears, number_on, parameter};
 use crate::{Device, Ended, Parts};
-use psu_hislip::{Action, Message, Side};
+use psu_hislip::{Actions, Message, Side};
 use std::alloc::Global;
 
 impl Parts {
     // Does or queues what the actions of a message request, one after another.
+    #[inline(always)]
     fn act_all<D: Device>(
         &mut self,
         device: &mut D,
         now: u64,
         number: u32,
-        actions: Vec<Action<Global>>,
+        actions: Actions<Global>,
     ) -> Result<(), Ended>
         ensures { OnOk result (Appends D.does (Each (state_of self.old).lock_waits (acts actions.items)) (flat_map works_in (acts actions.items)) (flat_map (release_in now number) (acts actions.items)) (state_of self.old) device.old
             (state_of self.new) device.new) }
@@ -41,19 +42,22 @@ impl Parts {
     }
 
     /// Passes a message of a channel to the core at a time in milliseconds, and does or queues what it requests.
+    #[inline(always)]
     pub fn receive_message<D: Device>(
         &mut self,
         now: u64,
         side: Side,
-        message: &Message<Global>,
+        message: Message<Global>,
         device: &mut D,
     ) -> Result<(), Ended>
-        ensures { OnOk result (PerformsStep D.does (IsMessageReceived now side (received message.now)) (state_of self.old) device.old (state_of self.new) device.new) }
+        ensures { OnOk result (PerformsStep D.does (IsMessageReceived now side (received message)) (state_of self.old) device.old (state_of self.new) device.new) }
     {
+        let number = number_on(side, &message);
+        let id = parameter(&message);
         let actions = self.core.on(side, message)?;
         let all = clears(actions.as_slice());
-        self.act_all(device, now, parameter(message), actions)?;
-        self.count(number_on(side, message));
+        self.act_all(device, now, id, actions)?;
+        self.count(number);
         self.settle(all, now)
     }
 }

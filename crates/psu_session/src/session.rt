@@ -133,9 +133,9 @@ impl Session {
         done
     }
 
-    /// Continues the transmission in execution, or begins the first one in the queue, until a unit has to wait or others
-    /// are let in. A transmission that a device clear or a FatalError has ended is dropped. A release that is first in
-    /// the queue is done.
+    /// Continues the transmission in execution, or begins the first one in the queue, until a unit has to wait or
+    /// others are let in. A transmission that a device clear or a FatalError has ended is dropped. A release that is
+    /// first in the queue is done.
     pub fn proceed<D: Device>(&mut self, device: &mut D) -> Result<Proceeded, Ended>
         ensures was { OnOk result (self.old.over ≡ false) }
         ensures continues { OnOk result (self.new.over ≡ false) }
@@ -182,9 +182,9 @@ impl Session {
         self.parts.next_due()
     }
 
-    /// Whether so much is held of what was received on a connection, or is to be sent there, that its reader waits: more
-    /// than a mebibyte, each item counting as its bytes and 128, or more than 65,536 bytes. What is held never counts as
-    /// more than four mebibytes, even where the reader does not wait: the session is over before that.
+    /// Whether so much is held of what was received on a connection, or is to be sent there, that its reader waits:
+    /// more than a mebibyte, each item counting as its bytes and 128, or more than 65,536 bytes. What is held never
+    /// counts as more than four mebibytes, even where the reader does not wait: the session is over before that.
     pub fn is_full(&self, side: Side) -> bool
         ensures full { IsTrue result ↔ IsFull side self.now.state }
         ensures bounded { IsBounded self.now.state }
@@ -220,8 +220,8 @@ impl Session {
         self.parts.core.response()
     }
 
-    /// Takes all bytes that are to be sent on a connection, for the caller to write. There are none where a thread still
-    /// writes there, until `written` is called, or where nothing is to be sent.
+    /// Takes all bytes that are to be sent on a connection, for the caller to write. There are none where a thread
+    /// still writes there, until `written` is called, or where nothing is to be sent.
     pub fn take_output(&mut self, side: Side) -> Result<Option<Vec<u8>>, Ended>
         ensures was { OnOk result (self.old.over ≡ false) }
         ensures continues { OnOk result (self.new.over ≡ false) }

@@ -65,6 +65,14 @@ MayContinue does false more (Some need) new s x t y = (t ≡ s) × (y ≡ x) × 
 abbrev pub IsUnwritten : Side → State → Type 0
 IsUnwritten side s = (output side s ≢ []) × (writes side s ≡ false)
 
+-- all output of a connection is written
+abbrev pub HasSent : Side → State → Type 0
+HasSent side s = (output side s ≡ []) × (writes side s ≡ false)
+
+-- The session has failed, and all its output is written: its connections end.
+abbrev pub HasSentAll : State → Type 0
+HasSentAll s = (s.core.failed ≡ true) × HasSent Sync s × HasSent Async s
+
 -- What a thread that writes on a connection leaves to the threads of the other one: output; and to the worker what is to
 -- be executed, unless a unit waits, and releases, which it does in time.
 abbrev pub IsForOthers : Side → Option Need → State → Type 0

@@ -1,10 +1,10 @@
 // The value of a session that threads share.
-ghost use Rattle.std.specs.Prelude.{◌≡◌, ◌≢◌, ◌↔◌, true, false, None, [], ◌∷◌, IsTrue, IfOk, OnOk, OnErr};
+ghost use Rattle.std.specs.Prelude.{◌≡◌, ◌≢◌, ◌⊎◌, ◌↔◌, true, false, None, [], ◌∷◌, IsTrue, IfOk, OnOk, OnErr};
 ghost use Rattle.psu_hislip.specs.declared.side.Side.TheVariants.{Sync, Async};
 ghost use Rattle.psu_session.specs.Events.{Wrote};
 ghost use Rattle.psu_session.specs.State.{HasWork};
 ghost use Rattle.psu_session.specs.Step.{IsWritten};
-ghost use Rattle.psu_session_io.specs.Sharing.{Executes, Leaves, MayContinue, MayRequestService, Notifies, Receives, Takes, IsForOthers, IsUnwritten, HasRoom, waits_after};
+ghost use Rattle.psu_session_io.specs.Sharing.{Executes, Leaves, MayContinue, MayRequestService, Notifies, Receives, Takes, IsForOthers, IsUnwritten, HasRoom, HasSent, HasSentAll, waits_after};
 
 use crate::linear::{
     Arrived, BytesRead, Closing, Disconnected, Duty, Outgoing, Pending, Received, Remainder, Taken,
@@ -234,13 +234,18 @@ impl SharedSession {
         }
     }
 
-    // Whether the session has failed, all its output is written, and no thread writes.
-    fn has_sent_all(&self) -> bool {
-        self.session.has_failed()
-            && !self.session.has_output(Side::Sync)
-            && !self.session.has_output(Side::Async)
-            && !self.session.writes(Side::Sync)
-            && !self.session.writes(Side::Async)
+    // Whether all output of a connection is written.
+    fn has_sent(&self, side: Side) -> bool
+        ensures { IsTrue result ↔ HasSent side self.now.session.state }
+    {
+        !self.session.has_output(side) && !self.session.writes(side)
+    }
+
+    // Whether the session has failed, and all its output is written.
+    fn has_sent_all(&self) -> bool
+        ensures { IsTrue result ↔ HasSentAll self.now.session.state }
+    {
+        self.session.has_failed() && self.has_sent(Side::Sync) && self.has_sent(Side::Async)
     }
 
     // Takes what is to be written on a connection, or returns what is left to the other threads.
@@ -248,6 +253,7 @@ impl SharedSession {
         ensures takes { IfOk result (λ taken. Takes S.SIDE more self.old.waits self.old.sync_reader_waits self.old.async_reader_waits taken self.old.session.state self.new.session.state) }
         ensures waits { self.new.waits ≡ self.old.waits }
         ensures ended { OnErr result (self.new.lost ≡ true) }
+        ensures cause { OnErr result ((self.old.session.over ≡ true) ⊎ HasSentAll self.old.session.state) }
     {
         match self.session.take_output(S::SIDE) {
             Ok(Some(bytes)) => Ok(Taken::Bytes(Outgoing {
@@ -295,6 +301,7 @@ impl SharedSession {
         ensures responded { IfOk result (λ taken. Takes Async false self.old.waits self.old.sync_reader_waits self.old.async_reader_waits taken self.old.session.state self.new.session.state) }
         ensures was { OnOk result (self.old.lost ≡ false) }
         ensures ended { OnErr result (self.new.lost ≡ true) }
+        ensures cause { OnErr result ((self.old.lost ≡ true) ⊎ (self.old.session.over ≡ true) ⊎ HasSentAll self.old.session.state) }
     {
         let Pending {
             again: _,

@@ -6,13 +6,10 @@
 // as in `2/0`; the result of an `answer` to it or a `part` of one is frames, or `none`; `current`, `joined` and
 // `failed` query the session, with the result `yes` or `no`.
 use crate::holds::holds;
-use psu_hislip::{Action, Channel, Origin, SessionCore, Side};
+use psu_hislip::{Action, Actions, Channel, Origin, SessionCore, Side};
 use psu_tables::{bytes, row};
 use std::alloc::Global;
 use std::process::Abort;
-
-// The actions that a message requests.
-type Asked = Vec<Action<Global>>;
 
 /// Returns the bytes of a message, padded with zeros to the 16 of a header.
 pub fn message(alloc: Global, cell: &str) -> Option<Vec<u8>> {
@@ -119,10 +116,14 @@ fn are_asked(alloc: Global, asked: &[Action<Global>], cell: &str) -> bool {
 }
 
 // Returns the actions that a message requests.
-fn tell(alloc: Global, core: &mut SessionCore<Global>, side: Side, cell: &str) -> Option<Asked> {
-    let mut channel = Channel::new(alloc);
-    let messages = channel.feed(&message(alloc, cell)?).ok()?;
-    core.on(side, messages.first()?).ok()
+fn tell(
+    alloc: Global,
+    core: &mut SessionCore<Global>,
+    side: Side,
+    cell: &str,
+) -> Option<Actions<Global>> {
+    let mut messages = Channel::new(alloc).feed(&message(alloc, cell)?).ok()?;
+    core.on(side, messages.pop()?).ok()
 }
 
 fn asks(

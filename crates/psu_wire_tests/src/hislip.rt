@@ -1,9 +1,9 @@
 // Each allocation of a feed, of a message and of a response is refused in turn: nothing has changed.
-use crate::frames::{feed_again, is_frame, leave, origin};
+use crate::frames::{bare, feed_again, is_frame, leave, origin};
 use crate::holds::holds;
 use bumpalo::Bump;
-use psu_hislip::{Action, Channel, SessionCore, Side};
-use std::alloc::{AllocError, Global};
+use psu_hislip::{Action, Channel, Message, SessionCore, Side};
+use std::alloc::Global;
 
 /// AsyncInitialize for session 1.
 const JOIN: &[u8] = b"HS\x11\x00\x00\x00\x00\x01\x00\x00\x00\x00\x00\x00\x00\x00";
@@ -25,23 +25,17 @@ fn feed_is_refused(arena: &Bump, left: usize) -> Option<bool> {
     is_frame(messages.first(), 7, b"N?\n").then_some(refused)
 }
 
-// The actions that a message requests, with memory of an arena.
-type Asked<'a> = Vec<Action<&'a Bump>, &'a Bump>;
-
-// Handles the one message of a stream on a channel of the core; the inner result is an error where memory is refused.
-fn on<'a>(
-    core: &mut SessionCore<&'a Bump>,
-    ample: &'a Bump,
-    side: Side,
-    stream: &[u8],
-) -> Option<Result<Asked<'a>, AllocError>> {
-    let messages = Channel::new(ample).feed(stream).ok()?;
-    Some(core.on(side, messages.first()?))
+// Returns the one message of a stream, with memory of an arena.
+fn message<'a>(arena: &'a Bump, stream: &[u8]) -> Option<Message<&'a Bump>> {
+    Channel::new(arena).feed(stream).ok()?.pop()
 }
 
 // Whether a message is accepted.
-fn takes<'a>(core: &mut SessionCore<&'a Bump>, ample: &'a Bump, side: Side, stream: &[u8]) -> bool {
-    matches!(on(core, ample, side, stream), Some(Ok(_)))
+fn takes<'a>(core: &mut SessionCore<&'a Bump>, arena: &'a Bump, side: Side, stream: &[u8]) -> bool {
+    match message(arena, stream) {
+        Some(message) => core.on(side, message).is_ok(),
+        None => false,
+    }
 }
 
 // Whether the transmission that BEGIN began is executed completely.
@@ -53,48 +47,56 @@ fn is_whole(actions: &[Action<&Bump>]) -> bool {
     }
 }
 
-// Whether that transmission is executed completely once END comes, with all memory.
-fn ends_whole<'a>(core: &mut SessionCore<&'a Bump>, ample: &'a Bump) -> bool {
-    match on(core, ample, Side::Sync, END) {
-        Some(Ok(asked)) => is_whole(&asked),
-        _ => false,
+// Whether that transmission is refused as END comes; `None` where it is executed, but not completely.
+fn end_is_refused<'a>(core: &mut SessionCore<&'a Bump>, end: Message<&'a Bump>) -> Option<bool> {
+    match core.on(Side::Sync, end) {
+        Ok(asked) => is_whole(&asked).then_some(false),
+        Err(_) => Some(true),
     }
 }
 
-// Returns the core of a session that is joined, with memory of its own.
-fn joined<'a>(ample: &'a Bump, arena: &'a Bump) -> Option<SessionCore<&'a Bump>> {
+// Returns the core of a session that is joined and has received BEGIN.
+fn begun<'a>(arena: &'a Bump) -> Option<SessionCore<&'a Bump>> {
     let mut core = SessionCore::new(arena, 1);
-    if !takes(&mut core, ample, Side::Async, JOIN) {
+    if !takes(&mut core, arena, Side::Async, JOIN) || !takes(&mut core, arena, Side::Sync, BEGIN) {
         return None;
     }
     Some(core)
 }
 
-// Whether the first of the two messages of a transmission is refused with this many bytes; `None` where its result is
-// wrong.
-fn first_is_refused(ample: &Bump, arena: &Bump, left: usize) -> Option<bool> {
-    let mut core = joined(ample, arena)?;
+// Whether the second message of a transmission is refused with this many bytes: it is executed at once, or when it
+// comes again.
+fn second_is_refused(arena: &Bump, left: usize) -> Option<bool> {
+    let mut core = begun(arena)?;
+    let end = message(arena, END)?;
     leave(arena, left)?;
-    let refused = !takes(&mut core, ample, Side::Sync, BEGIN);
-    arena.set_allocation_limit(None);
-    if refused && !takes(&mut core, ample, Side::Sync, BEGIN) {
-        return None;
-    }
-    ends_whole(&mut core, ample).then_some(refused)
-}
-
-// Whether the second message is refused with this many bytes: it is executed at once, or when it comes again.
-fn second_is_refused(ample: &Bump, arena: &Bump, left: usize) -> Option<bool> {
-    let mut core = joined(ample, arena)?;
-    if !takes(&mut core, ample, Side::Sync, BEGIN) {
-        return None;
-    }
-    leave(arena, left)?;
-    if ends_whole(&mut core, ample) {
+    if !end_is_refused(&mut core, end)? {
         return Some(false);
     }
     arena.set_allocation_limit(None);
-    ends_whole(&mut core, ample).then_some(true)
+    let again = message(arena, END)?;
+    (end_is_refused(&mut core, again) == Some(false)).then_some(true)
+}
+
+// Whether messages that need no memory are accepted with none left: the first bytes of a transmission, and those whose
+// response is sent at once.
+fn need_no_memory(alloc: Global) -> Option<bool> {
+    let arena = Bump::try_with_capacity(alloc, 4096).ok()?;
+    let mut core = SessionCore::new(&arena, 1);
+    let join = message(&arena, JOIN)?;
+    let begin = message(&arena, BEGIN)?;
+    let clear = message(&arena, &bare(19, 0))?;
+    leave(&arena, 0)?;
+    Some(
+        core.on(Side::Async, join).is_ok()
+            && core.on(Side::Sync, begin).is_ok()
+            && core.on(Side::Async, clear).is_ok(),
+    )
+}
+
+#[test]
+fn messages_that_need_no_memory(rt: HostRuntime) {
+    assert!(rt; need_no_memory(rt.alloc()) == Some(true));
 }
 
 // Whether the frames are those of the response.
@@ -121,12 +123,10 @@ fn answer_is_refused(arena: &Bump, left: usize) -> Option<bool> {
 
 // Whether the step with this name is refused with this many bytes; `None` where its result is wrong.
 fn is_refused(alloc: Global, step: &str, left: usize) -> Option<bool> {
-    let ample = Bump::try_with_capacity(alloc, 4096).ok()?;
     let arena = Bump::try_with_capacity(alloc, 4096).ok()?;
     match step {
         "feed" => feed_is_refused(&arena, left),
-        "first message" => first_is_refused(&ample, &arena, left),
-        "second message" => second_is_refused(&ample, &arena, left),
+        "second message" => second_is_refused(&arena, left),
         _ => answer_is_refused(&arena, left),
     }
 }
@@ -148,11 +148,6 @@ fn is_done_again(alloc: Global, step: &str) -> bool {
 #[test]
 fn each_allocation_of_frames_refused(rt: HostRuntime) {
     holds(&rt, is_done_again(rt.alloc(), "feed"), "feed");
-    holds(
-        &rt,
-        is_done_again(rt.alloc(), "first message"),
-        "first message",
-    );
     holds(
         &rt,
         is_done_again(rt.alloc(), "second message"),

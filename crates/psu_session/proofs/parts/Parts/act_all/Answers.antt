@@ -1,6 +1,5 @@
 use Rattle.std.proofs.Common.{◌≡◌, List, [], arith, subst, sym, flat_map}
 use Rattle.std.proofs.lemmas.Grind.{common_steps}
-use Rattle.std.specs.Vec.Iter.{into_iter_items}
 use Rattle.psu_hislip.specs.Action.{act, acts}
 use Rattle.psu_hislip.specs.declared.action.Action.{Action}
 use Rattle.psu_session.specs.Step.{Each, release_in, works_in}
@@ -14,7 +13,7 @@ loop-action-init g c =
     let all = acts c.args.actions.items in
     let asks = release_in c.args.now c.args.number in
     let s = state_of c.args.self.now in
-    subst (λ (left : List (Action _)). DoneSoFar does (Each s.lock_waits all) (Each s.lock_waits (acts left)) (flat_map works_in all) (flat_map works_in (acts left)) (flat_map asks all) (flat_map asks (acts left)) s c.args.device.now s c.args.device.now) (sym c.into_iter-rest.ensures.rest)
+    subst (λ (left : List (Action _)). DoneSoFar does (Each s.lock_waits all) (Each s.lock_waits (acts left)) (flat_map works_in all) (flat_map works_in (acts left)) (flat_map asks all) (flat_map asks (acts left)) s c.args.device.now s c.args.device.now) (sym c.into_iter-rest.ensures.into_iter_gives.0)
     (begins does (Each s.lock_waits all) (flat_map works_in all) (flat_map asks all) s c.args.device.now)
 
 pub loop-action-preserved : goal.loop-action-preserved
@@ -24,8 +23,8 @@ loop-action-preserved g c =
     let asks = release_in c.args.now c.args.number in
     let s = state_of c.args.self.now in
     let here = subst (λ (left : List (Action _)). DoneSoFar does (Each s.lock_waits all) (Each (state_of c.loop-action.self).lock_waits (acts left)) (flat_map works_in all) (flat_map works_in (acts left)) (flat_map asks all) (flat_map asks (acts left)) s c.args.device.now (state_of c.loop-action.self) c.loop-action.device)
-    c.in-Some.ensures.items c.loop-action.invariant in
-    steps does asks (Each s.lock_waits all) (flat_map works_in all) (flat_map asks all) (act c.in-Some.action) (acts (into_iter_items c.next.new.self)) s c.args.device.now (state_of c.loop-action.self) c.loop-action.device (state_of c.act.new.self)
+    c.in-Some.ensures.steps c.loop-action.invariant in
+    steps does asks (Each s.lock_waits all) (flat_map works_in all) (flat_map asks all) (act c.in-Some.action) (acts c.next.new.self) s c.args.device.now (state_of c.loop-action.self) c.loop-action.device (state_of c.act.new.self)
     c.act.new.device here c.in_ok-act.ensures
 
 pub returns : goal.returns
@@ -34,7 +33,7 @@ returns g c =
     let all = acts c.args.actions.items in
     let asks = release_in c.args.now c.args.number in
     let s = state_of c.args.self.now in
-    let none : into_iter_items c.loop-action.rest ≡ [] = grind (arith, common_steps, c.in_default.ensures.cases, c.in_default.is, c.in_default.not-Some) in
+    let none : c.loop-action.rest ≡ [] = grind (arith, common_steps, c.in_default.ensures.steps, c.in_default.is, c.in_default.not-Some) in
     ends does (Each s.lock_waits all) (flat_map works_in all) (flat_map asks all) s c.args.device.now (state_of c.loop-action.self) c.loop-action.device
     (subst (λ (left : List (Action _)). DoneSoFar does (Each s.lock_waits all) (Each (state_of c.loop-action.self).lock_waits (acts left)) (flat_map works_in all) (flat_map works_in (acts left)) (flat_map asks all) (flat_map asks (acts left)) s c.args.device.now (state_of c.loop-action.self) c.loop-action.device) none
     c.loop-action.invariant)

@@ -1,6 +1,5 @@
-use Rattle.std.proofs.Common.{◌≡◌, ◌∷◌, List, ap, map, refl, subst}
-use Rattle.psu_hislip.specs.Stream.{Received, received}
-use Rattle.psu_hislip.specs.declared.message.Message.{Message}
+use Rattle.std.proofs.Common.{◌∷◌, map, refl, subst}
+use Rattle.psu_hislip.specs.Stream.{received}
 use Rattle.psu_session.specs.Events.{BytesReceived}
 use Rattle.psu_session.specs.Step.{EachReceived}
 use Rattle.psu_session.specs.Shown.{state_of}
@@ -11,7 +10,6 @@ use Rattle.psu_session.proofs.parts.Parts.receive_bytes.Goals as goal
 pub returns : goal.returns
 returns g c =
     let fed = c.in_ok-messages.ensures in
-    let messages : map received c.as_slice.result.now ≡ map received c.in_ok-messages.messages.items = ap (λ (z : List (Message _)). map received z) c.as_slice.ensures.value in
     on_ok c.receive_messages.result (λ m. record {
       done = BytesReceived c.args.side c.args.received_bytes.now ∷ m.done;
       is = record {
@@ -21,7 +19,7 @@ returns g c =
         immediate = m.done;
         are = refl;
         each = subst (λ (z : State). EachReceived c.args.now c.args.side (map received c.in_ok-messages.messages.items) z m.done (state_of c.receive_messages.new.self)) fed.then
-            (subst (λ (z : List Received). EachReceived c.args.now c.args.side z (state_of c.feed.new.self) m.done (state_of c.receive_messages.new.self)) messages m.is);
+            m.is;
       };
       runs = m.runs;
     }) c.receive_messages.ensures

@@ -13,7 +13,7 @@ use Rattle.psu_session.proofs.parts.Parts.receive_message.Goals as goal
 
 pub returns : goal.returns
 returns g c =
-    let message = received c.args.message.now in
+    let message = received c.args.message in
     let outcome = outcome_of c.args.self.now.core c.args.side message in
     let requested = acts c.in_ok-actions.actions.items in
     let is : requested ≡ outcome.actions = c.in_ok-actions.ensures.done in
@@ -21,10 +21,10 @@ returns g c =
     let s = state_of c.args.self.now in
     let all : c.clears-all.result ≡ clears requested = c.clears-all.ensures ∙ ap (λ (xs : List (Action _)). clears (acts xs)) c.as_slice.ensures.value in
     let begun : state_of c.act_all.new.self ≡ added (with_core s outcome.core) (flat_map works_in requested) (flat_map (release_in c.args.now (parameter message)) requested) did.done
-    = did.then ∙ ap (λ (z : Core). added (with_core s z) (flat_map works_in requested) (flat_map (release_in c.args.now c.parameter.result) requested) did.done) c.in_ok-actions.ensures.core
-    ∙ ap (λ (z : ℕ). added (with_core s outcome.core) (flat_map works_in requested) (flat_map (release_in c.args.now z) requested) did.done) c.parameter.ensures in
+    = did.then ∙ ap (λ (z : Core). added (with_core s z) (flat_map works_in requested) (flat_map (release_in c.args.now c.parameter-id.result) requested) did.done) c.in_ok-actions.ensures.core
+    ∙ ap (λ (z : ℕ). added (with_core s outcome.core) (flat_map works_in requested) (flat_map (release_in c.args.now z) requested) did.done) c.parameter-id.ensures in
     let counted : state_of c.count.new.self ≡ numbered (added (with_core s outcome.core) (flat_map works_in requested) (flat_map (release_in c.args.now (parameter message)) requested) did.done) (number_on c.args.side message)
-    = c.count.ensures ∙ ap (λ (z : Option ℕ). numbered (state_of c.act_all.new.self) z) c.number_on.ensures ∙ ap (λ (z : State). numbered z (number_on c.args.side message)) begun in
+    = c.count.ensures ∙ ap (λ (z : Option ℕ). numbered (state_of c.act_all.new.self) z) c.number_on-number.ensures ∙ ap (λ (z : State). numbered z (number_on c.args.side message)) begun in
     on_ok c.settle.result (λ last. record {
       done = Came c.args.side message ∷ did.done;
       is = record {
