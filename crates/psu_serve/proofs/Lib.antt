@@ -2,7 +2,7 @@ pub mod Adding
 pub mod Calling
 pub mod Making
 pub mod Recording
-pub mod Responding
+pub mod Answering
 pub mod Transmissions
 pub mod Replying
 pub mod Histories

@@ -13,7 +13,7 @@ use Rattle.psu_session.specs.Exchanged as exchange_events
 use Rattle.psu_session.specs.Exchanged.{ExchangeEvent, executions}
 use Rattle.psu_serve.specs.Recorded.{AreEffects, IsAnswered, Recorded, RecordedTurn, effects_of}
 use Rattle.psu_serve.proofs.Recording.{HasEntries}
-use Rattle.psu_serve.proofs.Responding.{all_sent}
+use Rattle.psu_serve.proofs.Answering.{all_sent}
 
 -- the effects among events, as the laws of an exchange see them
 abbrev pub seen : List Recorded → List ExchangeEvent

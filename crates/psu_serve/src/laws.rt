@@ -43,9 +43,9 @@ pub fn each_response_is_of_the_history<
     's,
     'c,
     'r,
-    R: Wait + Clock,
-    D: Disk + Drop,
-    G: Gate + Drop,
+    R: Wait + Clock + 'r,
+    D: Disk + Drop + 'c,
+    G: Gate + Drop + 'c,
 >()
     ensures each { EachResponseIsOfTheHistory D.honest ⟦<SharedDevice<'s, 'c, 'r, R, D, G> as Device>⟧.does (λ x. x.session) (λ x. x.caller.now.seat) }
     ensures one { OneResponseIsSent }
