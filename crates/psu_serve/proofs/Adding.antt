@@ -12,7 +12,7 @@ module _ {S E : Type 0} {allows : S → E → S → Type 0} where
     same = record { turn = ap (λ (x : Sight S E). x.turn) now; number = ap (λ (x : Sight S E). x.number) now; opening = ap (λ (x : Sight S E). x.opening) now };
     seen = ([], rw now (simp append-nil));
     mine = rw now (simp append-nil);
-    history = λ known. elim known [ | inl h ↦ rw now h | inr some ↦ absurd (some refl) ];
+    history = λ known. elim known [ inl h ↦ rw now h | inr some ↦ absurd (some refl) ];
   }
 
   pub adds_one : (v w : Sight S E) (entry : E) → Calls allows v entry w → Adds allows v (entry ∷ []) w

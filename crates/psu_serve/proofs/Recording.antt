@@ -88,16 +88,16 @@ module _ {X : Type 0} {does : X → Call → X → Type 0} (honest : Type 0) (se
       let runs = call_runs call in
       let on_seat = runs_on_seat session seat (IsCalled honest) makes (now thread) (calls done) (next thread) runs in
       let new = of_call honest number thread done (seat (now thread)) (seat (next thread))
-          (subst (λ (n : ℕ). Runs (IsCalled honest n) (seat (now thread)) (calls done) (seat (next thread))) (old.same thread) on_seat) in
+      (subst (λ (n : ℕ). Runs (IsCalled honest n) (seat (now thread)) (calls done) (seat (next thread))) (old.same thread) on_seat) in
       let both : (k : ℕ) → entries_by k (old.events ++ new.events) ≡ entries_by k old.events ++ entries_by k new.events
       = λ k. flat_map-append (λ (r : Recorded). if r.made.thread == k then r.entries else []) old.events new.events in
       let by_thread : Adds (AdmitsOn honest) (seat (first thread)) (entries_by thread (old.events ++ new.events)) (seat (next thread))
       = subst (λ (z : List Entry). Adds (AdmitsOn honest) (seat (first thread)) z (seat (next thread))) (sym (both thread ∙ ap (λ (z : List Entry). entries_by thread old.events ++ z) new.mine))
-          (adds_both (seat (first thread)) (seat (now thread)) (seat (next thread)) (entries_by thread old.events) (all_entries new.events) (old.adds thread) new.adds) in
+      (adds_both (seat (first thread)) (seat (now thread)) (seat (next thread)) (entries_by thread old.events) (all_entries new.events) (old.adds thread) new.adds) in
       let by_other : (k : ℕ) → k ≢ thread → Adds (AdmitsOn honest) (seat (first k)) (entries_by k (old.events ++ new.events)) (seat (next k))
       = λ k apart. subst (λ (z : List Entry). Adds (AdmitsOn honest) (seat (first k)) z (seat (next k)))
-          (sym (both k ∙ ap (λ (z : List Entry). entries_by k old.events ++ z) (new.others k (λ same. apart (sym same))) ∙ append-nil (entries_by k old.events)))
-          (subst (λ (z : X). Adds (AdmitsOn honest) (seat (first k)) (entries_by k old.events) (seat z)) (sym (others k apart)) (old.adds k)) in
+      (sym (both k ∙ ap (λ (z : List Entry). entries_by k old.events ++ z) (new.others k (λ same. apart (sym same))) ∙ append-nil (entries_by k old.events)))
+      (subst (λ (z : X). Adds (AdmitsOn honest) (seat (first k)) (entries_by k old.events) (seat z)) (sym (others k apart)) (old.adds k)) in
       record {
         events = old.events ++ new.events;
         are = map-append (λ (r : Recorded). r.made) old.events new.events ∙ ap (λ (z : List Made). z ++ map (λ r. r.made) new.events) old.are ∙ ap (λ (z : List Made). made ++ z) new.are;

@@ -35,7 +35,8 @@ pub fn calls_are_in_the_history<'s, 'c, 'r, R: Wait + Clock, D: Disk + Drop, G: 
 ///
 /// So where a message is `*OPC?`, the `1` that the client is sent is the reply of the entry of that `*OPC?`: the one of
 /// `Executed`, or where the unit had to wait the one of `Settled`. Of this entry the theorem on power loss holds
-/// (`psu_bench::seen_histories_happen`, `histories_are_lives`): what was commanded before it is there when power returns.
+/// (`psu_bench::seen_histories_happen`, `histories_are_lives`): each unit that the history has before it is in the
+/// contents that are there when power returns.
 ///
 /// Each seat has seen a history of its own, as far as the thread has called. Any two seats of a bench may be joined
 /// (`Bench::join`): they have then seen one legal history, which has the calls of both.
