@@ -10,8 +10,8 @@ module _ {S E : Type 0} (allows : S → E → S → Type 0) where
     pub own : calls_by v.number v.seen ≡ v.mine
 
   -- After calls with these entries the seat has seen a history that begins with all that it had seen, and its own calls
-  -- are those that it had made and then these. This history is legal, and has exactly the seat's calls under its number,
-  -- if it was such before or there is an entry.
+  -- are those that it had made and then these. This history is legal, and has exactly the seat's calls under its
+  -- number, if it was such before or there is an entry.
   pub record Adds (v : Sight S E) (entries : List E) (w : Sight S E) : Type 0 where
     pub same : IsSame v w
     pub seen : StartsWith w.seen v.seen

@@ -10,8 +10,8 @@ use Rattle.psu_session.specs.State.{Start, State, fresh}
 use Rattle.psu_session.specs.Step.{IsLockGranted, IsReceived, IsServiceRequested, IsTaken, IsTicked, IsWritten}
 use Rattle.psu_session.specs.declared.proceeded.Proceeded.{Proceeded}
 
--- A call of the session, by a thread with this device: what the contract of each call of `Session` says where it does not
--- fail, with the events that it adds to the session's history.
+-- A call of the session, by a thread with this device: what the contract of each call of `Session` says where it does
+-- not fail, with the events that it adds to the session's history.
 pub data IsCallOf {X : Type 0} (does : X → Call → X → Type 0) (s : State) (x : X) (t : State) (y : X) : List Event → Type 0 where
   Receives : (now : ℕ) (side : Side) (bytes : List ℕ) → (call : PerformsStep does (IsReceived now side bytes) s x t y) → IsCallOf does s x t y call.done
   PassesOn : (grant : Grant) → (call : Appends does (IsLockGranted s.lock_waits grant) [] [] s x t y) → IsCallOf does s x t y call.done

@@ -1,7 +1,7 @@
--- A session's history beside the one legal history of its device: what a client is sent are the replies that the device's
--- history says. Source: IVI-6.1 (a response is Data messages and a DataEnd, under the MessageID of the transmission) and
--- IEEE 488.2, 8.4 (the responses of a message's units are one text, joined by `;` and ended by NL) and 12.5.3 (the
--- response to `*OPC?` is sent once all operations before it are complete).
+-- A session's history beside the one legal history of its device: what a client is sent are the replies that the
+-- device's history says. Source: IVI-6.1 (a response is Data messages and a DataEnd, under the MessageID of the
+-- transmission) and IEEE 488.2, 8.4 (the responses of a message's units are one text, joined by `;` and ended by NL)
+-- and 12.5.3 (the response to `*OPC?` is sent once all operations before it are complete).
 use Rattle.std.specs.Prelude.{◌≡◌, ◌⊎◌, ℕ, ◌==◌, if◌then◌else◌, true, All, List, [], ◌∷◌, ◌++◌, flat_map, map}
 use Rattle.psu_hislip.specs.Answer.{IsAnswerCutAnywhere}
 use Rattle.psu_hislip.specs.declared.origin.Origin.{Origin}
@@ -95,16 +95,16 @@ pub record Shows (honest : Type 0) (history : Sight device.State Entry) (seat : 
   pub begins : StartsWith history.seen seat.seen
   pub own : calls_by seat.number history.seen ≡ mine
 
--- The calls of a session's history are recorded in that of the device. The numbers of the session and the seats are those
--- of the threads' devices, before the first call and after the last one.
+-- The calls of a session's history are recorded in that of the device. The numbers of the session and the seats are
+-- those of the threads' devices, before the first call and after the last one.
 pub record IsRecorded (honest : Type 0) (session : ℕ → ℕ) (old new : ℕ → Sight device.State Entry) (start : Start) (made : List Made) (s : State) : Type 0 where
   pub history : IsHistory start (history_of made) s
   -- each call of the device has its entry there, with its reply
   pub events : List Recorded
   pub are : map (λ r. r.made) events ≡ made
   pub each : All (λ r. AreAllEntries (session r.made.thread) (calls_in r.made.event) r.entries) events
-  -- under the seat of each thread the one legal history that the seat has seen then has these, in their order, after what
-  -- the seat had called before, and no others
+  -- under the seat of each thread the one legal history that the seat has seen then has these, in their order, after
+  -- what the seat had called before, and no others
   pub adds : (thread : ℕ) → Adds (AdmitsOn honest) (old thread) (entries_by thread events) (new thread)
   -- so has, for both, the one legal history that two seats have seen once they are joined
   pub joined : (one other : ℕ) (both : Sight device.State Entry) → Joins (AdmitsOn honest) (new one) (new other) both
@@ -116,7 +116,8 @@ pub record IsRecorded (honest : Type 0) (session : ℕ → ℕ) (old new : ℕ �
   pub each_effect : All (λ r. AreEffects r.turn.order.origin r.events r.turn.done) turns
   -- each that is over is answered by the replies of its entries
   pub answered : (greatest : ℕ) → TakesAtMost greatest start.session (exchange_history (history_of made)) → All (IsAnswered greatest) turns
-  -- what was taken to be written on the synchronous connection, then its output, are the core's replies and these responses
+  -- what was taken to be written on the synchronous connection, then its output, are the core's replies and these
+  -- responses
   pub sent : Weaves (replied (exchange_history (history_of made))) (pieces (map (λ r. r.turn) turns)) (taken Sync (history_of made) ++ s.sync)
 
 -- So it is for each session whose threads have such devices.
