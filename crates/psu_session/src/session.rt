@@ -11,6 +11,7 @@ ghost use Rattle.psu_session.specs.Releasing.{due_at};
 ghost use Rattle.psu_session.specs.Step.{IsReceived, IsServiceRequested, IsTaken, IsTicked, IsLockGranted, IsWritten};
 ghost use Rattle.psu_session.specs.Proceeding.{Awaits, Proceeds};
 ghost use Rattle.psu_session.specs.Serving.{Appends, PerformsStep};
+ghost use Rattle.psu_session.specs.Stopping.{CallsFirst, StopsIn};
 ghost use Rattle.psu_session.specs.State.{HasWork, Start, fresh, output, writes};
 
 use crate::laws::histories_are_exchanges;
@@ -94,6 +95,8 @@ impl Session {
         ensures continues { OnOk result (self.new.over ≡ false) }
         ensures done { OnOk result (PerformsStep D.does (IsReceived now side received_bytes.now) self.old.state device.old self.new.state device.new) }
         ensures ended { OnErr result (self.new.over ≡ true) }
+        ensures stopped { OnErr result ((device.new ≡ device.old) ⊎ StopsIn D.does (IsReceived now side received_bytes.now) self.old.state device.old device.new) }
+        ensures over { self.old.over ≡ true → device.new ≡ device.old }
     {
         if self.over {
             return Err(Ended);
@@ -109,6 +112,7 @@ impl Session {
         ensures continues { OnOk result (self.new.over ≡ false) }
         ensures done { OnOk result (Appends D.does (IsLockGranted self.old.state.lock_waits grant) [] [] self.old.state device.old self.new.state device.new) }
         ensures ended { OnErr result (self.new.over ≡ true) }
+        ensures uncalled { device.new ≡ device.old }
     {
         if self.over {
             return Err(Ended);
@@ -124,6 +128,8 @@ impl Session {
         ensures continues { OnOk result (self.new.over ≡ false) }
         ensures done { OnOk result (Appends D.does IsServiceRequested [] [] self.old.state device.old self.new.state device.new) }
         ensures ended { OnErr result (self.new.over ≡ true) }
+        ensures stopped { OnErr result (CallsFirst D.does IsServiceRequested device.old device.new) }
+        ensures over { self.old.over ≡ true → device.new ≡ device.old }
     {
         if self.over {
             return Err(Ended);
