@@ -25,3 +25,4 @@ pub mod Answering
 pub mod Ordering
 pub mod SomeExchange
 pub mod Stopping
+pub mod Interrupting

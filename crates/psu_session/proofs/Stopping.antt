@@ -1,21 +1,18 @@
 -- The calls of the device where memory is refused.
-use Rattle.std.proofs.Common.{◌≡◌, ℕ, Bool, true, false, Option, Some, None, List, [], ◌∷◌, ◌++◌, refl, sym, ap, ◌∙◌, subst, append_assoc, Result, Ok, Err, OnErr}
+use Rattle.std.proofs.Common.{◌≡◌, ℕ, Bool, true, false, Option, Some, None, List, [], ◌∷◌, ◌++◌, refl, sym, subst, append_assoc, Result, Ok, Err, OnErr}
 use Rattle.std.proofs.lemmas.List.{append-nil}
-use Rattle.psu_locks.specs.declared.info.Info.{Info}
 use Rattle.psu_locks.specs.declared.kind.Kind.{Kind}
 use Rattle.psu_locks.specs.declared.lock_refusal.LockRefusal.TheVariants.{NotHeld}
 use Rattle.psu_hislip.specs.Action.{Act}
 use Rattle.psu_hislip.specs.Core.{outcome_of}
-use Rattle.psu_hislip.specs.LockResponses.{lock_response}
 use Rattle.psu_hislip.specs.Stream.{Received}
 use Rattle.psu_hislip.specs.declared.side.Side.{Side}
 use Rattle.psu_session.specs.Locking.{kind_of}
-use Rattle.psu_session.specs.Numbers.{parameter}
 use Rattle.psu_session.specs.Feeding.{IsFed}
 use Rattle.psu_session.specs.Events.{BytesReceived, Call, Event, Came, calls, waits_after}
 use Rattle.psu_session.specs.Step.{Does, Each, EachReceived, IsLocked, IsMessageReceived, IsReceived, arrived}
 use Rattle.psu_session.specs.Serving.{Runs}
-use Rattle.psu_session.specs.Stopping.{CallsFirst, StopsIn}
+use Rattle.psu_session.specs.Stopping.{CallsPrefix, StopsIn}
 use Rattle.psu_session.specs.State.{Release, State, Work, with_core}
 use Rattle.psu_session.proofs.Serving.{DoneSoFar, runs_after}
 use Rattle.psu_session.proofs.ReceivedMessages.{Receiving}
@@ -74,19 +71,19 @@ some_messages now side (message ∷ messages) s =
 
 module _ {X : Type 0} (does : X → Call → X → Type 0) where
   -- the device is not called
-  pub none_called : (Are : List Event → Type 0) (x : X) → ((done : List Event) × Are done) → CallsFirst does Are x x
+  pub none_called : (Are : List Event → Type 0) (x : X) → ((done : List Event) × Are done) → CallsPrefix does Are x x
   none_called Are x (events, are) = record { done = []; left = events; are = are; runs = refl }
 
   -- all of the calls are made
-  pub all_called : (Are : List Event → Type 0) (x y : X) (events : List Event) → Are events → Runs does x (calls events) y → CallsFirst does Are x y
+  pub all_called : (Are : List Event → Type 0) (x y : X) (events : List Event) → Are events → Runs does x (calls events) y → CallsPrefix does Are x y
   all_called Are x y events are runs = record { done = events; left = []; are = subst Are (sym (append-nil events)) are; runs = runs }
 
   -- the calls of events that others follow
-  pub then_others : (Are All : List Event → Type 0) (others : List Event) (x y : X) → ((events : List Event) → Are events → All (events ++ others)) → CallsFirst does Are x y → CallsFirst does All x y
+  pub then_others : (Are All : List Event → Type 0) (others : List Event) (x y : X) → ((events : List Event) → Are events → All (events ++ others)) → CallsPrefix does Are x y → CallsPrefix does All x y
   then_others Are All others x y follow f = record { done = f.done; left = f.left ++ others; are = subst All (append_assoc f.done f.left others) (follow (f.done ++ f.left) f.are); runs = f.runs }
 
   -- the calls of events that follow others
-  pub after_others : (Are All : List Event → Type 0) (others : List Event) (x y z : X) → Runs does x (calls others) y → ((events : List Event) → Are events → All (others ++ events)) → CallsFirst does Are y z → CallsFirst does All x z
+  pub after_others : (Are All : List Event → Type 0) (others : List Event) (x y z : X) → Runs does x (calls others) y → ((events : List Event) → Are events → All (others ++ events)) → CallsPrefix does Are y z → CallsPrefix does All x z
   after_others Are All others x y z runs follow f = record {
     done = others ++ f.done;
     left = f.left;
@@ -95,12 +92,12 @@ module _ {X : Type 0} (does : X → Call → X → Type 0) where
   }
 
   -- an action for which the device is not called
-  pub not_called : {T E : Type 0} (waits : Bool) (act : Act) (x : X) (r : Result T E) → OnErr r (CallsFirst does (Does waits act) x x)
+  pub not_called : {T E : Type 0} (waits : Bool) (act : Act) (x : X) (r : Result T E) → OnErr r (CallsPrefix does (Does waits act) x x)
   not_called waits act x r = if_err r (none_called (Does waits act) x (some_events waits act))
 
   -- an action stops after others
   pub stops_at : (Whole : List Event → Type 0) (works : List Work) (requested : List Release) (one : Act) (rest : List Act) (left_works : List Work) (left_requested : List Release) (s : State) (x : X) (t : State) (y z : X)
-      → DoneSoFar does Whole (Each t.lock_waits (one ∷ rest)) works left_works requested left_requested s x t y → CallsFirst does (Does t.lock_waits one) y z → CallsFirst does Whole x z
+      → DoneSoFar does Whole (Each t.lock_waits (one ∷ rest)) works left_works requested left_requested s x t y → CallsPrefix does (Does t.lock_waits one) y z → CallsPrefix does Whole x z
   stops_at Whole works requested one rest left_works left_requested s x t y z g f =
       let more = some_each (waits_after t.lock_waits (f.done ++ f.left)) rest in
       after_others (Each t.lock_waits (one ∷ rest)) Whole g.done x y z g.runs g.completes (record {
@@ -116,7 +113,7 @@ module _ {X : Type 0} (does : X → Call → X → Type 0) where
     not_passed message s x = let some = some_message now side message s in none_called (λ done. (t : State) × IsMessageReceived now side message s done t) x (some.0, (some.1, some.2))
 
     -- a message of which an action stops
-    pub passed : (message : Received) (s : State) (acts : List Act) (x y : X) → acts ≡ (outcome_of s.core side message).actions → CallsFirst does (Each s.lock_waits acts) x y → StopsIn does (IsMessageReceived now side message) s x y
+    pub passed : (message : Received) (s : State) (acts : List Act) (x y : X) → acts ≡ (outcome_of s.core side message).actions → CallsPrefix does (Each s.lock_waits acts) x y → StopsIn does (IsMessageReceived now side message) s x y
     passed message s acts x y is f = record {
       done = Came side message ∷ f.done;
       left = f.left;

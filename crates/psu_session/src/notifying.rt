@@ -1,8 +1,8 @@
 // Notifications of what other sessions cause.
-ghost use Rattle.std.specs.Prelude.{◌≡◌, OnOk, OnErr, []};
+ghost use Rattle.std.specs.Prelude.{◌≡◌, ℕ, OnOk, OnErr, Some, []};
+ghost use Rattle.psu_session.specs.Events.{Fetched};
 ghost use Rattle.psu_session.specs.Step.{IsServiceRequested, IsLockGranted};
 ghost use Rattle.psu_session.specs.Serving.{Appends};
-ghost use Rattle.psu_session.specs.Stopping.{CallsFirst};
 ghost use Rattle.psu_session.specs.Shown.{state_of};
 
 use crate::{Device, Ended, Parts};
@@ -30,7 +30,7 @@ impl Parts {
     /// Sends the session's service request, if the device has one.
     pub fn service_requested<D: Device>(&mut self, device: &mut D) -> Result<(), Ended>
         ensures done { OnOk result (Appends D.does IsServiceRequested [] [] (state_of self.old) device.old (state_of self.new) device.new) }
-        ensures stopped { OnErr result (CallsFirst D.does IsServiceRequested device.old device.new) }
+        ensures stopped { OnErr result ((byte : ℕ) × D.does device.old (Fetched (Some byte)) device.new) }
     {
         match device.fetch() {
             Some(byte) => self.put_header(Header::new(

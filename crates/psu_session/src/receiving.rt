@@ -4,7 +4,7 @@ ghost use Rattle.psu_hislip.specs.Action.{acts};
 ghost use Rattle.psu_hislip.specs.Stream.{received};
 ghost use Rattle.psu_session.specs.Step.{Each, IsMessageReceived, release_in, works_in};
 ghost use Rattle.psu_session.specs.Serving.{Appends, PerformsStep};
-ghost use Rattle.psu_session.specs.Stopping.{CallsFirst, StopsIn};
+ghost use Rattle.psu_session.specs.Stopping.{CallsPrefix, StopsIn};
 ghost use Rattle.psu_session.specs.Shown.{state_of};
 ghost use Rattle.psu_session.specs.State.{numbered};
 
@@ -25,7 +25,7 @@ impl Parts {
     ) -> Result<(), Ended>
         ensures done { OnOk result (Appends D.does (Each (state_of self.old).lock_waits (acts actions.items)) (flat_map works_in (acts actions.items)) (flat_map (release_in now number) (acts actions.items)) (state_of self.old) device.old
             (state_of self.new) device.new) }
-        ensures stopped { OnErr result (CallsFirst D.does (Each (state_of self.old).lock_waits (acts actions.items)) device.old device.new) }
+        ensures stopped { OnErr result (CallsPrefix D.does (Each (state_of self.old).lock_waits (acts actions.items)) device.old device.new) }
     {
         let mut rest = actions.into_iter();
         while let Some(action) = rest.next() {

@@ -1,11 +1,11 @@
 use Rattle.std.proofs.Common.{◌∙◌, Option, Some, None, [], ◌∷◌, ap, refl, sym, subst}
 use Rattle.psu_hislip.specs.declared.header.Header.{Header}
 use Rattle.psu_session.specs.Events.{Fetched, ServiceRequested}
-use Rattle.psu_session.specs.Step.{IsServiceRequested, puts}
+use Rattle.psu_session.specs.Step.{puts}
 use Rattle.psu_session.specs.Shown.{state_of}
 use Rattle.psu_session.specs.State.{added}
 use Rattle.psu_session.proofs.Serving.{none_added, on_ok}
-use Rattle.psu_session.proofs.Stopping.{all_called, if_err}
+use Rattle.psu_session.proofs.Stopping.{if_err}
 use Rattle.psu_session.proofs.parts.Parts.service_requested.Goals as goal
 
 pub returns-in-Some-clause-done : goal.returns-in-Some-clause-done
@@ -26,7 +26,4 @@ returns-in-None-clause-done g c = record {
 
 pub returns-in-Some-clause-stopped : goal.returns-in-Some-clause-stopped
 returns-in-Some-clause-stopped g c =
-    let does = g.D.Device.does in
-    if_err c.put_header.result
-    (all_called does IsServiceRequested c.args.device.now c.fetch.new.self (ServiceRequested (Some c.in-Some.byte) ∷ []) (Some c.in-Some.byte, refl)
-    (c.fetch.new.self, subst (λ (o : Option _). does c.args.device.now (Fetched o) c.fetch.new.self) c.in-Some.is c.fetch.ensures, refl))
+    if_err c.put_header.result (c.in-Some.byte, subst (λ (o : Option _). g.D.Device.does c.args.device.now (Fetched o) c.fetch.new.self) c.in-Some.is c.fetch.ensures)
