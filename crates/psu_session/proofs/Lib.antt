@@ -24,3 +24,5 @@ pub mod AnsweredMessages
 pub mod Answering
 pub mod Ordering
 pub mod SomeExchange
+pub mod Stopping
+pub mod Interrupting

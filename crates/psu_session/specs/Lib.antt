@@ -21,3 +21,4 @@ pub mod Answered
 pub mod SomeExchange
 pub mod Numbers
 pub mod Locking
+pub mod Stopping

@@ -1,5 +1,5 @@
 // What is done immediately for an action of a message.
-ghost use Rattle.std.specs.Prelude.{◌≡◌, OnOk, [], ◌∷◌, Some, false};
+ghost use Rattle.std.specs.Prelude.{◌≡◌, OnOk, OnErr, [], ◌∷◌, Some, false};
 ghost use Rattle.psu_hislip.specs.Action.{act};
 ghost use Rattle.psu_hislip.specs.Header.{header_bytes};
 ghost use Rattle.psu_hislip.specs.declared.side.Side.TheVariants.{Async};
@@ -7,6 +7,7 @@ ghost use Rattle.psu_session.specs.Locking.{kind_of};
 ghost use Rattle.psu_session.specs.Events.{Put, calls};
 ghost use Rattle.psu_session.specs.Step.{Does, IsInformed, IsLocked, IsQueried, delivers, puts, release_in, works_in};
 ghost use Rattle.psu_session.specs.Serving.{Appends, Runs};
+ghost use Rattle.psu_session.specs.Stopping.{CallsPrefix};
 ghost use Rattle.psu_session.specs.Shown.{order_of, state_of};
 ghost use Rattle.psu_session.specs.State.{Execute, added};
 
@@ -81,7 +82,8 @@ impl Parts {
 
     // Answers a status query, after the last response counts as read if the client said so.
     fn answer_status<D: Device>(&mut self, device: &mut D, is_delivered: bool) -> Result<(), Ended>
-        ensures { OnOk result (Appends D.does (IsQueried is_delivered) [] [] (state_of self.old) device.old (state_of self.new) device.new) }
+        ensures done { OnOk result (Appends D.does (IsQueried is_delivered) [] [] (state_of self.old) device.old (state_of self.new) device.new) }
+        ensures stopped { OnErr result (CallsPrefix D.does (IsQueried is_delivered) device.old device.new) }
     {
         deliver(device, is_delivered);
         let byte = device.query();
@@ -95,7 +97,8 @@ impl Parts {
         timeout: u32,
         kind: Kind,
     ) -> Result<(), Ended>
-        ensures { OnOk result (Appends D.does (IsLocked false timeout (Some kind)) [] [] (state_of self.old) device.old (state_of self.new) device.new) }
+        ensures done { OnOk result (Appends D.does (IsLocked false timeout (Some kind)) [] [] (state_of self.old) device.old (state_of self.new) device.new) }
+        ensures stopped { OnErr result (CallsPrefix D.does (IsLocked false timeout (Some kind)) device.old device.new) }
     {
         let reply = device.lock(kind, timeout);
         match lock_response(reply) {
@@ -115,7 +118,8 @@ impl Parts {
         timeout: u32,
         string: &[u8],
     ) -> Result<(), Ended>
-        ensures { OnOk result (Appends D.does (IsLocked (state_of self.old).lock_waits timeout (kind_of string.now)) [] [] (state_of self.old) device.old (state_of self.new) device.new) }
+        ensures done { OnOk result (Appends D.does (IsLocked (state_of self.old).lock_waits timeout (kind_of string.now)) [] [] (state_of self.old) device.old (state_of self.new) device.new) }
+        ensures stopped { OnErr result (CallsPrefix D.does (IsLocked (state_of self.old).lock_waits timeout (kind_of string.now)) device.old device.new) }
     {
         if self.lock_waits {
             return self.put_header(LockResponse::Error.header());
@@ -128,7 +132,8 @@ impl Parts {
 
     // Answers which locks are held.
     fn answer_info<D: Device>(&mut self, device: &mut D) -> Result<(), Ended>
-        ensures { OnOk result (Appends D.does IsInformed [] [] (state_of self.old) device.old (state_of self.new) device.new) }
+        ensures done { OnOk result (Appends D.does IsInformed [] [] (state_of self.old) device.old (state_of self.new) device.new) }
+        ensures stopped { OnErr result (CallsPrefix D.does IsInformed device.old device.new) }
     {
         let info = device.inform();
         self.put_header(lock_info_response(info))
@@ -143,7 +148,8 @@ impl Parts {
         number: u32,
         action: Action<Global>,
     ) -> Result<(), Ended>
-        ensures { OnOk result (Appends D.does (Does (state_of self.old).lock_waits (act action)) (works_in (act action)) (release_in now number (act action)) (state_of self.old) device.old (state_of self.new) device.new) }
+        ensures done { OnOk result (Appends D.does (Does (state_of self.old).lock_waits (act action)) (works_in (act action)) (release_in now number (act action)) (state_of self.old) device.old (state_of self.new) device.new) }
+        ensures stopped { OnErr result (CallsPrefix D.does (Does (state_of self.old).lock_waits (act action)) device.old device.new) }
     {
         match action {
             Action::Send(side, frames) => self.put(side, frames.as_slice()),

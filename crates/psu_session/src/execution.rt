@@ -1,5 +1,5 @@
 // The execution of a transmission's units on a device. Their responses are appended to the output.
-ghost use Rattle.std.specs.Prelude.{◌≡◌, IfOk, IfSome, None};
+ghost use Rattle.std.specs.Prelude.{◌≡◌, IfOk, IfSome, None, OnErr};
 ghost use Rattle.psu_messages.specs.Executions.{IsOver};
 ghost use Rattle.psu_messages.specs.Shown.{progress_of};
 ghost use Rattle.psu_messages.specs.Units.{source_of};
@@ -7,6 +7,7 @@ ghost use Rattle.psu_session.specs.Events.{call_of};
 ghost use Rattle.psu_session.specs.Proceeding.{IsAwaited};
 ghost use Rattle.psu_session.specs.Serving.{AdvancesOrder, Puts};
 ghost use Rattle.psu_session.specs.Shown.{order_of};
+ghost use Rattle.psu_session.specs.Stopping.{CallsAdvancing};
 
 use crate::{Device, Ended, Running};
 use psu_exec::{Outcome, Request};
@@ -39,7 +40,7 @@ impl<'a, 'b, 'c, D: Device> Executor<Global> for Execution<'a, 'b, 'c, D> {
 
     ghost fails = { λ x request stop y. ⊥ };
 
-    ghost stops = { λ x stop y. (y.output.ghost_name ≡ x.output.ghost_name) × (y.device.ghost_name ≡ x.device.ghost_name) };
+    ghost stops = { λ x stop y. (y.output.ghost_name ≡ x.output.ghost_name) × (y.device.ghost_name ≡ x.device.ghost_name) × (y.device.now ≡ x.device.now) };
 
     ghost yields = { λ _. Unit {0} };
 
@@ -93,6 +94,7 @@ impl<'a, 'b, 'c, D: Device> Execution<'a, 'b, 'c, D> {
             (progress_of progress.new) self.new.output.now.items self.new.device.now) }
         ensures over { IfOk result (λ need. need ≡ None → IsOver (source_of input.now) (progress_of progress.new)) }
         ensures waits { IfOk result (λ some. IfSome some (IsAwaited D.does self.new.device.now)) }
+        ensures stopped { OnErr result (CallsAdvancing D.does (record { origin = self.old.origin; source = source_of input.now }) (progress_of progress.old) self.old.device.now self.new.device.now) }
         ensures output { self.new.output.ghost_name ≡ self.old.output.ghost_name }
         ensures device { self.new.device.ghost_name ≡ self.old.device.ghost_name }
     {
@@ -113,6 +115,7 @@ pub(crate) fn advance<D: Device>(
     ensures advances { IfOk result (λ _. AdvancesOrder D.does core.now (order_of running.old.order) (progress_of running.old.progress) output.old.items device.old (progress_of running.new.progress) output.new.items device.new) }
     ensures over { IfOk result (λ need. need ≡ None → IsOver (source_of running.old.order.input) (progress_of running.new.progress)) }
     ensures waits { IfOk result (λ some. IfSome some (IsAwaited D.does device.new)) }
+    ensures stopped { OnErr result (CallsAdvancing D.does (order_of running.old.order) (progress_of running.old.progress) device.old device.new) }
     ensures order { running.new.order ≡ running.old.order }
 {
     let mut execution = Execution {

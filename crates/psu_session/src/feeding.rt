@@ -1,10 +1,11 @@
 // The bytes of a channel.
-ghost use Rattle.std.specs.Prelude.{◌≡◌, IfOk, OnOk, map};
+ghost use Rattle.std.specs.Prelude.{◌≡◌, ◌⊎◌, IfOk, OnOk, OnErr, map};
 ghost use Rattle.psu_hislip.specs.Stream.{received};
 ghost use Rattle.psu_hislip.specs.Channel.{Awaited};
 ghost use Rattle.psu_session.specs.Feeding.{IsFed};
 ghost use Rattle.psu_session.specs.Step.{EachReceived, IsReceived};
 ghost use Rattle.psu_session.specs.Serving.{PerformsStep};
+ghost use Rattle.psu_session.specs.Stopping.{StopsIn};
 ghost use Rattle.psu_session.specs.Shown.{state_of};
 
 use crate::{Device, Ended, Parts};
@@ -37,7 +38,8 @@ impl Parts {
         messages: Vec<Message<Global>>,
         device: &mut D,
     ) -> Result<(), Ended>
-        ensures { OnOk result (PerformsStep D.does (EachReceived now side (map received messages.items)) (state_of self.old) device.old (state_of self.new) device.new) }
+        ensures done { OnOk result (PerformsStep D.does (EachReceived now side (map received messages.items)) (state_of self.old) device.old (state_of self.new) device.new) }
+        ensures stopped { OnErr result (StopsIn D.does (EachReceived now side (map received messages.items)) (state_of self.old) device.old device.new) }
     {
         let mut rest = messages.into_iter();
         while let Some(message) = rest.next() {
@@ -55,7 +57,8 @@ impl Parts {
         received_bytes: &[u8],
         device: &mut D,
     ) -> Result<(), Ended>
-        ensures { OnOk result (PerformsStep D.does (IsReceived now side received_bytes.now) (state_of self.old) device.old (state_of self.new) device.new) }
+        ensures done { OnOk result (PerformsStep D.does (IsReceived now side received_bytes.now) (state_of self.old) device.old (state_of self.new) device.new) }
+        ensures stopped { OnErr result ((device.new ≡ device.old) ⊎ StopsIn D.does (IsReceived now side received_bytes.now) (state_of self.old) device.old device.new) }
     {
         let messages = self.feed(side, received_bytes)?;
         self.receive_messages(now, side, messages, device)

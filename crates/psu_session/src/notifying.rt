@@ -1,5 +1,6 @@
 // Notifications of what other sessions cause.
-ghost use Rattle.std.specs.Prelude.{◌≡◌, OnOk, []};
+ghost use Rattle.std.specs.Prelude.{◌≡◌, ℕ, OnOk, OnErr, Some, []};
+ghost use Rattle.psu_session.specs.Events.{Fetched};
 ghost use Rattle.psu_session.specs.Step.{IsServiceRequested, IsLockGranted};
 ghost use Rattle.psu_session.specs.Serving.{Appends};
 ghost use Rattle.psu_session.specs.Shown.{state_of};
@@ -11,7 +12,8 @@ use psu_locks::Grant;
 impl Parts {
     /// Answers the lock request that waits, if there is one, with its result.
     pub fn lock_granted<D: Device>(&mut self, grant: Grant, device: &mut D) -> Result<(), Ended>
-        ensures { OnOk result (Appends D.does (IsLockGranted (state_of self.old).lock_waits grant) [] [] (state_of self.old) device.old (state_of self.new) device.new) }
+        ensures done { OnOk result (Appends D.does (IsLockGranted (state_of self.old).lock_waits grant) [] [] (state_of self.old) device.old (state_of self.new) device.new) }
+        ensures uncalled { device.new ≡ device.old }
     {
         if !self.lock_waits {
             return Ok(());
@@ -27,7 +29,8 @@ impl Parts {
 
     /// Sends the session's service request, if the device has one.
     pub fn service_requested<D: Device>(&mut self, device: &mut D) -> Result<(), Ended>
-        ensures { OnOk result (Appends D.does IsServiceRequested [] [] (state_of self.old) device.old (state_of self.new) device.new) }
+        ensures done { OnOk result (Appends D.does IsServiceRequested [] [] (state_of self.old) device.old (state_of self.new) device.new) }
+        ensures stopped { OnErr result ((byte : ℕ) × D.does device.old (Fetched (Some byte)) device.new) }
     {
         match device.fetch() {
             Some(byte) => self.put_header(Header::new(

@@ -1,8 +1,12 @@
 // The execution of what is queued.
-ghost use Rattle.std.specs.Prelude.{◌≡◌, ◌↔◌, IsTrue, [], Some, None, IfOk, IfSome, IsNone, OnOk};
+ghost use Rattle.std.specs.Prelude.{◌≡◌, ◌↔◌, IsTrue, [], Some, None, IfOk, IfSome, IsNone, OnOk, OnErr, Result};
+ghost use Rattle.psu_locks.specs.declared.freed.Freed.{Freed};
+ghost use Rattle.psu_locks.specs.declared.lock_refusal.LockRefusal.{LockRefusal};
+ghost use Rattle.psu_session.specs.Events.{Released};
 ghost use Rattle.psu_session.specs.Proceeding.{Awaits, Frees, Proceeds, IsNext, IsNextWork};
 ghost use Rattle.psu_session.specs.Serving.{PerformsStep};
 ghost use Rattle.psu_session.specs.Shown.{one_running, state_of};
+ghost use Rattle.psu_session.specs.Stopping.{StopsNext};
 ghost use Rattle.psu_session.specs.State.{HasWork, State};
 
 use crate::execution::advance;
@@ -36,7 +40,8 @@ impl Parts {
 
     // Releases a lock.
     fn release_lock<D: Device>(&mut self, device: &mut D) -> Result<(), Ended>
-        ensures { OnOk result (Frees D.does (state_of self.old) device.old (state_of self.new) device.new) }
+        ensures done { OnOk result (Frees D.does (state_of self.old) device.old (state_of self.new) device.new) }
+        ensures stopped { OnErr result ((reply : Result Freed LockRefusal) × D.does device.old (Released reply) device.new) }
     {
         self.owed.give_back(0);
         let freed = device.release();
@@ -48,6 +53,7 @@ impl Parts {
     fn execute<D: Device>(&mut self, device: &mut D, running: Running) -> Result<Proceeded, Ended>
         ensures waits { IfOk result (λ proceeded. Awaits D.does proceeded device.new) }
         ensures done { IfOk result (λ proceeded. (s : State) → IsNext s (one_running running) (state_of self.old) → PerformsStep D.does (Proceeds proceeded) s device.old (state_of self.new) device.new) }
+        ensures stopped { OnErr result ((s : State) → IsNext s (one_running running) (state_of self.old) → StopsNext D.does s device.old device.new) }
     {
         let mut running = running;
         if !self.core.is_current(running.order.origin) {
@@ -85,6 +91,7 @@ impl Parts {
     pub fn proceed<D: Device>(&mut self, device: &mut D) -> Result<Proceeded, Ended>
         ensures waits { IfOk result (λ proceeded. Awaits D.does proceeded device.new) }
         ensures done { IfOk result (λ proceeded. PerformsStep D.does (Proceeds proceeded) (state_of self.old) device.old (state_of self.new) device.new) }
+        ensures stopped { OnErr result (StopsNext D.does (state_of self.old) device.old device.new) }
     {
         match self.next() {
             None => Ok(Proceeded::Idle),

@@ -1,9 +1,10 @@
 // The messages of a channel.
-ghost use Rattle.std.specs.Prelude.{◌≡◌, OnOk, flat_map};
+ghost use Rattle.std.specs.Prelude.{◌≡◌, OnOk, OnErr, flat_map};
 ghost use Rattle.psu_hislip.specs.Action.{acts};
 ghost use Rattle.psu_hislip.specs.Stream.{received};
 ghost use Rattle.psu_session.specs.Step.{Each, IsMessageReceived, release_in, works_in};
 ghost use Rattle.psu_session.specs.Serving.{Appends, PerformsStep};
+ghost use Rattle.psu_session.specs.Stopping.{CallsPrefix, StopsIn};
 ghost use Rattle.psu_session.specs.Shown.{state_of};
 ghost use Rattle.psu_session.specs.State.{numbered};
 
@@ -22,8 +23,9 @@ impl Parts {
         number: u32,
         actions: Actions<Global>,
     ) -> Result<(), Ended>
-        ensures { OnOk result (Appends D.does (Each (state_of self.old).lock_waits (acts actions.items)) (flat_map works_in (acts actions.items)) (flat_map (release_in now number) (acts actions.items)) (state_of self.old) device.old
+        ensures done { OnOk result (Appends D.does (Each (state_of self.old).lock_waits (acts actions.items)) (flat_map works_in (acts actions.items)) (flat_map (release_in now number) (acts actions.items)) (state_of self.old) device.old
             (state_of self.new) device.new) }
+        ensures stopped { OnErr result (CallsPrefix D.does (Each (state_of self.old).lock_waits (acts actions.items)) device.old device.new) }
     {
         let mut rest = actions.into_iter();
         while let Some(action) = rest.next() {
@@ -50,7 +52,8 @@ impl Parts {
         message: Message<Global>,
         device: &mut D,
     ) -> Result<(), Ended>
-        ensures { OnOk result (PerformsStep D.does (IsMessageReceived now side (received message)) (state_of self.old) device.old (state_of self.new) device.new) }
+        ensures done { OnOk result (PerformsStep D.does (IsMessageReceived now side (received message)) (state_of self.old) device.old (state_of self.new) device.new) }
+        ensures stopped { OnErr result (StopsIn D.does (IsMessageReceived now side (received message)) (state_of self.old) device.old device.new) }
     {
         let number = number_on(side, &message);
         let id = parameter(&message);

@@ -1,16 +1,17 @@
 // A session.
-ghost use Rattle.std.specs.Prelude.{◌≡◌, ◌⊎◌, ◌↔◌, ◌+◌, IsTrue, true, false, [], ◌∷◌, IfOk, OnOk, OnErr, IfSome, IsNone, IsTrue};
+ghost use Rattle.std.specs.Prelude.{◌≡◌, ◌⊎◌, ◌↔◌, ◌+◌, ℕ, IsTrue, true, false, Some, [], ◌∷◌, IfOk, OnOk, OnErr, IfSome, IsNone, IsTrue};
 ghost use Rattle.psu_hislip.specs.Channel.{Fed};
 ghost use Rattle.psu_hislip.specs.Frame.{header_of};
 ghost use Rattle.psu_hislip.specs.Stream.{Received};
 ghost use Rattle.psu_hislip.specs.declared.message_type.MessageType.TheVariants.{InitializeResponse};
-ghost use Rattle.psu_session.specs.Events.{Took, Wrote};
+ghost use Rattle.psu_session.specs.Events.{Fetched, Took, Wrote};
 ghost use Rattle.psu_session.specs.History.{HasExchangeHistory};
 ghost use Rattle.psu_session.specs.Holding.{IsBounded, IsFull};
 ghost use Rattle.psu_session.specs.Releasing.{due_at};
 ghost use Rattle.psu_session.specs.Step.{IsReceived, IsServiceRequested, IsTaken, IsTicked, IsLockGranted, IsWritten};
 ghost use Rattle.psu_session.specs.Proceeding.{Awaits, Proceeds};
 ghost use Rattle.psu_session.specs.Serving.{Appends, PerformsStep};
+ghost use Rattle.psu_session.specs.Stopping.{StopsIn, StopsNext};
 ghost use Rattle.psu_session.specs.State.{HasWork, Start, fresh, output, writes};
 
 use crate::laws::histories_are_exchanges;
@@ -22,7 +23,8 @@ use std::alloc::Global;
 use std::marker::Model;
 
 /// A session. Contracts see its state. At any time there is a history that leads to this state, unless an allocation
-/// has failed or a connection has ended: then the session is over, and each call returns an error.
+/// has failed or a connection has ended: then the session is over, and each call returns an error. A call in which an
+/// allocation fails has called the device for a prefix of what it is to do; a call after that does not call the device.
 #[derive(Drop)]
 pub struct Session {
     parts: Parts,
@@ -94,6 +96,8 @@ impl Session {
         ensures continues { OnOk result (self.new.over ≡ false) }
         ensures done { OnOk result (PerformsStep D.does (IsReceived now side received_bytes.now) self.old.state device.old self.new.state device.new) }
         ensures ended { OnErr result (self.new.over ≡ true) }
+        ensures stopped { OnErr result ((device.new ≡ device.old) ⊎ StopsIn D.does (IsReceived now side received_bytes.now) self.old.state device.old device.new) }
+        ensures over { self.old.over ≡ true → device.new ≡ device.old }
     {
         if self.over {
             return Err(Ended);
@@ -109,6 +113,7 @@ impl Session {
         ensures continues { OnOk result (self.new.over ≡ false) }
         ensures done { OnOk result (Appends D.does (IsLockGranted self.old.state.lock_waits grant) [] [] self.old.state device.old self.new.state device.new) }
         ensures ended { OnErr result (self.new.over ≡ true) }
+        ensures uncalled { device.new ≡ device.old }
     {
         if self.over {
             return Err(Ended);
@@ -124,6 +129,8 @@ impl Session {
         ensures continues { OnOk result (self.new.over ≡ false) }
         ensures done { OnOk result (Appends D.does IsServiceRequested [] [] self.old.state device.old self.new.state device.new) }
         ensures ended { OnErr result (self.new.over ≡ true) }
+        ensures stopped { OnErr result (self.old.over ≡ false → (byte : ℕ) × D.does device.old (Fetched (Some byte)) device.new) }
+        ensures over { self.old.over ≡ true → device.new ≡ device.old }
     {
         if self.over {
             return Err(Ended);
@@ -142,6 +149,8 @@ impl Session {
         ensures waits { IfOk result (λ proceeded. Awaits D.does proceeded device.new) }
         ensures done { IfOk result (λ proceeded. PerformsStep D.does (Proceeds proceeded) self.old.state device.old self.new.state device.new) }
         ensures ended { OnErr result (self.new.over ≡ true) }
+        ensures stopped { OnErr result (self.old.over ≡ false → StopsNext D.does self.old.state device.old device.new) }
+        ensures over { self.old.over ≡ true → device.new ≡ device.old }
     {
         if self.over {
             return Err(Ended);

@@ -1,6 +1,10 @@
 use Rattle.std.proofs.Common.{ap, refl}
 use Rattle.psu_messages.proofs.Going.{kept_advances, kept_interrupted}
+use Rattle.psu_messages.specs.Units.{source_of}
+use Rattle.psu_messages.specs.Shown.{progress_of}
 use Rattle.psu_session.proofs.Executing.{advanced}
+use Rattle.psu_session.proofs.Interrupting.{interrupted}
+use Rattle.psu_session.proofs.Stopping.{if_err}
 use Rattle.psu_session.proofs.execution.Execution.advance.Goals as goal
 
 pub returns-in_err-need-clause-output : goal.returns-in_err-need-clause-output
@@ -18,3 +22,8 @@ returns-clause-output g c = kept_advances c.in_ok-need.ensures.advances (λ x. x
 
 pub returns-clause-device : goal.returns-clause-device
 returns-clause-device g c = kept_advances c.in_ok-need.ensures.advances (λ x. x.device.ghost_name) (λ x y effect d. d.1)
+
+pub returns-in_err-need-clause-stopped : goal.returns-in_err-need-clause-stopped
+returns-in_err-need-clause-stopped g c =
+    if_err c.from_residual.result
+    (interrupted g.D.Device.does (λ x. x.device.now) (λ x y effect d. d.5) (λ x y request stop f. f) (λ x y stop d. d.2) (record { origin = c.args.self.now.origin; source = source_of c.args.input.now }) _ (progress_of c.args.progress.now) _ _ _ c.in_err-need.ensures.stops)

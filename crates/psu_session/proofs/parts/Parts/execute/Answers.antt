@@ -3,12 +3,14 @@ use Rattle.psu_messages.specs.Shown.{progress_of}
 use Rattle.psu_session.specs.Credit.{cost, cost_of}
 use Rattle.psu_session.specs.Proceeding.{Proceeds}
 use Rattle.psu_session.specs.Serving.{PerformsStep}
+use Rattle.psu_session.specs.Stopping.StopsNext.{StopsOrder}
 use Rattle.psu_session.specs.Shown.{one_running, order_of, state_of}
 use Rattle.psu_session.specs.State.{with_held, with_output}
 use Rattle.psu_session.specs.declared.order.Order.{Order}
 use Rattle.psu_session.specs.declared.proceeded.Proceeded.TheVariants.{Completed}
 use Rattle.psu_hislip.specs.declared.side.Side.TheVariants.{Sync}
 use Rattle.psu_session.proofs.Stepping.{dropped, over, waits}
+use Rattle.psu_session.proofs.Stopping.{if_err}
 use Rattle.psu_session.proofs.parts.Parts.execute.Goals as goal
 
 pub returns-then-not-is_current-clause-done : goal.returns-then-not-is_current-clause-done
@@ -30,3 +32,7 @@ returns-in-None-clause-done g c = λ s next.
 pub returns-in-Some-clause-done : goal.returns-in-Some-clause-done
 returns-in-Some-clause-done g c = λ s next. waits g.D.Device.does s (one_running c.args.running) (state_of c.args.self.now) c.args.device.now (progress_of c.advance.new.running.progress) c.advance.new.output.items c.advance.new.device (order_of c.advance.new.running.order)
     c.in-Some.need next (c.if-not-is_current.ensures.0 refl) c.in_ok-need.ensures.advances (ap order_of c.in_ok-need.ensures.order)
+
+pub returns-in_err-need-clause-stopped : goal.returns-in_err-need-clause-stopped
+returns-in_err-need-clause-stopped g c =
+    if_err c.from_residual.result (λ s next. StopsOrder (one_running c.args.running) (state_of c.args.self.now) next (c.if-not-is_current.ensures.0 refl) c.in_err-need.ensures.stopped)

@@ -9,15 +9,16 @@ use Rattle.psu_session.specs.Step.{Each, arrived, release_in, works_in}
 use Rattle.psu_session.specs.Shown.{state_of}
 use Rattle.psu_session.specs.State.{State, added, numbered, settled, with_core}
 use Rattle.psu_session.proofs.Serving.{on_ok}
+use Rattle.psu_session.proofs.Stopping.{all_called, if_err, not_passed, passed}
 use Rattle.psu_session.proofs.parts.Parts.receive_message.Goals as goal
 
-pub returns : goal.returns
-returns g c =
+pub returns-clause-done : goal.returns-clause-done
+returns-clause-done g c =
     let message = received c.args.message in
     let outcome = outcome_of c.args.self.now.core c.args.side message in
     let requested = acts c.in_ok-actions.actions.items in
     let is : requested ≡ outcome.actions = c.in_ok-actions.ensures.done in
-    let did = c.in_ok-act_all.ensures in
+    let did = c.in_ok-act_all.ensures.done in
     let s = state_of c.args.self.now in
     let all : c.clears-all.result ≡ clears requested = c.clears-all.ensures ∙ ap (λ (xs : List (Action _)). clears (acts xs)) c.as_slice.ensures.value in
     let begun : state_of c.act_all.new.self ≡ added (with_core s outcome.core) (flat_map works_in requested) (flat_map (release_in c.args.now (parameter message)) requested) did.done
@@ -37,3 +38,21 @@ returns g c =
       };
       runs = did.runs;
     }) c.settle.ensures
+
+pub returns-in_err-actions-clause-stopped : goal.returns-in_err-actions-clause-stopped
+returns-in_err-actions-clause-stopped g c =
+    if_err c.from_residual.result (not_passed g.D.Device.does c.args.now c.args.side (received c.args.message) (state_of c.args.self.now) c.args.device.now)
+
+pub returns-in_err-act_all-clause-stopped : goal.returns-in_err-act_all-clause-stopped
+returns-in_err-act_all-clause-stopped g c =
+    if_err c.from_residual-in_err-act_all.result
+    (passed g.D.Device.does c.args.now c.args.side (received c.args.message) (state_of c.args.self.now) (acts c.in_ok-actions.actions.items) c.args.device.now c.act_all.new.device c.in_ok-actions.ensures.done c.in_err-act_all.ensures.stopped)
+
+pub returns-clause-stopped : goal.returns-clause-stopped
+returns-clause-stopped g c =
+    let s = state_of c.args.self.now in
+    let requested = acts c.in_ok-actions.actions.items in
+    let did = c.in_ok-act_all.ensures.done in
+    if_err c.settle.result
+    (passed g.D.Device.does c.args.now c.args.side (received c.args.message) s requested c.args.device.now c.act_all.new.device c.in_ok-actions.ensures.done
+    (all_called g.D.Device.does (Each s.lock_waits requested) c.args.device.now c.act_all.new.device did.done did.are did.runs))

@@ -7,8 +7,8 @@ use Rattle.psu_session.specs.State.{added, with_owed}
 use Rattle.psu_session.proofs.Serving.{on_ok}
 use Rattle.psu_session.proofs.parts.Parts.release_lock.Goals as goal
 
-pub returns : goal.returns
-returns g c =
+pub returns-clause-done : goal.returns-clause-done
+returns-clause-done g c =
     let s = state_of c.args.self.now in
     on_ok c.put_header.result (λ did. record {
       reply = c.release-freed.result;

@@ -1,6 +1,13 @@
-use Rattle.std.proofs.Common.{◌∙◌, sym}
+use Rattle.std.proofs.Common.{◌∙◌, subst, sym}
+use Rattle.psu_session.specs.State.{Shown}
+use Rattle.psu_session.specs.Stopping.{StopsNext}
 use Rattle.psu_session.proofs.Stepping.{reached_if_ok}
+use Rattle.psu_session.proofs.Stopping.{on_err}
 use Rattle.psu_session.proofs.session.Session.proceed.Goals as goal
 
 pub invariant_of-self : goal.invariant_of-self
 invariant_of-self g c = λ e. reached_if_ok c.proceed-done.result (λ x m. (m.done, m.is.steps)) (sym c.is_err-self-inside.ensures.value ∙ e) c.proceed-done.ensures.done (c.self.invariant c.if-self.false)
+
+pub returns-clause-stopped : goal.returns-clause-stopped
+returns-clause-stopped g c =
+    on_err c.proceed-done.result (λ stops not_over. subst (λ (z : Shown). StopsNext g.D.Device.does z.state c.args.device.now c.proceed-done.new.device) c.self.view_is stops) c.proceed-done.ensures.stopped

@@ -1,0 +1,38 @@
+-- Which calls of the device a step has made when memory is refused, and the session is over. Source: memory may be
+-- refused between any two effects of a step, and a call of the device cannot be undone.
+use Rattle.std.specs.Prelude.{Result, List, ◌++◌, map}
+use Rattle.psu_locks.specs.declared.freed.Freed.{Freed}
+use Rattle.psu_locks.specs.declared.lock_refusal.LockRefusal.{LockRefusal}
+use Rattle.psu_hislip.specs.Core.{IsCurrent}
+use Rattle.psu_messages.specs.Effects.{Effect}
+use Rattle.psu_messages.specs.Executions.{Progress, Reaches}
+use Rattle.psu_session.specs.Events.{Call, Event, Released, call_of, calls}
+use Rattle.psu_session.specs.Exchange.{Order}
+use Rattle.psu_session.specs.Proceeding.{IsNext, IsNextRelease}
+use Rattle.psu_session.specs.Serving.{Runs}
+use Rattle.psu_session.specs.State.{Running, State}
+
+-- Of some such events, the device was called for a prefix, in order, and for nothing else.
+pub record CallsPrefix {X : Type 0} (does : X → Call → X → Type 0) (Are : List Event → Type 0) (x : X) (y : X) : Type 0 where
+  pub done : List Event
+  pub left : List Event
+  pub are : Are (done ++ left)
+  pub runs : Runs does x (calls done) y
+
+-- A step was not completed: the device was called for a prefix of its events, in order, and for nothing else.
+abbrev pub StopsIn : {X : Type 0} → (X → Call → X → Type 0) → (State → List Event → State → Type 0) → State → X → X → Type 0
+StopsIn does Is s x y = CallsPrefix does (λ done. (t : State) × Is s done t) x y
+
+-- The device was called for effects that advance a transmission from a point of its progress, in order, and for nothing
+-- else.
+pub record CallsAdvancing {X : Type 0} (does : X → Call → X → Type 0) (order : Order) (progress : Progress) (x : X) (y : X) : Type 0 where
+  pub effects : List Effect
+  pub new : Progress
+  pub reaches : (before : List Effect) → Reaches order.source before progress → Reaches order.source (before ++ effects) new
+  pub runs : Runs does x (map call_of effects) y
+
+-- The execution of what is next was not completed: the device was called for effects of the next transmission, which
+-- nothing has ended; or once, for the release of a lock that is next.
+pub data StopsNext {X : Type 0} (does : X → Call → X → Type 0) (s : State) (x y : X) : Type 0 where
+  StopsOrder : (next : Running) (t : State) → IsNext s next t → IsCurrent t.core next.order.origin → CallsAdvancing does next.order next.progress x y → StopsNext does s x y
+  StopsRelease : (t : State) → IsNextRelease s t → (reply : Result Freed LockRefusal) → does x (Released reply) y → StopsNext does s x y
