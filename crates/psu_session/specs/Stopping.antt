@@ -1,5 +1,6 @@
--- Which calls of the device a step has made when memory is refused, and the session is over. Source: memory may be
--- refused between any two effects of a step, and a call of the device cannot be undone.
+-- Which calls of the device a step has made where it is not completed, so that the session is over: memory was refused,
+-- or more would be held than a session may hold. Source: this may happen between any two effects of a step, and a call
+-- of the device cannot be undone.
 use Rattle.std.specs.Prelude.{Result, List, ◌++◌, map}
 use Rattle.psu_locks.specs.declared.freed.Freed.{Freed}
 use Rattle.psu_locks.specs.declared.lock_refusal.LockRefusal.{LockRefusal}

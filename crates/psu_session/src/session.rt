@@ -23,8 +23,8 @@ use std::alloc::Global;
 use std::marker::Model;
 
 /// A session. Contracts see its state. At any time there is a history that leads to this state, unless an allocation
-/// has failed or a connection has ended: then the session is over, and each call returns an error. A call in which an
-/// allocation fails has called the device for a prefix of what it is to do; a call after that does not call the device.
+/// has failed or a connection has ended: then the session is over, and each call returns an error. The first call that
+/// returns an error has called the device for a prefix of what it is to do, and later calls do not call the device.
 #[derive(Drop)]
 pub struct Session {
     parts: Parts,
