@@ -127,7 +127,13 @@ EachResponseIsOfTheHistory {X} honest does session seat = (start : Start) (first
 
 -- ---- a message with one response, as `*OPC?`
 
--- the history has this text in the reply of one of these entries
+-- the reply to a unit, or to the settle of one that had to wait, is this response
+abbrev pub HasReply : List ℕ → Entry → Type 0
+HasReply text (Entry.Executed session request reply) = reply ≡ device.Answer text
+HasReply text (Entry.Settled session reply) = reply ≡ device.Answer text
+HasReply text entry = ⊥
+
+-- one of the entries of a message has this reply
 pub record IsReplied (message : List Recorded) (text : List ℕ) : Type 0 where
   pub before : List Recorded
   pub event : Recorded
@@ -137,7 +143,7 @@ pub record IsReplied (message : List Recorded) (text : List ℕ) : Type 0 where
   pub entry : Entry
   pub later : List Entry
   pub entries : event.entries ≡ earlier ++ entry ∷ later
-  pub reply : responses_in entry ≡ text ∷ []
+  pub reply : HasReply text entry
 
 -- Where one unit of a message has a response, the client is sent the text of that reply and NL.
 abbrev pub OneResponseIsSent : Type 0
