@@ -5,11 +5,12 @@ ghost use Rattle.psu_messages.specs.Executions.{Advances, StopsAt};
 ghost use Rattle.psu_messages.specs.Stepping.{expanded_by, within};
 ghost use Rattle.psu_messages.specs.Units.{Source};
 
-use crate::reading::{Reading, pass_over, request_at};
+use crate::reading::{pass_over, request_at};
 use crate::refused::units_of;
 use crate::steps::take_step;
 use crate::{Executor, Need};
 use psu_answers::ResponseBuffer;
+use psu_tree::Path;
 use std::alloc::Allocator;
 
 /// The place of the next unit among `count` units, or their end if all are done.
@@ -41,13 +42,13 @@ pub(crate) fn expand<A: Allocator + Copy, F: Executor<A>>(
     let list = units.as_slice();
     let at = place_of(*done, list.len());
     let (before, rest) = list.split_at(at);
-    let mut reading = Reading::new();
-    pass_over(&mut reading, before, true);
+    let mut path = Path::root();
+    pass_over(&mut path, before, true);
     for unit in rest {
         if !executor.may_continue() {
             return Ok(Some(Need::Turn));
         }
-        let request = request_at(&mut reading, unit, true);
+        let request = request_at(&mut path, unit, true);
         let step = take_step(executor, &request, parked, gathered)?;
         if let Some(need) = step {
             return Ok(Some(need));

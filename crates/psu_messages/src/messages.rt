@@ -7,13 +7,14 @@ ghost use Rattle.psu_messages.specs.Stepping.{plain, within};
 ghost use Rattle.psu_messages.specs.Units.{Asks, EndsMessage, Fault, Source, Text, source_of};
 
 use crate::expansions::{expand, place_of};
-use crate::reading::{Reading, pass_over, request_at};
+use crate::reading::{pass_over, request_at};
 use crate::refused::units_of;
 use crate::responses::{add_response, close};
 use crate::tries::{Tried, attempt};
 use crate::{Executor, Expansion, Input, Need, Progress};
 use psu_exec::{Outcome, Request, ScpiError};
 use psu_lex::Bytes;
+use psu_tree::Path;
 use std::alloc::Allocator;
 
 // Executes an expansion in the place of the unit that it replaces.
@@ -142,6 +143,7 @@ fn close_before<A: Allocator + Copy, F: Executor<A>>(
 }
 
 // Executes the next unit; before the first unit of a message, ends the message before it.
+#[inline(always)]
 fn take_turn<A: Allocator + Copy, F: Executor<A>>(
     executor: &mut F,
     alloc: A,
@@ -184,13 +186,13 @@ pub fn execute_text<A: Allocator + Copy, F: Executor<A>>(
     let list = units.as_slice();
     let at = place_of(progress.units, list.len());
     let (before, rest) = list.split_at(at);
-    let mut reading = Reading::new();
-    pass_over(&mut reading, before, false);
+    let mut path = Path::root();
+    pass_over(&mut path, before, false);
     for unit in rest {
         if !executor.may_continue() {
             return Ok(Some(Need::Turn));
         }
-        let request = request_at(&mut reading, unit, false);
+        let request = request_at(&mut path, unit, false);
         let turn = take_turn(executor, alloc, unit.first, &request, progress)?;
         if let Some(need) = turn {
             return Ok(Some(need));
