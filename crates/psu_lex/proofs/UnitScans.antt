@@ -1,23 +1,22 @@
 -- What each token adds to the units, and what the scans of a unit and of a transmission add.
-use Rattle.std.proofs.Common.{◌≡◌, ℕ, ◌+◌, ◌<◌, Bool, true, false, List, [], ◌∷◌, ◌++◌, length, take, drop, refl, sym, ap, ◌∙◌, subst, arith, append_assoc, Option, Some, None, slice_index, drop-cons, ◌==◌, ◌||◌, ◌&&◌, inl, inr}
+use Rattle.std.proofs.Common.{◌≡◌, ℕ, ◌+◌, ◌<◌, Bool, true, false, List, [], ◌∷◌, ◌++◌, ◌-◌, length, take, drop, length-append, refl, sym, ap, ◌∙◌, subst, arith, append_assoc, Option, Some, None, slice_index, drop-cons, ◌==◌, ◌||◌, ◌&&◌, inl, inr}
 use Rattle.std.proofs.lemmas.List.{append-nil, take-append-drop, append_cancel_right}
-use Rattle.std.proofs.Math.Seq.{take-add}
+use Rattle.std.proofs.Math.Seq.{take-add, drop-append_seam}
 use Rattle.std.proofs.lemmas.Grind.{common_steps}
 use Rattle.memchr.specs.Find.{IsFirstByte, is_byte3}
 use Rattle.psu_lex.specs.Bytes.{opens, separates, is_closed, all_white}
-use Rattle.psu_lex.specs.Message.{opens_first, ends_unit, BeginsPiece, HasNoPiece, Makes, Part, ended, next_first, fault_of, spelling, part, parts, Token, Reads}
+use Rattle.psu_lex.specs.Message.{opens_first, ends_unit, BeginsPiece, EndsIn, HasNoPiece, Makes, Part, ended, next_first, fault_of, spelling, part, units_of, Token, Reads}
 use Rattle.psu_lex.specs.declared.unit.UnitFault.{UnitFault}
 use Rattle.psu_lex.specs.Message.Token.{Byte, Separator, Whole, Faulty}
-use Rattle.psu_lex.specs.Scan.{has, after_piece, stops, units_in}
+use Rattle.psu_lex.specs.Scan.{has, after_piece, stops}
 use Rattle.psu_lex.proofs.PieceScans.{whole}
 use Rattle.psu_lex.proofs.Searches.{has_head, has_tail, free_before, free_all, drop-add}
-use Rattle.psu_lex.specs.declared.unit.Unit as rust
 use Rattle.std.proofs.lemmas.Bool.{cases_Bool}
 use Rattle.std.proofs.Math.Bool.{or_assoc, or-false}
 use Rattle.std.proofs.lemmas.Bool.Decides.{nat_tests}
 use Rattle.psu_lex.specs.Syntax.{has_high}
 use Rattle.psu_lex.specs.SyntaxScan.{is_high}
-use Rattle.psu_lex.proofs.Tokens.{some_tokens}
+use Rattle.psu_lex.proofs.Tokens.{same_tokens, some_tokens}
 
 pub makes_run : (first : Bool) (run text rest : List ℕ) (units : List Part) → has separates run ≡ false → has opens run ≡ false
     → Makes first (text ++ run) rest units → Makes first text (run ++ rest) units
@@ -110,29 +109,46 @@ plain_at bytes rest piece at plain e p f =
       (free_parts (take plain (drop at bytes)) free).1,
     )
 
-parts_push : (us : List rust.Unit) (u : rust.Unit) → parts (us ++ u ∷ []) ≡ parts us ++ part u ∷ []
-parts_push [] u = refl
-parts_push (v ∷ us) u = ap (λ (z : List Part). part v ∷ z) (parts_push us u)
+-- no unit is left where no byte is left
+pub makes_none : (first : Bool) (units : List Part) → Makes first [] [] units → units ≡ []
+makes_none first units m = m.2 ∙ ap (units_of first []) (same_tokens is_closed [] m.0 [] m.1 refl)
 
--- a unit appended to others, where there is more than one
-pub units_push : (only : Option rust.Unit) (us vs : List rust.Unit) (u : rust.Unit) (all : List Part) → only ≡ None → parts (units_in only us) ≡ all → vs ≡ us ++ u ∷ [] → parts (units_in only vs) ≡ all ++ part u ∷ []
-units_push (Some v) us vs u all e a is = absurd (cc (e))
-units_push None us vs u all e a is = ap parts is ∙ parts_push us u ∙ ap (λ (z : List Part). z ++ part u ∷ []) a
+-- the units from a unit's separator on, and from its end where no byte is left
+pub pass_none : (first : Bool) (rest text : List ℕ) (units : List Part) → length rest ≡ 0 → Makes first [] rest units → Makes first text rest (ended first text ++ units)
+pass_none first [] text units n m =
+    subst (λ (z : List Part). Makes first text [] (ended first text ++ z)) (sym (makes_none first units m)) ([], refl, append-nil (ended first text))
+pass_none first (x ∷ rest) text units n m = absurd (omega (arith, n))
 
-pub split_end : (first : Bool) (rest text sep : List ℕ) (end : ℕ) → text ≡ take end rest → sep ≡ drop end rest → length sep ≡ 0 → Makes first (take end rest) (drop end rest) (ended first text)
-split_end first rest text [] end t s n = subst (λ (z : List ℕ). Makes first (take end rest) z (ended first text)) s (subst (λ (z : List ℕ). Makes first z [] (ended first text)) t ([], refl, refl))
-split_end first rest text (x ∷ sep) end t s n = absurd (omega (arith, n))
-
-pub split_step : (first next blank : Bool) (rest text sep later : List ℕ) (end : ℕ) (more : List Part) → text ≡ take end rest → sep ≡ drop end rest → (length sep ≡ 0 → ⊥) → ends_unit (drop end rest) ≡ true
-    → later ≡ drop 1 sep → next ≡ (slice_index sep 0 == 10 || (first && blank)) → blank ≡ all_white text → Makes next [] later more
-    → Makes first (take end rest) (drop end rest) (ended first text ++ more)
-split_step first next blank rest text [] later end more t s n u l f b m = absurd (n refl)
-split_step first next blank rest text (x ∷ sep) later end more t s n u l f b m =
+pub pass_some : (first next blank : Bool) (rest later text : List ℕ) (units : List Part) → (length rest ≡ 0 → ⊥) → ends_unit rest ≡ true → later ≡ drop 1 rest → next ≡ (slice_index rest 0 == 10 || (first && blank)) → blank ≡ all_white text
+    → Makes next [] later units → Makes first text rest (ended first text ++ units)
+pass_some first next blank [] later text units n u l f b m = absurd (n refl)
+pass_some first next blank (x ∷ rest) later text units n u l f b m =
     let is : next ≡ next_first first text x = f ∙ ap (λ (z : Bool). x == 10 || (first && z)) b in
-    let sp : separates x ≡ true = subst (λ (z : List ℕ). ends_unit z ≡ true) (sym s) u in
-    subst (λ (z : List ℕ). Makes first (take end rest) z (ended first text ++ more)) s
-    (subst (λ (z : List ℕ). Makes first z (x ∷ sep) (ended first text ++ more)) t
-    (makes_separator first x text sep more sp (subst (λ (z : Bool). Makes z [] sep more) is (subst (λ (z : List ℕ). Makes next [] z more) l m))))
+    makes_separator first x text rest units u (subst (λ (z : Bool). Makes z [] rest units) is (subst (λ (z : List ℕ). Makes next [] z units) l m))
+
+-- the units from the beginning of a unit on
+pub read_on : (first : Bool) (bytes unit more : List ℕ) (end : ℕ) (units : List Part) → unit ≡ take end bytes → more ≡ drop end bytes
+    → ((first : Bool) (units : List Part) → Makes first (take end bytes) (drop end bytes) units → Makes first [] bytes units)
+    → Makes first unit more (ended first unit ++ units) → Makes first [] bytes (ended first unit ++ units)
+read_on first bytes unit more end units u m ok made =
+    ok first (ended first unit ++ units) (subst (λ (z : List ℕ). Makes first (take end bytes) z (ended first unit ++ units)) m
+    (subst (λ (z : List ℕ). Makes first z more (ended first unit ++ units)) u made))
+
+pub ended_none : (first : Bool) (text : List ℕ) → all_white text ≡ true → ended first text ≡ []
+ended_none first text h = rw h refl
+
+-- the bytes behind some that were read
+pub ends_after : (n : ℕ) (bytes rest : List ℕ) → rest ≡ drop n bytes → EndsIn bytes rest
+ends_after n bytes rest e = (take n bytes, sym (take-append-drop n bytes) ∙ ap (λ (z : List ℕ). take n bytes ++ z) (sym e))
+
+pub ends_through : (bytes mid rest : List ℕ) → EndsIn bytes mid → EndsIn mid rest → EndsIn bytes rest
+ends_through bytes mid rest (xs, e) (ys, d) = (xs ++ ys, e ∙ ap (λ (z : List ℕ). xs ++ z) d ∙ sym (append_assoc xs ys rest))
+
+-- the last bytes are found by their number
+pub last_are : (bytes last rest : List ℕ) (left at : ℕ) → last ≡ drop at bytes → at ≡ length bytes - left → EndsIn bytes rest → length rest ≡ left → last ≡ rest
+last_are bytes last rest left at e is (xs, whole) n =
+    let there : at ≡ length xs = omega (arith, is, n, ap length whole ∙ length-append xs rest) in
+    e ∙ ap (λ (k : ℕ). drop k bytes) there ∙ ap (drop (length xs)) whole ∙ drop-append_seam xs rest
 
 pub ended_some : (first : Bool) (text : List ℕ) → all_white text ≡ false → ended first text ≡ record { text = text; first = first; fault = None } ∷ []
 ended_some first text h = rw h refl

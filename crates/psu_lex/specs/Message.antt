@@ -117,10 +117,10 @@ ends_unit (x ∷ xs) = separates x
 abbrev pub IsMessage : List ℕ → List Part → Type 0
 IsMessage bytes units = Makes true [] bytes units
 
+-- the last of the bytes
+abbrev pub EndsIn : List ℕ → List ℕ → Type 0
+EndsIn bytes rest = (read : List ℕ) × (bytes ≡ read ++ rest)
+
 -- a unit of the code, with its text as a list
 abbrev pub part : rust.Unit → Part
 part unit = record { text = unit.text.now; first = unit.first; fault = unit.fault }
-
-abbrev pub parts : List rust.Unit → List Part
-parts [] = []
-parts (unit ∷ units) = part unit ∷ parts units

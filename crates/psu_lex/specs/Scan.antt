@@ -2,7 +2,6 @@
 use Rattle.std.specs.Prelude.{ℕ, ◌+◌, ◌-◌, ◌==◌, ◌||◌, ◌&&◌, nat_lt, nat_le, Bool, true, false, List, [], ◌∷◌, length, take, drop, slice_index, Option, Some, None, if◌then◌else◌}
 use Rattle.std.specs.List.{list_any}
 use Rattle.psu_lex.specs.Bytes.{all_digits, ends_in_newline, is_quote, opens, separates, starts_quoted, value_after}
-use Rattle.psu_lex.specs.declared.unit.Unit as rust
 
 -- some byte passes the test
 abbrev pub has : (ℕ → Bool) → List ℕ → Bool
@@ -16,11 +15,6 @@ stops b = separates b || opens b
 abbrev pub stops_first : List ℕ → Bool
 stops_first [] = true
 stops_first (x ∷ xs) = stops x
-
--- the only unit, or all units of a list
-abbrev pub units_in : Option rust.Unit → List rust.Unit → List rust.Unit
-units_in None units = units
-units_in (Some unit) units = unit ∷ []
 
 -- ---- strings and blocks
 

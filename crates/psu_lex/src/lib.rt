@@ -32,7 +32,6 @@ pub use decimals::{fixed3, whole};
 pub use error_class::ErrorClass;
 pub use header_mark::HeaderMark;
 pub use macros::expand;
-pub use message::split;
 pub use names::{is_label, is_name};
 pub use numbers::number;
 pub use scpi_error::ScpiError;

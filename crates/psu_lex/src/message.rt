@@ -1,13 +1,12 @@
-// The units of a message.
-ghost use Rattle.std.specs.Prelude.{ℕ, List, [], ◌∷◌, ◌≡◌, ◌++◌, ◌+◌, ◌≤◌, ◌==◌, ◌||◌, ◌&&◌, Bool, Some, true, false, length, take, drop, IfOk, IfErr, OnOk};
+// Where the units of a message end.
+ghost use Rattle.std.specs.Prelude.{List, [], ◌∷◌, ◌≡◌, ◌≤◌, Bool, Some, true, false, length, take, drop, IfOk, IfErr};
 ghost use Rattle.psu_lex.specs.Bytes.{all_white, opens};
-ghost use Rattle.psu_lex.specs.Message.{IsMessage, Makes, Part, ended, ends_unit, fault_of, opens_first};
+ghost use Rattle.psu_lex.specs.Message.{Makes, Part, ends_unit, fault_of, opens_first};
 ghost use Rattle.psu_lex.specs.Scan.{has, stops, stops_first};
 
+use crate::UnitFault;
 use crate::class::is_white;
 use crate::pieces::{after, piece_end};
-use crate::{Unit, UnitFault, Units};
-use std::alloc::{AllocError, Allocator};
 
 /// Whether the byte begins a string or a block.
 fn opens(byte: u8) -> bool
@@ -63,7 +62,7 @@ fn fault_at(piece: &[u8]) -> UnitFault
 }
 
 /// Returns the length of the unit at the beginning, or its fault.
-fn unit_end(bytes: &[u8]) -> Result<usize, UnitFault>
+pub fn unit_end(bytes: &[u8]) -> Result<usize, UnitFault>
     ensures within { IfOk result (λ n. n ≤ length bytes.now) }
     ensures end { IfOk result (λ n. ends_unit (drop n bytes.now) ≡ true) }
     ensures ok { IfOk result (λ n. (first : Bool) (units : List Part) → Makes first (take n bytes.now) (drop n bytes.now) units → Makes first [] bytes.now units) }
@@ -94,62 +93,4 @@ pub fn is_blank(text: &[u8]) -> bool
         }
     }
     true
-}
-
-/// Adds the unit that ends here, unless it is white space alone, and returns whether it is.
-fn add<'a, A: Allocator + Copy>(
-    units: &mut Units<'a, A>,
-    text: &'a [u8],
-    first: bool,
-) -> Result<bool, AllocError>
-    ensures added { OnOk result (units.new ≡ units.old ++ ended first text.now) }
-    ensures blank { IfOk result (λ blank. blank ≡ all_white text.now) }
-{
-    if is_blank(text) {
-        return Ok(true);
-    }
-    units.push(Unit {
-        text,
-        first,
-        fault: None,
-    })?;
-    Ok(false)
-}
-
-/// Whether the unit after this one is the first of its message.
-fn is_first(first: bool, blank: bool, separator: u8) -> bool
-    ensures { result ≡ (separator == 10 || (first && blank)) }
-{
-    separator == b'\n' || (first && blank)
-}
-
-/// Splits a transmission, the bytes up to END, into its units. Nothing is copied. The only error is a failed
-/// allocation: a faulty string or block is reported as the fault of its unit.
-pub fn split<'a, A: Allocator + Copy>(alloc: A, bytes: &'a [u8]) -> Result<Units<'a, A>, AllocError>
-    ensures { IfOk result (λ units. IsMessage bytes.now units) }
-{
-    let mut units = Units::none(alloc);
-    let mut first = true;
-    let mut rest = bytes;
-    'units: loop {
-        match unit_end(rest) {
-            Err(fault) => {
-                units.push(Unit {
-                    text: rest,
-                    first,
-                    fault: Some(fault),
-                })?;
-                return Ok(units);
-            }
-            Ok(end) => {
-                let (text, more) = rest.split_at(end);
-                let blank = add(&mut units, text, first)?;
-                if more.is_empty() {
-                    return Ok(units);
-                }
-                first = is_first(first, blank, more[0]);
-                rest = after(more, 1);
-            }
-        }
-    }
 }

@@ -27,7 +27,7 @@ mod words;
 pub use command::{Command, nonvolatile};
 pub use form::Form;
 pub use lookups::form_of;
-pub use path::Path;
+pub use path::{Path, SavedPath};
 pub use queries::{Action, OutputQuery, Query};
 pub use readings::{read_unit, request};
 pub use rows::{Kind, Node, Row, Section};
