@@ -103,6 +103,7 @@ impl<'a> Units<'a> {
         ensures some { IfSome result (λ unit. (units : List Part) → Makes self.new.first [] self.new.text.now units → Makes self.old.first [] self.old.text.now (part unit ∷ units)) }
         ensures none { IfNone result (Makes self.old.first [] self.old.text.now []) }
         ensures rest { EndsIn self.old.text.now self.new.text.now }
+        ensures less { IfSome result (λ _. length self.new.text.now < length self.old.text.now) }
     {
         while !self.text.is_empty() {
             if let Some(unit) = self.read() {
