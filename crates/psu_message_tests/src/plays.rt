@@ -5,7 +5,7 @@ use crate::log::{Log, Turn};
 use crate::probe::{Probe, Stopped};
 use crate::spelled::{input, spelled};
 use psu_exec::Session;
-use psu_messages::{Input, Need, Progress, proceed};
+use psu_messages::{Input, Need, Transmission};
 use psu_tables::row;
 use std::alloc::Global;
 use std::process::Abort;
@@ -19,11 +19,10 @@ fn goes(
     exec: &mut Power,
     session: Session,
     log: &mut Log,
-    input: &Input<Global>,
-    progress: &mut Progress<Global>,
+    transmission: &mut Transmission<Global>,
 ) -> Result<Option<Need>, Stopped> {
     let mut probe = Probe { exec, session, log };
-    proceed(&mut probe, alloc, input, progress)
+    transmission.proceed(&mut probe, alloc)
 }
 
 // Whether a unit waits for what it is to wait for, and that occurs: a flush has to succeed.
@@ -38,11 +37,11 @@ fn runs_to_end(
     exec: &mut Power,
     session: Session,
     log: &mut Log,
-    input: &Input<Global>,
+    input: Input<Global>,
 ) -> bool {
-    let mut progress = Progress::new(alloc);
+    let mut transmission = Transmission::new(alloc, input);
     for _ in 0..WAITS {
-        match goes(alloc, exec, session, log, input, &mut progress) {
+        match goes(alloc, exec, session, log, &mut transmission) {
             Ok(None) => return true,
             Ok(Some(need)) if comes(exec, log, need) => {}
             _ => return false,
@@ -56,7 +55,7 @@ fn all_run_to_end(alloc: Global, exec: &mut Power, log: &mut Log, given: &str) -
     let session = opened(exec)?;
     for cell in given.split(" & ") {
         let input = input(alloc, cell)?;
-        if !runs_to_end(alloc, exec, session, log, &input) {
+        if !runs_to_end(alloc, exec, session, log, input) {
             return Some(false);
         }
     }

@@ -1,8 +1,10 @@
 pub mod Effects
 pub mod Standing
 pub mod Units
+pub mod Places
 pub mod Executions
 pub mod Shown
+pub mod Transmissions
 pub mod Stepping
 pub mod Answers
 pub mod Turns

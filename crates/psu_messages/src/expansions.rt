@@ -1,29 +1,20 @@
 // The units of an expansion, in the place of the unit that it replaces.
-ghost use Rattle.std.specs.Prelude.{◌≡◌, ℕ, min, IfOk, IfErr, IfSome};
+ghost use Rattle.std.specs.Prelude.{ℕ, IfOk, IfErr, IfSome};
 ghost use Rattle.psu_messages.specs.Effects.{IsAwaited};
 ghost use Rattle.psu_messages.specs.Executions.{Advances, StopsAt};
 ghost use Rattle.psu_messages.specs.Stepping.{expanded_by, within};
 ghost use Rattle.psu_messages.specs.Units.{Source};
 
-use crate::reading::{pass_over, request_at};
-use crate::refused::units_of;
+use crate::cursor::Cursor;
 use crate::steps::take_step;
 use crate::{Executor, Need};
 use psu_answers::ResponseBuffer;
-use psu_tree::Path;
+use psu_lex::laws::every_list_has_units;
 use std::alloc::Allocator;
-
-/// The place of the next unit among `count` units, or their end if all are done.
-pub(crate) fn place_of(done: u64, count: usize) -> usize
-    ensures { result ≡ min done count }
-{
-    count.min(done as usize)
-}
 
 /// Executes the rest of an expansion. Returns what has to be waited for, if the expansion isn't done then.
 pub(crate) fn expand<A: Allocator + Copy, F: Executor<A>>(
     executor: &mut F,
-    alloc: A,
     body: &[u8],
     done: &mut u64,
     parked: &mut bool,
@@ -35,20 +26,17 @@ pub(crate) fn expand<A: Allocator + Copy, F: Executor<A>>(
     ensures stops { IfErr result (λ stop. (source : Source) (units : ℕ)
         → StopsAt F.does F.fails F.stops source executor.old (within units body.now done.old parked.old gathered.old) stop executor.new gathered.new) }
 {
-    let units = match units_of(alloc, body) {
-        Ok(units) => units,
-        Err(refused) => return Err(executor.out_of_memory(refused)),
-    };
-    let list = units.as_slice();
-    let at = place_of(*done, list.len());
-    let (before, rest) = list.split_at(at);
-    let mut path = Path::root();
-    pass_over(&mut path, before, true);
-    for unit in rest {
+    every_list_has_units();
+    let mut cursor = Cursor::of(body);
+    cursor.pass_to(*done, true);
+    'units: loop {
         if !executor.may_continue() {
             return Ok(Some(Need::Turn));
         }
-        let request = request_at(&mut path, unit, true);
+        let Some(unit) = cursor.next_unit() else {
+            break;
+        };
+        let request = cursor.request(&unit, true);
         let step = take_step(executor, &request, parked, gathered)?;
         if let Some(need) = step {
             return Ok(Some(need));

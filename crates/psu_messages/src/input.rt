@@ -1,4 +1,6 @@
 // What is executed.
+ghost use Rattle.std.specs.Prelude.{◌≡◌};
+ghost use Rattle.psu_messages.specs.Units.{size_of, source_of};
 
 use psu_exec::ScpiError;
 use std::alloc::Allocator;
@@ -10,4 +12,16 @@ pub enum Input<A: Allocator + Copy> {
     Text(Vec<u8, A>),
     /// The error that the instrument reports in place of a transmission.
     Fault(ScpiError),
+}
+
+impl<A: Allocator + Copy> Input<A> {
+    /// Returns the number of bytes of its text; none where there is no text.
+    pub fn size(&self) -> usize
+        ensures { result ≡ size_of (source_of self.now) }
+    {
+        match self {
+            Input::Text(text) => text.len(),
+            Input::Fault(_) => 0,
+        }
+    }
 }

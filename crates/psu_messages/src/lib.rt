@@ -2,6 +2,7 @@
 //! responses. Nothing here waits. The executor of the units is known only by what was asked of it.
 #![tactic(auto)]
 
+mod cursor;
 mod executor;
 mod expansion;
 mod expansions;
@@ -10,10 +11,10 @@ mod laws;
 mod messages;
 mod need;
 mod progress;
-mod reading;
 mod refused;
 mod responses;
 mod steps;
+mod transmission;
 mod tries;
 
 pub use executor::Executor;
@@ -22,7 +23,8 @@ pub use input::Input;
 pub use laws::{
     calls_are_one_execution, over_is_done, over_is_messages, over_is_sent, so_far_is_messages,
 };
-pub use messages::{execute_fault, execute_text, proceed};
+pub use messages::{execute_fault, execute_text};
 pub use need::Need;
 pub use progress::Progress;
 pub use refused::Refused;
+pub use transmission::Transmission;

@@ -1,26 +1,25 @@
 // The execution of a transmission, unit by unit, with a response message for each message that has responses.
-ghost use Rattle.std.specs.Prelude.{◌≡◌, ◌+◌, ◌<◌, ◌^◌, true, false, None, IfOk, IfErr, IfSome, OnOk, OnErr};
+ghost use Rattle.std.specs.Prelude.{◌≡◌, ℕ, List, ◌+◌, ◌<◌, ◌≤◌, ◌^◌, true, false, None, IfOk, IfErr, IfSome, OnOk, OnErr};
 ghost use Rattle.psu_messages.specs.Effects.{IsAwaited};
-ghost use Rattle.psu_messages.specs.Executions.{Advances, IsInterrupted, IsNext, IsOver, NextUnit, StopsAt};
+ghost use Rattle.psu_messages.specs.Executions.{Advances, IsNext, IsOver, NextUnit, StopsAt};
+ghost use Rattle.psu_messages.specs.Places.{IsCursor, IsKept};
 ghost use Rattle.psu_messages.specs.Shown.{progress_of};
 ghost use Rattle.psu_messages.specs.Stepping.{plain, within};
-ghost use Rattle.psu_messages.specs.Units.{Asks, EndsMessage, Fault, Source, Text, source_of};
+ghost use Rattle.psu_messages.specs.Units.{Asks, EndsMessage, Fault, Source, Text};
 
-use crate::expansions::{expand, place_of};
-use crate::reading::{pass_over, request_at};
-use crate::refused::units_of;
+use crate::cursor::{Cursor, Place};
+use crate::expansions::expand;
 use crate::responses::{add_response, close};
 use crate::tries::{Tried, attempt};
-use crate::{Executor, Expansion, Input, Need, Progress};
+use crate::{Executor, Expansion, Need, Progress};
 use psu_exec::{Outcome, Request, ScpiError};
 use psu_lex::Bytes;
-use psu_tree::Path;
+use psu_lex::laws::every_list_has_units;
 use std::alloc::Allocator;
 
 // Executes an expansion in the place of the unit that it replaces.
 fn replace<A: Allocator + Copy, F: Executor<A>>(
     executor: &mut F,
-    alloc: A,
     body: Bytes<A>,
     progress: &mut Progress<A>,
 ) -> Result<Option<Need>, F::Stop>
@@ -28,6 +27,7 @@ fn replace<A: Allocator + Copy, F: Executor<A>>(
     requires units { progress.old.units + 1 < 2 ^ 64 }
     ensures advances { IfOk result (λ _. (source : Source) → Advances F.does source executor.old (within progress.old.units body 0 progress.old.parked progress.old.gathered) executor.new (progress_of progress.new)) }
     ensures units { IfOk result (λ need. need ≡ None → progress.new.units ≡ progress.old.units + 1) }
+    ensures grows { progress.old.units ≤ progress.new.units }
     ensures waits { IfOk result (λ some. IfSome some (IsAwaited F.does F.yields executor.new)) }
     ensures stops { IfErr result (λ stop. (source : Source)
         → StopsAt F.does F.fails F.stops source executor.old (within progress.old.units body 0 progress.old.parked progress.old.gathered) stop executor.new progress.new.gathered) }
@@ -35,7 +35,6 @@ fn replace<A: Allocator + Copy, F: Executor<A>>(
     let mut expansion = Expansion { body, done: 0 };
     let need = expand(
         executor,
-        alloc,
         expansion.body.as_slice(),
         &mut expansion.done,
         &mut progress.parked,
@@ -57,7 +56,6 @@ fn replace<A: Allocator + Copy, F: Executor<A>>(
 #[inline(always)]
 fn begin<A: Allocator + Copy, F: Executor<A>>(
     executor: &mut F,
-    alloc: A,
     request: &Request<'_>,
     progress: &mut Progress<A>,
 ) -> Result<Option<Need>, F::Stop>
@@ -66,6 +64,7 @@ fn begin<A: Allocator + Copy, F: Executor<A>>(
     ensures advances { IfOk result (λ _. (source : Source) → IsNext source (plain progress.old.units progress.old.parked progress.old.gathered) request.now
         → Advances F.does source executor.old (plain progress.old.units progress.old.parked progress.old.gathered) executor.new (progress_of progress.new)) }
     ensures units { IfOk result (λ need. need ≡ None → progress.new.units ≡ progress.old.units + 1) }
+    ensures grows { progress.old.units ≤ progress.new.units }
     ensures waits { IfOk result (λ some. IfSome some (IsAwaited F.does F.yields executor.new)) }
     ensures stops { IfErr result (λ stop. (source : Source) → IsNext source (plain progress.old.units progress.old.parked progress.old.gathered) request.now
         → StopsAt F.does F.fails F.stops source executor.old (plain progress.old.units progress.old.parked progress.old.gathered) stop executor.new progress.new.gathered) }
@@ -73,7 +72,7 @@ fn begin<A: Allocator + Copy, F: Executor<A>>(
     match attempt(executor, &mut progress.parked, request)? {
         Tried::Waits(need) => Ok(Some(need)),
         Tried::Ended(outcome) => match outcome {
-            Outcome::Expand(body) => replace(executor, alloc, body, progress),
+            Outcome::Expand(body) => replace(executor, body, progress),
             outcome => {
                 add_response(executor, &mut progress.gathered, &outcome)?;
                 progress.units += 1;
@@ -87,7 +86,6 @@ fn begin<A: Allocator + Copy, F: Executor<A>>(
 #[inline(always)]
 fn perform<A: Allocator + Copy, F: Executor<A>>(
     executor: &mut F,
-    alloc: A,
     request: &Request<'_>,
     progress: &mut Progress<A>,
 ) -> Result<Option<Need>, F::Stop>
@@ -95,16 +93,16 @@ fn perform<A: Allocator + Copy, F: Executor<A>>(
     ensures advances { IfOk result (λ _. (source : Source) → NextUnit source (progress_of progress.old) request.now
         → Advances F.does source executor.old (progress_of progress.old) executor.new (progress_of progress.new)) }
     ensures units { IfOk result (λ need. need ≡ None → progress.new.units ≡ progress.old.units + 1) }
+    ensures grows { progress.old.units ≤ progress.new.units }
     ensures waits { IfOk result (λ some. IfSome some (IsAwaited F.does F.yields executor.new)) }
     ensures stops { IfErr result (λ stop. (source : Source) → NextUnit source (progress_of progress.old) request.now
         → StopsAt F.does F.fails F.stops source executor.old (progress_of progress.old) stop executor.new progress.new.gathered) }
 {
     let Some(expansion) = &mut progress.expansion else {
-        return begin(executor, alloc, request, progress);
+        return begin(executor, request, progress);
     };
     let need = expand(
         executor,
-        alloc,
         expansion.body.as_slice(),
         &mut expansion.done,
         &mut progress.parked,
@@ -146,7 +144,6 @@ fn close_before<A: Allocator + Copy, F: Executor<A>>(
 #[inline(always)]
 fn take_turn<A: Allocator + Copy, F: Executor<A>>(
     executor: &mut F,
-    alloc: A,
     first: bool,
     request: &Request<'_>,
     progress: &mut Progress<A>,
@@ -155,45 +152,42 @@ fn take_turn<A: Allocator + Copy, F: Executor<A>>(
     ensures advances { IfOk result (λ _. (source : Source) → Asks source progress.old.units request.now first
         → Advances F.does source executor.old (progress_of progress.old) executor.new (progress_of progress.new)) }
     ensures units { IfOk result (λ need. need ≡ None → progress.new.units ≡ progress.old.units + 1) }
+    ensures grows { progress.old.units ≤ progress.new.units }
     ensures waits { IfOk result (λ some. IfSome some (IsAwaited F.does F.yields executor.new)) }
     ensures stops { IfErr result (λ stop. (source : Source) → Asks source progress.old.units request.now first
         → StopsAt F.does F.fails F.stops source executor.old (progress_of progress.old) stop executor.new progress.new.gathered) }
 {
     close_before(executor, first, progress)?;
-    let need = perform(executor, alloc, request, progress)?;
+    let need = perform(executor, request, progress)?;
     Ok(need)
 }
 
-/// Executes the rest of a text, up to a unit that has to wait or before which the executor yields. Returns what is
-/// waited for, or none if the transmission is over. Another call continues the transmission, here or elsewhere. If the
-/// executor stops, it stops for good; responses that are not sent are still in the response buffer, except the response
-/// of a unit for which an allocation failed.
-pub fn execute_text<A: Allocator + Copy, F: Executor<A>>(
+// Executes the units of a text from a cursor on, up to a unit that has to wait or before which the executor yields.
+#[inline(always)]
+fn execute_units<'t, A: Allocator + Copy, F: Executor<A>>(
     executor: &mut F,
-    alloc: A,
-    bytes: &[u8],
+    cursor: &mut Cursor<'t>,
     progress: &mut Progress<A>,
 ) -> Result<Option<Need>, F::Stop>
-    ensures advances { IfOk result (λ _. Advances F.does (Text bytes.now) executor.old (progress_of progress.old) executor.new (progress_of progress.new)) }
-    ensures over { IfOk result (λ need. need ≡ None → IsOver (Text bytes.now) (progress_of progress.new)) }
+    requires { cursor.old.read ≡ progress.old.units }
+    ensures advances { IfOk result (λ _. (bytes : List ℕ) → IsCursor false bytes cursor.old → Advances F.does (Text bytes) executor.old (progress_of progress.old) executor.new (progress_of progress.new)) }
+    ensures over { IfOk result (λ need. (bytes : List ℕ) → IsCursor false bytes cursor.old → need ≡ None → IsOver (Text bytes) (progress_of progress.new)) }
     ensures waits { IfOk result (λ some. IfSome some (IsAwaited F.does F.yields executor.new)) }
-    ensures stops { IfErr result (λ stop. IsInterrupted F.does F.fails F.stops (Text bytes.now) executor.old (progress_of progress.old) stop executor.new progress.new.gathered) }
+    ensures stops { IfErr result (λ stop. (bytes : List ℕ) → IsCursor false bytes cursor.old
+        → StopsAt F.does F.fails F.stops (Text bytes) executor.old (progress_of progress.old) stop executor.new progress.new.gathered) }
+    ensures place { (bytes : List ℕ) → IsCursor false bytes cursor.old → IsCursor false bytes cursor.new }
+    ensures grows { progress.old.units ≤ progress.new.units }
 {
-    let units = match units_of(alloc, bytes) {
-        Ok(units) => units,
-        Err(refused) => return Err(executor.out_of_memory(refused)),
-    };
-    let list = units.as_slice();
-    let at = place_of(progress.units, list.len());
-    let (before, rest) = list.split_at(at);
-    let mut path = Path::root();
-    pass_over(&mut path, before, false);
-    for unit in rest {
+    every_list_has_units();
+    'units: loop {
         if !executor.may_continue() {
             return Ok(Some(Need::Turn));
         }
-        let request = request_at(&mut path, unit, false);
-        let turn = take_turn(executor, alloc, unit.first, &request, progress)?;
+        let Some(unit) = cursor.next_unit() else {
+            break;
+        };
+        let request = cursor.request(&unit, false);
+        let turn = take_turn(executor, unit.first, &request, progress)?;
         if let Some(need) = turn {
             return Ok(Some(need));
         }
@@ -202,18 +196,36 @@ pub fn execute_text<A: Allocator + Copy, F: Executor<A>>(
     Ok(None)
 }
 
+/// Executes a text from its beginning, up to a unit that has to wait or before which the executor yields. Returns what
+/// is waited for, or none if all of the text is executed. If the executor stops, it stops for good; responses that are
+/// not sent are still in the response buffer, except the response of a unit for which an allocation failed.
+pub fn execute_text<A: Allocator + Copy, F: Executor<A>>(
+    executor: &mut F,
+    bytes: &[u8],
+    progress: &mut Progress<A>,
+) -> Result<Option<Need>, F::Stop>
+    requires { progress.old.units ≡ 0 }
+    ensures advances { IfOk result (λ _. Advances F.does (Text bytes.now) executor.old (progress_of progress.old) executor.new (progress_of progress.new)) }
+    ensures over { IfOk result (λ need. need ≡ None → IsOver (Text bytes.now) (progress_of progress.new)) }
+    ensures waits { IfOk result (λ some. IfSome some (IsAwaited F.does F.yields executor.new)) }
+    ensures stops { IfErr result (λ stop. StopsAt F.does F.fails F.stops (Text bytes.now) executor.old (progress_of progress.old) stop executor.new progress.new.gathered) }
+{
+    let mut cursor = Cursor::of(bytes);
+    let need = execute_units(executor, &mut cursor, progress)?;
+    Ok(need)
+}
+
 /// Executes the report of an error in place of a text, as a text is executed.
 #[inline(never)]
 pub fn execute_fault<A: Allocator + Copy, F: Executor<A>>(
     executor: &mut F,
-    alloc: A,
     error: ScpiError,
     progress: &mut Progress<A>,
 ) -> Result<Option<Need>, F::Stop>
     ensures advances { IfOk result (λ _. Advances F.does (Fault error) executor.old (progress_of progress.old) executor.new (progress_of progress.new)) }
     ensures over { IfOk result (λ need. need ≡ None → IsOver (Fault error) (progress_of progress.new)) }
     ensures waits { IfOk result (λ some. IfSome some (IsAwaited F.does F.yields executor.new)) }
-    ensures stops { IfErr result (λ stop. IsInterrupted F.does F.fails F.stops (Fault error) executor.old (progress_of progress.old) stop executor.new progress.new.gathered) }
+    ensures stops { IfErr result (λ stop. StopsAt F.does F.fails F.stops (Fault error) executor.old (progress_of progress.old) stop executor.new progress.new.gathered) }
 {
     if progress.units > 0 {
         close(executor, &mut progress.gathered)?;
@@ -224,7 +236,7 @@ pub fn execute_fault<A: Allocator + Copy, F: Executor<A>>(
         reading: Err(error),
         inside: false,
     };
-    let turn = take_turn(executor, alloc, true, &request, progress)?;
+    let turn = take_turn(executor, true, &request, progress)?;
     if let Some(need) = turn {
         return Ok(Some(need));
     }
@@ -232,26 +244,33 @@ pub fn execute_fault<A: Allocator + Copy, F: Executor<A>>(
     Ok(None)
 }
 
-/// Executes the rest of a transmission: a text, or the report of an error in place of one.
-pub fn proceed<A: Allocator + Copy, F: Executor<A>>(
+/// Executes the rest of a text from a place that is kept, and keeps the place at which it stops.
+#[inline(always)]
+pub(crate) fn execute_rest<A: Allocator + Copy, F: Executor<A>>(
     executor: &mut F,
     alloc: A,
-    input: &Input<A>,
+    bytes: &[u8],
+    place: &mut Place<A>,
     progress: &mut Progress<A>,
 ) -> Result<Option<Need>, F::Stop>
-    ensures advances { IfOk result (λ _. Advances F.does (source_of input.now) executor.old (progress_of progress.old) executor.new (progress_of progress.new)) }
-    ensures over { IfOk result (λ need. need ≡ None → IsOver (source_of input.now) (progress_of progress.new)) }
+    requires kept { IsKept false bytes.now place.old }
+    requires done { place.old.read ≤ progress.old.units }
+    ensures advances { IfOk result (λ _. Advances F.does (Text bytes.now) executor.old (progress_of progress.old) executor.new (progress_of progress.new)) }
+    ensures over { IfOk result (λ need. need ≡ None → IsOver (Text bytes.now) (progress_of progress.new)) }
     ensures waits { IfOk result (λ some. IfSome some (IsAwaited F.does F.yields executor.new)) }
-    ensures stops { IfErr result (λ stop. IsInterrupted F.does F.fails F.stops (source_of input.now) executor.old (progress_of progress.old) stop executor.new progress.new.gathered) }
+    ensures stops { IfErr result (λ stop. StopsAt F.does F.fails F.stops (Text bytes.now) executor.old (progress_of progress.old) stop executor.new progress.new.gathered) }
+    ensures kept { IsKept false bytes.now place.new }
+    ensures done { place.new.read ≤ progress.new.units }
 {
-    match input {
-        Input::Text(text) => {
-            let need = execute_text(executor, alloc, text.as_slice(), progress)?;
-            Ok(need)
-        }
-        Input::Fault(error) => {
-            let need = execute_fault(executor, alloc, *error, progress)?;
-            Ok(need)
+    let mut cursor = place.cursor(bytes);
+    cursor.pass_to(progress.units, false);
+    let begun = cursor.save_between(alloc, place.read, progress.units);
+    let need = execute_units(executor, &mut cursor, progress)?;
+    if need.is_some() {
+        let reached = cursor.save_between(alloc, place.read, progress.units);
+        if let Some(kept) = reached.or(begun) {
+            *place = kept;
         }
     }
+    Ok(need)
 }

@@ -1,10 +1,8 @@
 // What asks for memory, and the sign that it was refused.
-ghost use Rattle.std.specs.Prelude.{◌≡◌, IfOk, OnOk, OnErr};
+ghost use Rattle.std.specs.Prelude.{◌≡◌, OnOk, OnErr};
 ghost use Rattle.psu_answers.specs.ResponseBuffer.{ended, appended};
-ghost use Rattle.psu_lex.specs.Message.{IsMessage};
 
 use psu_answers::ResponseBuffer;
-use psu_lex::{Units, split};
 use std::alloc::Allocator;
 
 // Keeps all but this file from making a `Refused`.
@@ -22,19 +20,6 @@ impl Refused {
     // The sign of an allocation that failed.
     fn new() -> Refused {
         Refused { seal: Seal }
-    }
-}
-
-/// Splits a transmission into its units.
-pub(crate) fn units_of<'a, A: Allocator + Copy>(
-    alloc: A,
-    bytes: &'a [u8],
-) -> Result<Units<'a, A>, Refused>
-    ensures { IfOk result (λ units. IsMessage bytes.now units) }
-{
-    match split(alloc, bytes) {
-        Ok(units) => Ok(units),
-        Err(_) => Err(Refused::new()),
     }
 }
 

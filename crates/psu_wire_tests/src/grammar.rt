@@ -1,8 +1,8 @@
 // The worked examples of the grammar; expected values by its rules.
 use crate::holds::holds;
 use psu_lex::{
-    Bytes, ScpiError, Unit, UnitFault, block, definite, expand, fixed3, is_label, is_name, number,
-    split, string,
+    Bytes, ScpiError, Unit, UnitFault, Units, block, definite, expand, fixed3, is_label, is_name,
+    number, string,
 };
 use psu_tables::{bytes, row, written};
 use std::alloc::Global;
@@ -27,32 +27,26 @@ fn is_unit(unit: &Unit<'_>, cell: &str) -> bool {
 }
 
 // Whether the units are exactly those of a cell.
-fn are_units(units: &[Unit<'_>], cell: &str) -> bool {
+fn are_units(units: Units<'_>, cell: &str) -> bool {
+    let mut units = units;
     if cell == "none" {
-        return units.is_empty();
+        return units.next_unit().is_none();
     }
     let mut cells = cell.split(" | ");
-    for unit in units {
+    while let Some(unit) = units.next_unit() {
         match cells.next() {
-            Some(cell) if is_unit(unit, cell) => {}
+            Some(cell) if is_unit(&unit, cell) => {}
             _ => return false,
         }
     }
     cells.next().is_none()
 }
 
-fn are_cut(alloc: Global, text: &[u8], wanted: &str) -> bool {
-    match split(alloc, text) {
-        Ok(units) => are_units(units.as_slice(), wanted),
-        Err(_) => false,
-    }
-}
-
 // Whether the units of a message are those of a cell, where `\n` means NL.
 fn is_cut(alloc: Global, text: &str, wanted: &str) -> Option<bool> {
     let text = written(alloc, text)?;
     let wanted = written(alloc, wanted)?;
-    Some(are_cut(alloc, text.as_bytes(), &wanted))
+    Some(are_units(Units::of(text.as_bytes()), &wanted))
 }
 
 // Whether a number reads as its row says, with this many decimal places.
@@ -200,7 +194,7 @@ cut A #0b;c\nD -> first A #0b;c\nD
 #[test]
 fn messages_are_cut_into_units(rt: HostRuntime) {
     all_hold(&rt, rt.alloc(), UNITS);
-    assert!(rt; are_cut(rt.alloc(), b" ; \n\t", "none"));
+    assert!(rt; are_units(Units::of(b" ; \n\t"), "none"));
 }
 
 const NUMBERS: &str = "
@@ -332,13 +326,11 @@ fn labels_of_macros_and_names_of_files(rt: HostRuntime) {
 }
 
 // Whether a message is one unit without a fault.
-fn is_one(alloc: Global, text: &[u8]) -> bool {
-    match split(alloc, text) {
-        Ok(units) => match units.as_slice() {
-            [unit] => unit.text == text && placed(unit) == "first",
-            _ => false,
-        },
-        Err(_) => false,
+fn is_one(text: &[u8]) -> bool {
+    let mut units = Units::of(text);
+    match units.next_unit() {
+        Some(unit) => unit.text == text && placed(&unit) == "first" && units.next_unit().is_none(),
+        None => false,
     }
 }
 
@@ -350,5 +342,5 @@ fn many_strings_are_cut_in_one_pass(rt: HostRuntime) {
             strings[at] = b',';
         }
     }
-    assert!(rt; is_one(rt.alloc(), &strings));
+    assert!(rt; is_one(&strings));
 }

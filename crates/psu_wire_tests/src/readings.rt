@@ -2,11 +2,10 @@
 // zero before it is checked.
 use crate::holds::holds;
 use crate::tree::{fail_as_told, read};
-use psu_lex::{ScpiError, Unit, split};
+use psu_lex::{ScpiError, Units};
 use psu_outputs::Output;
 use psu_tables::bracketed;
 use psu_tree::{Command, Enable, Flag, Level, Path, Query, Switch, request};
-use std::alloc::Global;
 
 // Units, and what each sets: enable registers, the flag of `*PSC`, the voltage of output 3, the state of output 2; or
 // what it queries.
@@ -135,26 +134,20 @@ const MESSAGE: &[u8] = b"*SRE 255; *sre? ;*ESE 'a";
 const READ: &str = "service 255, query service, fault 151";
 
 // Whether the readings of units are the cells of a text.
-fn are_told(units: &[Unit<'_>], cells: &str) -> bool {
+fn are_told(units: Units<'_>, cells: &str) -> bool {
+    let mut units = units;
     let mut path = Path::root();
     let mut cells = cells.split(", ");
-    for unit in units {
+    while let Some(unit) = units.next_unit() {
         match cells.next() {
-            Some(cell) if is_told(request(&mut path, unit, false).reading, cell) => {}
+            Some(cell) if is_told(request(&mut path, &unit, false).reading, cell) => {}
             _ => return false,
         }
     }
     cells.next().is_none()
 }
 
-fn are_read(alloc: Global) -> bool {
-    match split(alloc, MESSAGE) {
-        Ok(units) => are_told(units.as_slice(), READ),
-        Err(_) => false,
-    }
-}
-
 #[test]
 fn units_of_a_message_are_read(rt: HostRuntime) {
-    assert!(rt; are_read(rt.alloc()));
+    assert!(rt; are_told(Units::of(MESSAGE), READ));
 }

@@ -1,9 +1,8 @@
 // A unit's header and data by their rules; expected values by the rules of the grammar.
 use crate::holds::holds;
 use crate::tree::unit_of;
-use psu_lex::{Data, Datum, DatumClass, ScpiError, Unit, UnitFault, split, syntax};
+use psu_lex::{Data, Datum, DatumClass, ScpiError, Unit, UnitFault, Units, syntax};
 use psu_tables::bracketed;
-use std::alloc::Global;
 
 // Returns the class with this name.
 fn class_named(name: &str) -> Option<DatumClass> {
@@ -188,18 +187,14 @@ fn many_data_are_read_in_one_pass(rt: HostRuntime) {
 }
 
 // Whether the units of a prefix of a message have the faults that they were split with.
-fn begins(alloc: Global, text: &[u8]) -> bool {
-    match split(alloc, text) {
-        Ok(units) => {
-            for unit in units.as_slice() {
-                if !keeps_its_fault(unit) {
-                    return false;
-                }
-            }
-            true
+fn begins(text: &[u8]) -> bool {
+    let mut units = Units::of(text);
+    while let Some(unit) = units.next_unit() {
+        if !keeps_its_fault(&unit) {
+            return false;
         }
-        Err(_) => false,
     }
+    true
 }
 
 fn keeps_its_fault(unit: &Unit<'_>) -> bool {
@@ -215,6 +210,6 @@ fn keeps_its_fault(unit: &Unit<'_>) -> bool {
 fn beginnings_of_a_message_are_read(rt: HostRuntime) {
     let text = b" *DMC \"a\"\"b\" , #212a;b,c\n'\"#1x ,-1.5 E +2 MV;SYST:ERR? 'x";
     for length in 0..text.len() {
-        assert!(rt; begins(rt.alloc(), &text[..length]));
+        assert!(rt; begins(&text[..length]));
     }
 }

@@ -1,7 +1,7 @@
 // The command tree: headers of the table, and faults in their order. 0 means a command, another number the fault of the
 // reading.
 use crate::holds::holds;
-use psu_lex::{ScpiError, Unit, split};
+use psu_lex::{ScpiError, Unit, Units};
 use psu_tables::{row, written};
 use psu_tree::{Command, Path, read_unit, request};
 use std::alloc::Global;
@@ -51,11 +51,12 @@ fn is_word(word: Option<&str>, number: u16) -> bool {
 }
 
 // Whether the readings of units, in order, are those of a row.
-fn are_read(units: &[Unit<'_>], wanted: &str) -> bool {
+fn are_read(units: Units<'_>, wanted: &str) -> bool {
+    let mut units = units;
     let mut path = Path::root();
     let mut faults = wanted.split_whitespace();
-    for unit in units {
-        if !is_word(faults.next(), fault_at(&mut path, unit)) {
+    while let Some(unit) = units.next_unit() {
+        if !is_word(faults.next(), fault_at(&mut path, &unit)) {
             return false;
         }
     }
@@ -65,8 +66,7 @@ fn are_read(units: &[Unit<'_>], wanted: &str) -> bool {
 // Whether the readings of a message's units, in order, are those of a row.
 fn reads(alloc: Global, message: &str, wanted: &str) -> Option<bool> {
     let message = written(alloc, message)?;
-    let units = split(alloc, message.as_bytes()).ok()?;
-    Some(are_read(units.as_slice(), wanted))
+    Some(are_read(Units::of(message.as_bytes()), wanted))
 }
 
 /// Checks that the messages of a table read as its rows say. A row is a line: a message, in which `\n` means NL,

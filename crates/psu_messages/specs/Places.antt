@@ -1,0 +1,24 @@
+-- Places in a text, between two of its units: where an execution has stopped and continues.
+use Rattle.std.specs.Prelude.{◌≡◌, ◌⊎◌, ℕ, ◌+◌, ◌≤◌, Bool, List, [], ◌++◌, length}
+use Rattle.psu_lex.specs.Message.{Part, EndsIn, IsMessage, Makes}
+use Rattle.psu_messages.specs.Units.{Leads}
+use Rattle.psu_messages.specs.declared.cursor.Cursor.{Cursor}
+use Rattle.psu_messages.specs.declared.cursor.Place.{Place}
+
+-- A place in some bytes: so many units are before it, the bytes behind it give the others, and the next one is read at
+-- this path. Where no byte is behind it, fewer units may be before it.
+pub record IsAt (inside : Bool) (bytes : List ℕ) (done : ℕ) (rest : List ℕ) (first : Bool) (path : List (List ℕ)) : Type 0 where
+  pub before : List Part
+  pub count : (length before ≡ done) ⊎ ((rest ≡ []) × (length before ≤ done))
+  pub units : (more : List Part) → Makes first [] rest more → IsMessage bytes (before ++ more)
+  pub leads : Leads inside before path
+  pub ends : EndsIn bytes rest
+  pub few : length before + length rest ≤ length bytes
+
+-- the place of a cursor
+abbrev pub IsCursor : Bool → List ℕ → Cursor → Type 0
+IsCursor inside bytes cursor = IsAt inside bytes cursor.read cursor.units.text.now cursor.units.first cursor.path
+
+-- a place that is kept, by the number of bytes behind it
+abbrev pub IsKept : {A : Type 0} → Bool → List ℕ → Place A → Type 0
+IsKept inside bytes place = (rest : List ℕ) × (length rest ≡ place.left) × IsAt inside bytes place.read rest place.first place.path

@@ -1,0 +1,152 @@
+// A cursor over the units of a text, and the place at which one is kept.
+ghost use Rattle.std.specs.Prelude.{ℕ, List, [], ◌∷◌, Bool, ◌≡◌, ◌+◌, ◌<◌, ◌≤◌, ◌^◌, length, IfSome, IfNone};
+ghost use Rattle.psu_lex.specs.Message.{EndsIn, Makes, Part, part};
+ghost use Rattle.psu_messages.specs.Places.{IsCursor, IsKept};
+ghost use Rattle.psu_messages.specs.Units.{IsRequest, path_at};
+
+use psu_lex::{Unit, Units};
+use psu_tree::{Path, Request, SavedPath, request};
+use std::alloc::Allocator;
+
+/// A cursor over the units of a text.
+#[derive(Drop)]
+pub(crate) struct Cursor<'t> {
+    /// The units that are not read yet.
+    pub(crate) units: Units<'t>,
+    /// The path at which the next one is read.
+    pub(crate) path: Path<'t>,
+    /// How many units are before it.
+    pub(crate) read: u64,
+}
+
+impl<'t> Cursor<'t> {
+    /// Returns the cursor before the first unit of a text.
+    pub(crate) fn of(text: &'t [u8]) -> Cursor<'t>
+        ensures place { (inside : Bool) → IsCursor inside text.now result }
+        ensures read { result.read ≡ 0 }
+    {
+        Cursor {
+            units: Units::of(text),
+            path: Path::root(),
+            read: 0,
+        }
+    }
+
+    /// Returns the next unit. Where none is left, nothing has changed.
+    #[inline(always)]
+    pub(crate) fn next_unit(&mut self) -> Option<Unit<'t>>
+        ensures some { IfSome result (λ unit. (units : List Part) → Makes self.new.units.first [] self.new.units.text.now units
+            → Makes self.old.units.first [] self.old.units.text.now (part unit ∷ units)) }
+        ensures rest { EndsIn self.old.units.text.now self.new.units.text.now }
+        ensures less { IfSome result (λ _. length self.new.units.text.now < length self.old.units.text.now) }
+        ensures none { IfNone result (Makes self.old.units.first [] self.old.units.text.now []) }
+        ensures same { IfNone result (self.new.units ≡ self.old.units) }
+        ensures path { self.new.path ≡ self.old.path }
+        ensures read { self.new.read ≡ self.old.read }
+    {
+        let mut units = self.units;
+        let unit = units.next_unit()?;
+        self.units = units;
+        Some(unit)
+    }
+
+    /// Parses the unit that was returned last, and moves the path; the first unit of a message is read from the root.
+    #[inline(always)]
+    pub(crate) fn request(&mut self, unit: &Unit<'t>, inside: bool) -> Request<'t>
+        requires { self.old.read + 1 < 2 ^ 64 }
+        ensures request { IsRequest inside (path_at self.old.path (part unit.now)) (part unit.now) result self.new.path }
+        ensures units { self.new.units ≡ self.old.units }
+        ensures read { self.new.read ≡ self.old.read + 1 }
+    {
+        if unit.first {
+            self.path = Path::root();
+        }
+        self.read += 1;
+        request(&mut self.path, unit, inside)
+    }
+
+    /// Passes over units until so many were read. Where the text has fewer, none is left then.
+    pub(crate) fn pass_to(&mut self, count: u64, inside: bool)
+        ensures place { (bytes : List ℕ) → IsCursor inside bytes self.old → IsCursor inside bytes self.new }
+        ensures count { self.old.read ≤ count → self.new.read ≡ count }
+    {
+        while self.read < count {
+            let Some(unit) = self.next_unit() else {
+                self.units = Units::of(&[]);
+                self.read = count;
+                return;
+            };
+            self.request(&unit, inside);
+        }
+    }
+
+    // Returns the place of the cursor, to be kept without the text; none where memory is refused.
+    fn save<A: Allocator + Copy>(&self, alloc: A) -> Option<Place<A>>
+        ensures place { IfSome result (λ place. (inside : Bool) (bytes : List ℕ) → IsCursor inside bytes self.now → IsKept inside bytes place) }
+        ensures read { IfSome result (λ place. place.read ≡ self.now.read) }
+    {
+        let path = self.path.save(alloc).ok()?;
+        Some(Place {
+            read: self.read,
+            left: self.units.text.len(),
+            first: self.units.first,
+            path,
+        })
+    }
+
+    /// Returns the place of the cursor where more than `least` and at most `most` units are before it; else none.
+    pub(crate) fn save_between<A: Allocator + Copy>(
+        &self,
+        alloc: A,
+        least: u64,
+        most: u64,
+    ) -> Option<Place<A>>
+        ensures place { IfSome result (λ place. (inside : Bool) (bytes : List ℕ) → IsCursor inside bytes self.now → IsKept inside bytes place) }
+        ensures read { IfSome result (λ place. place.read ≤ most) }
+    {
+        if self.read <= least || most < self.read {
+            return None;
+        }
+        self.save(alloc)
+    }
+}
+
+/// A place between two units of a text, kept while the text is not read.
+#[derive(Drop)]
+pub(crate) struct Place<A: Allocator + Copy> {
+    /// How many units are before it.
+    pub(crate) read: u64,
+    /// How many bytes are behind it.
+    pub(crate) left: usize,
+    /// Whether the next unit is the first of its message.
+    pub(crate) first: bool,
+    /// The path at which the next unit is read.
+    pub(crate) path: SavedPath<A>,
+}
+
+impl<A: Allocator + Copy> Place<A> {
+    /// Returns the place before the first unit of a text of so many bytes.
+    pub(crate) fn start(alloc: A, size: usize) -> Place<A>
+        ensures place { (inside : Bool) (bytes : List ℕ) → length bytes ≡ size → IsKept inside bytes result }
+        ensures read { result.read ≡ 0 }
+    {
+        Place {
+            read: 0,
+            left: size,
+            first: true,
+            path: SavedPath::root(alloc),
+        }
+    }
+
+    /// Returns a cursor at this place of its text.
+    pub(crate) fn cursor<'t>(&'t self, text: &'t [u8]) -> Cursor<'t>
+        ensures place { (inside : Bool) → IsKept inside text.now self.now → IsCursor inside text.now result }
+        ensures read { result.read ≡ self.now.read }
+    {
+        Cursor {
+            units: Units::of_last(text, self.left, self.first),
+            path: self.path.restore(),
+            read: self.read,
+        }
+    }
+}
