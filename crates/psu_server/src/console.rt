@@ -2,7 +2,7 @@
 ghost use Rattle.std.specs.Prelude.{◌≡◌, [], List, ℕ, IfErr, IfOk, IfSome, OnOk, None, false};
 ghost use Rattle.psu_answers.specs.ResponseBuffer.{nothing};
 ghost use Rattle.psu_answers.specs.Response.{joined, response};
-ghost use Rattle.psu_messages.specs.Executions.{Advances, IsInterrupted, IsOver};
+ghost use Rattle.psu_messages.specs.Executions.{Advances, IsOver, StopsAt};
 ghost use Rattle.psu_messages.specs.Effects.{IsAwaited};
 ghost use Rattle.psu_messages.specs.Shown.{progress_of};
 ghost use Rattle.psu_tree.specs.declared.unit_request.Request.{Request as RequestData};
@@ -33,21 +33,21 @@ use std::mem;
 #[inline(always)]
 fn proceed<A: Allocator + Copy, F: Executor<A>>(
     executor: &mut F,
-    alloc: A,
     lines: &Lines<A>,
     progress: &mut Progress<A>,
 ) -> Result<Option<Need>, F::Stop>
+    requires { progress.old.units ≡ 0 }
     ensures goes { OnOk result (Advances F.does (line_source lines.now.is_too_long lines.now.line.items) executor.old (progress_of progress.old) executor.new (progress_of progress.new)) }
     ensures over { IfOk result (λ need. need ≡ None → IsOver (line_source lines.now.is_too_long lines.now.line.items) (progress_of progress.new)) }
     ensures waits { IfOk result (λ some. IfSome some (IsAwaited F.does F.yields executor.new)) }
-    ensures stops { IfErr result (λ stop. IsInterrupted F.does F.fails F.stops (line_source lines.now.is_too_long lines.now.line.items) executor.old (progress_of progress.old) stop executor.new
+    ensures stops { IfErr result (λ stop. StopsAt F.does F.fails F.stops (line_source lines.now.is_too_long lines.now.line.items) executor.old (progress_of progress.old) stop executor.new
         progress.new.gathered) }
 {
     if lines.is_too_long {
-        let need = execute_fault(executor, alloc, ScpiError::TooMuchData, progress)?;
+        let need = execute_fault(executor, ScpiError::TooMuchData, progress)?;
         return Ok(need);
     }
-    let need = execute_text(executor, alloc, lines.line.as_slice(), progress)?;
+    let need = execute_text(executor, lines.line.as_slice(), progress)?;
     Ok(need)
 }
 
@@ -130,7 +130,7 @@ impl<'p, 'w, W: Write, D: Disk, A: Allocator + Copy> Console<'p, 'w, W, D, A> {
             parked: false,
             gathered,
         };
-        let done = proceed(self, alloc, lines, &mut progress);
+        let done = proceed(self, lines, &mut progress);
         self.run_state.unwritten.gathered = progress.gathered;
         match done {
             Ok(need) => match need {

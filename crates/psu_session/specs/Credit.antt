@@ -1,16 +1,11 @@
 -- How much a session holds of what it has received and not executed.
 use Rattle.std.specs.Prelude.{ℕ, ◌+◌, List, [], ◌∷◌, length}
-use Rattle.psu_messages.specs.Units.{Source}
+use Rattle.psu_messages.specs.Units.{size_of}
 use Rattle.psu_session.specs.Exchange.{Order}
 
 -- an item counts as its bytes and 128, so that items without bytes are bounded too
 abbrev pub cost : ℕ → ℕ
 cost bytes = bytes + 128
-
--- the bytes of a text; an error that is reported in place of one has none
-abbrev pub size_of : Source → ℕ
-size_of (Source.Text bytes) = length bytes
-size_of (Source.Fault error) = 0
 
 -- what a transmission counts as
 abbrev pub cost_of : Order → ℕ

@@ -1,6 +1,5 @@
 -- The code's values as the definitions see them.
 use Rattle.std.specs.Prelude.{Option, Some, None, List, map}
-use Rattle.psu_messages.specs.Shown.{progress_of}
 use Rattle.psu_messages.specs.Units.{source_of}
 use Rattle.psu_session.specs.Exchange as exchange
 use Rattle.psu_session.specs.State as state
@@ -28,7 +27,10 @@ abbrev pub releases_of : List Release → List state.Release
 releases_of releases = map release_of releases
 
 abbrev pub one_running : Running → state.Running
-one_running running = record { order = order_of running.order; progress = progress_of running.progress }
+one_running running = record {
+  order = record { origin = running.origin; source = running.transmission.source };
+  progress = running.transmission.progress;
+}
 
 abbrev pub running_of : Option Running → Option state.Running
 running_of None = None

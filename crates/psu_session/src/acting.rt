@@ -58,9 +58,11 @@ impl Parts {
     fn order(&mut self, origin: Origin, input: Input<Global>) -> Result<(), Ended>
         ensures { OnOk result (state_of self.new ≡ added (state_of self.old) (Execute (order_of (record { origin = origin; input = input })) ∷ []) [] []) }
     {
-        let order = Order { origin, input };
-        self.held.take(order.size())?;
-        match self.waiting.push_back(Work::Execute(order)) {
+        self.held.take(input.size())?;
+        match self
+            .waiting
+            .push_back(Work::Execute(Order { origin, input }))
+        {
             Ok(()) => Ok(()),
             Err(_) => Err(Ended),
         }

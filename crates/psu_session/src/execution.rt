@@ -1,22 +1,20 @@
 // The execution of a transmission's units on a device. Their responses are appended to the output.
 ghost use Rattle.std.specs.Prelude.{◌≡◌, IfOk, IfSome, None, OnErr};
 ghost use Rattle.psu_messages.specs.Executions.{IsOver};
-ghost use Rattle.psu_messages.specs.Shown.{progress_of};
-ghost use Rattle.psu_messages.specs.Units.{source_of};
 ghost use Rattle.psu_session.specs.Events.{call_of};
 ghost use Rattle.psu_session.specs.Proceeding.{IsAwaited};
 ghost use Rattle.psu_session.specs.Serving.{AdvancesOrder, Puts};
-ghost use Rattle.psu_session.specs.Shown.{order_of};
+ghost use Rattle.psu_session.specs.Shown.{one_running};
 ghost use Rattle.psu_session.specs.Stopping.{CallsAdvancing};
 
 use crate::{Device, Ended, Running};
 use psu_exec::{Outcome, Request};
 use psu_hislip::{Origin, SessionCore};
-use psu_messages::{Executor, Input, Need, Progress, Refused, proceed};
+use psu_messages::{Executor, Need, Refused, Transmission};
 use std::alloc::Global;
 
 /// The number of units that a call tries before others are let in.
-const UNITS: u32 = 4_096;
+const UNITS: u32 = 64;
 
 /// The number of bytes of output at which others are let in.
 const ROOM: usize = 65_536;
@@ -87,18 +85,18 @@ impl<'a, 'b, 'c, D: Device> Execution<'a, 'b, 'c, D> {
     fn advance(
         &mut self,
         alloc: Global,
-        input: &Input<Global>,
-        progress: &mut Progress<Global>,
+        transmission: &mut Transmission<Global>,
     ) -> Result<Option<Need>, Ended>
-        ensures advances { IfOk result (λ _. AdvancesOrder D.does self.old.core.now (record { origin = self.old.origin; source = source_of input.now }) (progress_of progress.old) self.old.output.now.items self.old.device.now
-            (progress_of progress.new) self.new.output.now.items self.new.device.now) }
-        ensures over { IfOk result (λ need. need ≡ None → IsOver (source_of input.now) (progress_of progress.new)) }
+        ensures advances { IfOk result (λ _. AdvancesOrder D.does self.old.core.now (record { origin = self.old.origin; source = transmission.old.source }) transmission.old.progress self.old.output.now.items self.old.device.now
+            transmission.new.progress self.new.output.now.items self.new.device.now) }
+        ensures over { IfOk result (λ need. need ≡ None → IsOver transmission.old.source transmission.new.progress) }
         ensures waits { IfOk result (λ some. IfSome some (IsAwaited D.does self.new.device.now)) }
-        ensures stopped { OnErr result (CallsAdvancing D.does (record { origin = self.old.origin; source = source_of input.now }) (progress_of progress.old) self.old.device.now self.new.device.now) }
+        ensures stopped { OnErr result (CallsAdvancing D.does (record { origin = self.old.origin; source = transmission.old.source }) transmission.old.progress self.old.device.now self.new.device.now) }
+        ensures source { transmission.new.source ≡ transmission.old.source }
         ensures output { self.new.output.ghost_name ≡ self.old.output.ghost_name }
         ensures device { self.new.device.ghost_name ≡ self.old.device.ghost_name }
     {
-        let need = proceed(self, alloc, input, progress)?;
+        let need = transmission.proceed(self, alloc)?;
         Ok(need)
     }
 }
@@ -112,18 +110,18 @@ pub(crate) fn advance<D: Device>(
     device: &mut D,
     running: &mut Running,
 ) -> Result<Option<Need>, Ended>
-    ensures advances { IfOk result (λ _. AdvancesOrder D.does core.now (order_of running.old.order) (progress_of running.old.progress) output.old.items device.old (progress_of running.new.progress) output.new.items device.new) }
-    ensures over { IfOk result (λ need. need ≡ None → IsOver (source_of running.old.order.input) (progress_of running.new.progress)) }
+    ensures advances { IfOk result (λ _. AdvancesOrder D.does core.now (one_running running.old).order (one_running running.old).progress output.old.items device.old (one_running running.new).progress output.new.items device.new) }
+    ensures over { IfOk result (λ need. need ≡ None → IsOver (one_running running.old).order.source (one_running running.new).progress) }
     ensures waits { IfOk result (λ some. IfSome some (IsAwaited D.does device.new)) }
-    ensures stopped { OnErr result (CallsAdvancing D.does (order_of running.old.order) (progress_of running.old.progress) device.old device.new) }
-    ensures order { running.new.order ≡ running.old.order }
+    ensures stopped { OnErr result (CallsAdvancing D.does (one_running running.old).order (one_running running.old).progress device.old device.new) }
+    ensures order { (one_running running.new).order ≡ (one_running running.old).order }
 {
     let mut execution = Execution {
         core,
-        origin: running.order.origin,
+        origin: running.origin,
         output: &mut *output,
         device: &mut *device,
         left: UNITS,
     };
-    execution.advance(alloc, &running.order.input, &mut running.progress)
+    execution.advance(alloc, &mut running.transmission)
 }

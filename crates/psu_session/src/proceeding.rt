@@ -11,9 +11,9 @@ ghost use Rattle.psu_session.specs.State.{HasWork, State};
 
 use crate::execution::advance;
 use crate::next::Next;
-use crate::{Device, Ended, Parts, Proceeded, Running, Work};
+use crate::{Device, Ended, Order, Parts, Proceeded, Running, Work};
 use psu_hislip::release_response;
-use psu_messages::Progress;
+use psu_messages::Transmission;
 use std::mem;
 
 impl Parts {
@@ -31,8 +31,12 @@ impl Parts {
         }
         match self.waiting.pop_front()? {
             Work::Execute(order) => {
-                let progress = Progress::new(self.alloc);
-                Some(Next::Order(Running { order, progress }))
+                let Order { origin, input } = order;
+                let transmission = Transmission::new(self.alloc, input);
+                Some(Next::Order(Running {
+                    origin,
+                    transmission,
+                }))
             }
             Work::Release => Some(Next::Release),
         }
@@ -56,8 +60,8 @@ impl Parts {
         ensures stopped { OnErr result ((s : State) → IsNext s (one_running running) (state_of self.old) → StopsNext D.does s device.old device.new) }
     {
         let mut running = running;
-        if !self.core.is_current(running.order.origin) {
-            self.held.give_back(running.order.size());
+        if !self.core.is_current(running.origin) {
+            self.held.give_back(running.transmission.input().size());
             return Ok(Proceeded::Completed);
         }
         let need = advance(
@@ -69,7 +73,7 @@ impl Parts {
         )?;
         match need {
             None => {
-                self.held.give_back(running.order.size());
+                self.held.give_back(running.transmission.input().size());
                 Ok(Proceeded::Completed)
             }
             Some(need) => {

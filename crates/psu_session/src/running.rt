@@ -1,12 +1,12 @@
 // The transmission in execution.
 
-use crate::Order;
-use psu_messages::Progress;
+use psu_hislip::Origin;
+use psu_messages::Transmission;
 use std::alloc::Global;
 
-/// The transmission in execution, and its progress.
+/// The transmission in execution, and its origin.
 #[derive(Drop)]
 pub struct Running {
-    pub order: Order,
-    pub progress: Progress<Global>,
+    pub origin: Origin,
+    pub transmission: Transmission<Global>,
 }

@@ -94,15 +94,15 @@ fn lengths(rt: HostRuntime) {
 }
 
 const TURNS: &str = r#"
-== Others are let in after 4,096 units
+== Others are let in after 64 units
 1 opens
 1 joins
-1 sync DataEnd 0 xffffff00 {*TST?;*8191}*TST?;VOLT?\n
+1 sync DataEnd 0 xffffff00 {*TST?;*127}*TST?;VOLT?\n
 1 proceeds turn
 1 sends nothing
 1 proceeds turn
 1 proceeds completed
-1 sends DataEnd 0 xffffff00 {0;*8192}0.000\n
+1 sends DataEnd 0 xffffff00 {0;*128}0.000\n
 
 == Others are let in where there are 64 KiB to be sent
 1 opens
