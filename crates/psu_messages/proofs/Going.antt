@@ -10,7 +10,7 @@ use Rattle.psu_messages.specs.Stepping.{IsBrokenOff, IsLeft, IsResponse, parked_
 use Rattle.psu_messages.specs.declared.need.Need.{Need}
 use Rattle.psu_messages.specs.declared.need.Need.TheVariants.{Flush, Lock, Room}
 use Rattle.psu_messages.specs.Units.{Source}
-use Rattle.psu_messages.specs.Executions.{Progress, Reaches, Interruption, Advances, IsInterrupted, IsUnended, StopsAt, AddsResponse, Trial, IsNext, IsExpanded, tried, outside, sent, standing_after, expansion_after, text_after}
+use Rattle.psu_messages.specs.Executions.{Progress, Reaches, Interruption, Advances, IsUnended, StopsAt, AddsResponse, Trial, IsNext, IsExpanded, tried, outside, sent, standing_after, expansion_after, text_after}
 use Rattle.psu_messages.specs.Executions.Reaches.{Tries, Leaves, Sends}
 use Rattle.psu_messages.specs.Executions.Interruption.{Failed, Stopped, NotBuffered}
 use Rattle.psu_messages.specs.Shown.{progress}
@@ -199,10 +199,9 @@ module _ {X S : Type 0} {does : X → Effect → X → Type 0} {fails : X → Re
       record { mid = mid; new = tried c reply; advances = tries does source was mid c request reply next t; interruption = Stopped (inl (ap (λ (x : Text). x.answered) (sym same) ∙ answered)) s; text = same }
 
 -- the point that it had reached
-pub reached : {X S : Type 0} {does : X → Effect → X → Type 0} {fails : X → Request → S → X → Type 0} {stops : X → S → X → Type 0} {source : Source} {was now : X} {c : Progress} {stop : S} {left : Text} → IsInterrupted does fails stops source was c stop now left
+pub reached : {X S : Type 0} {does : X → Effect → X → Type 0} {fails : X → Request → S → X → Type 0} {stops : X → S → X → Type 0} {source : Source} {was now : X} {c : Progress} {stop : S} {left : Text} → StopsAt does fails stops source was c stop now left
     → (mid : X) × (d : Progress) × Advances does source was c mid d × (((request : Request) × fails mid request stop now) ⊎ stops mid stop now)
-reached {X} {S} {does} {fails} {stops} {source} {was} {now} {c} {stop} {left} (inl (s, same)) = (was, c, stay does source was was c refl, inr s)
-reached {X} {S} {does} {fails} {stops} {source} {was} {now} {c} {stop} {left} (inr h) = by h.interruption where
+reached {X} {S} {does} {fails} {stops} {source} {was} {now} {c} {stop} {left} h = by h.interruption where
   by : Interruption does fails stops source h.mid h.new stop now → (mid : X) × (d : Progress) × Advances does source was c mid d × (((request : Request) × fails mid request stop now) ⊎ stops mid stop now)
   by (Failed request next parked f) = (h.mid, h.new, h.advances, inl (request, f))
   by (Stopped begun s) = (h.mid, h.new, h.advances, inr s)
@@ -220,7 +219,7 @@ pub kept_advances : {X Y : Type 0} {does : X → Effect → X → Type 0} {sourc
 kept_advances {X} {Y} {does} {source} {x} {y} advances part keeps = kept does part keeps x advances.added y advances.runs
 
 -- also if the execution stopped
-pub kept_interrupted : {X Y S : Type 0} {does : X → Effect → X → Type 0} {fails : X → Request → S → X → Type 0} {stops : X → S → X → Type 0} {source : Source} {was now : X} {c : Progress} {stop : S} {left : Text} → IsInterrupted does fails stops source was c stop now left
+pub kept_interrupted : {X Y S : Type 0} {does : X → Effect → X → Type 0} {fails : X → Request → S → X → Type 0} {stops : X → S → X → Type 0} {source : Source} {was now : X} {c : Progress} {stop : S} {left : Text} → StopsAt does fails stops source was c stop now left
     → (part : X → Y) → ((x y : X) (effect : Effect) → does x effect y → part y ≡ part x) → ((x y : X) (request : Request) (stop : S) → fails x request stop y → part y ≡ part x) → ((x y : X) (stop : S) → stops x stop y → part y ≡ part x) → part now ≡ part was
 kept_interrupted {X} {Y} {S} {does} {fails} {stops} {source} {was} {now} {c} {stop} {left} halts part done failed stopped =
     let r = reached halts in

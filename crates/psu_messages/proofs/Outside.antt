@@ -1,8 +1,7 @@
 -- The units of a transmission, outside expansions.
 use Rattle.std.proofs.Common.{◌≡◌, not, ℕ, min, ◌+◌, ◌<◌, Bool, true, false, Option, Some, None, is_some, List, [], ◌∷◌, ◌++◌, length, take, drop, slice_index_or, refl, sym, ap, ◌∙◌, subst, arith, inl, inr}
 use Rattle.std.proofs.lemmas.Grind.{common_steps}
-use Rattle.psu_lex.specs.Message.{Part, IsMessage, parts, part}
-use Rattle.psu_lex.specs.declared.unit.Unit as rust
+use Rattle.psu_lex.specs.Message.{Part}
 use Rattle.psu_tree.specs.declared.unit_request.Request.{Request}
 use Rattle.psu_exec.specs.Shown.{outcome_of}
 use Rattle.psu_exec.specs.declared.outcome.Outcome.{Outcome}
@@ -19,8 +18,6 @@ use Rattle.psu_messages.specs.Stepping.{plain, within}
 use Rattle.psu_messages.specs.declared.progress.Progress.{Progress as Rust}
 use Rattle.psu_messages.specs.declared.expansion.Expansion.{Expansion}
 use Rattle.psu_messages.proofs.Going.{one, stay}
-use Rattle.psu_messages.proofs.Inside.{begins_at}
-use Rattle.psu_messages.proofs.Places.{LeadsFrom, unit_at}
 
 pub next_plain : (source : Source) (units : ℕ) (parked : Bool) (text : Text) (request : Request) → NextUnit source (plain units parked text) request → IsNext source (plain units parked text) request
 next_plain source units parked text request (first, asks, clear) = (first, asks, λ f. clear f refl)
@@ -48,14 +45,8 @@ pub closed : {X : Type 0} (does : X → Effect → X → Type 0) (was now : X) (
 closed does was now old new (inl (unanswered, same, is)) = ap (λ (z : Text). z.answered) is ∙ unanswered
 closed does was now old new (inr (answered, grows, is)) = ap (λ (z : Text). z.answered) is
 
-pub asks_at : (bytes : List ℕ) (all : List Part) (list before rest : List rust.Unit) (at done i : ℕ) (filler : rust.Unit) (from path next : List (List ℕ)) (request : Request)
-    → IsMessage bytes all → parts list ≡ all → before ≡ take at list → rest ≡ drop at list → i < length rest → at ≡ min done (length list)
-    → Leads false (parts before) from → LeadsFrom false rest at from i path
-    → IsRequest false (path_at path (part (slice_index_or rest i filler))) (part (slice_index_or rest i filler)) request next → (place : ℕ) → place ≡ done + i → Asks (units.Text bytes) place request (slice_index_or rest i filler).first
-asks_at bytes all list before rest at done i filler from path next request are same front back within there first so_far reads place e =
-    let leads : Leads false (parts (take (at + i) list)) path = so_far list back (subst (λ (z : List rust.Unit). Leads false (parts z) from) front first) in
-    subst (λ (z : ℕ). Asks (units.Text bytes) z request (slice_index_or rest i filler).first) (sym (e ∙ begins_at list rest at done i back within there))
-    (part (slice_index_or rest i filler), unit_at false bytes all list rest at i (at + i) filler path next request are same back within refl leads reads, refl)
+pub asks_at : (bytes : List ℕ) (place now : ℕ) (part : Part) (request : Request) → place ≡ now → IsUnit false bytes now part request → Asks (units.Text bytes) place request part.first
+asks_at bytes place now part request e unit = (part, subst (λ (n : ℕ). IsUnit false bytes n part request) (sym e) unit, refl)
 
 -- ---- the expansion in the next unit's place
 

@@ -1,14 +1,16 @@
--- The reading of units, one after another.
-use Rattle.std.proofs.Common.{◌≡◌, ℕ, zero, suc, Bool, true, false, if◌then◌else◌, ◌+◌, ◌<◌, ◌≤◌, List, [], ◌∷◌, ◌++◌, length, take, drop, slice_index_or, drop-cons, refl, sym, ap, ◌∙◌, subst, arith}
-use Rattle.std.proofs.lemmas.Grind.{common_steps}
-use Rattle.std.proofs.lemmas.List.{take_more, drop-drop}
-use Rattle.std.proofs.Math.Seq.{take-add}
-use Rattle.psu_lex.specs.Message.{Part, IsMessage, parts, part}
-use Rattle.psu_lex.specs.declared.unit.Unit as rust
+-- Places in a text, and the units there.
+use Rattle.std.proofs.Common.{◌≡◌, ℕ, Bool, true, false, if◌then◌else◌, ◌+◌, ◌<◌, ◌≤◌, List, [], ◌∷◌, ◌++◌, length, take, drop, length-append, append_assoc, refl, sym, ap, ◌∙◌, subst, arith, inl, inr}
+use Rattle.std.proofs.lemmas.List.{append-nil}
+use Rattle.std.proofs.Math.Seq.{drop-append_seam, take-append_seam}
+use Rattle.psu_lex.specs.Bytes.{is_closed}
+use Rattle.psu_lex.specs.Message.{EndsIn, IsMessage, Makes, Part, units_of}
+use Rattle.psu_lex.proofs.Tokens.{some_tokens}
+use Rattle.psu_lex.proofs.UnitScans.{ends_through, makes_none}
 use Rattle.psu_tree.specs.Reading.{Calls, Moves, Reads}
 use Rattle.psu_tree.specs.declared.unit_request.Request.{Request}
+use Rattle.psu_messages.specs.Places.{IsAt}
 use Rattle.psu_messages.specs.Units.{IsBehind, IsRequest, IsUnit, Leads, path_at}
-use Rattle.psu_messages.specs.Units.Leads.{Behind}
+use Rattle.psu_messages.specs.Units.Leads.{Behind, Root}
 
 pub first_path : (path from : List (List ℕ)) (p : Part) → p.first ≡ true → from ≡ [] → from ≡ path_at path p
 first_path path from p first e = e ∙ ap (λ (b : Bool). (let l : List (List ℕ) = if b then [] else path in l)) (sym first)
@@ -21,96 +23,70 @@ pub read_at : (inside : Bool) (path from next : List (List ℕ)) (p : Part) (req
 read_at inside path from next p request e reads moves calls place =
     subst (λ (z : List (List ℕ)). IsRequest inside z p request next) e (record { reading = reads; moves = moves; call = calls; place = place })
 
--- ---- units by their places
+-- ---- places
 
-parts_append : (xs : List rust.Unit) (x : rust.Unit) → parts (xs ++ x ∷ []) ≡ parts xs ++ part x ∷ []
-parts_append [] x = refl
-parts_append (y ∷ ys) x = ap (λ (z : List Part). part y ∷ z) (parts_append ys x)
+pub at_start : (inside : Bool) (bytes rest : List ℕ) (first : Bool) (path : List (List ℕ)) → rest ≡ bytes → first ≡ true → path ≡ [] → IsAt inside bytes 0 rest first path
+at_start inside bytes rest first path e f p =
+    let start : IsAt inside bytes 0 bytes true [] = record { before = []; count = inl refl; units = λ more m. m; leads = Root; ends = ([], refl); few = omega arith } in
+    subst (λ (z : List ℕ). IsAt inside bytes 0 z first path) (sym e)
+    (subst (λ (z : Bool). IsAt inside bytes 0 bytes z path) (sym f) (subst (λ (z : List (List ℕ)). IsAt inside bytes 0 bytes true z) (sym p) start))
 
-parts_snoc : (xs : List rust.Unit) (x : rust.Unit) (all : List rust.Unit) → all ≡ xs ++ x ∷ [] → parts all ≡ parts xs ++ part x ∷ []
-parts_snoc xs x all e = ap parts e ∙ parts_append xs x
+-- a place at which the bytes, the flag and the path are others that are the same
+pub at_same : (inside : Bool) (bytes : List ℕ) (done now : ℕ) (rest is : List ℕ) (first flag : Bool) (path others : List (List ℕ)) → now ≡ done → is ≡ rest → flag ≡ first → others ≡ path
+    → IsAt inside bytes done rest first path → IsAt inside bytes now is flag others
+at_same inside bytes done now rest is first flag path others d e f p at =
+    subst (λ (n : ℕ). IsAt inside bytes n is flag others) (sym d)
+    (subst (λ (z : List ℕ). IsAt inside bytes done z flag others) (sym e)
+    (subst (λ (z : Bool). IsAt inside bytes done rest z others) (sym f) (subst (λ (z : List (List ℕ)). IsAt inside bytes done rest first z) (sym p) at)))
 
-take_snoc : (list : List rust.Unit) (i : ℕ) (filler : rust.Unit) → i < length list → take (i + 1) list ≡ take i list ++ slice_index_or list i filler ∷ []
-take_snoc list i filler within = take_more list i filler within
+module _ {inside : Bool} {bytes : List ℕ} {done : ℕ} {rest : List ℕ} {first : Bool} {path : List (List ℕ)} (at : IsAt inside bytes done rest first path) where
+  -- where bytes are behind it, as many units are before it as were read
+  pub counted : 0 < length rest → length at.before ≡ done
+  counted some = elim at.count [ inl e ↦ e | inr n ↦ absurd (omega (arith, some, ap length n.0)) ]
 
-pub parts_take : (list : List rust.Unit) (i : ℕ) (filler : rust.Unit) → i < length list → parts (take (i + 1) list) ≡ parts (take i list) ++ part (slice_index_or list i filler) ∷ []
-parts_take list i filler within = parts_snoc (take i list) (slice_index_or list i filler) (take (i + 1) list) (take_snoc list i filler within)
+  pub most : length at.before ≤ done
+  most = elim at.count [ inl e ↦ omega (arith, e) | inr n ↦ n.1 ]
 
-pub leads_more : (inside : Bool) (list : List rust.Unit) (i : ℕ) (filler : rust.Unit) (path next : List (List ℕ)) (request : Request) → i < length list → Leads inside (parts (take i list)) path
-    → IsRequest inside (path_at path (part (slice_index_or list i filler))) (part (slice_index_or list i filler)) request next → Leads inside (parts (take (i + 1) list)) next
-leads_more inside list i filler path next request within leads reads =
-    subst (λ (z : List Part). Leads inside z next) (sym (parts_take list i filler within)) (Behind leads (part (slice_index_or list i filler)) request next reads)
+  -- no unit is left
+  pub behind_at : Makes first [] rest [] → IsBehind bytes done
+  behind_at none = (at.before ++ [], at.units [] none, omega (arith, ap length (append-nil at.before), most))
 
-pub leads_all : (inside : Bool) (list : List rust.Unit) (i : ℕ) (path : List (List ℕ)) → length list ≤ i → Leads inside (parts (take i list)) path → Leads inside (parts list) path
-leads_all inside list i path all leads =
-    let e : take i list ≡ list = grind (arith, common_steps) in subst (λ (z : List rust.Unit). Leads inside (parts z) path) e leads
+  pub at_end : (count : ℕ) → Makes first [] rest [] → done ≤ count → IsAt inside bytes count [] true path
+  at_end count none later = record {
+    before = at.before;
+    count = inr (refl, omega (arith, most, later));
+    units = λ more m. subst (λ (z : List Part). IsMessage bytes (at.before ++ z)) (sym (makes_none true more m)) (at.units [] none);
+    leads = at.leads;
+    ends = (bytes, sym (append-nil bytes));
+    few = omega (arith, at.few);
+  }
 
-pub take_parts : (list : List rust.Unit) (k : ℕ) → take k (parts list) ≡ parts (take k list)
-take_parts [] k = grind (arith, common_steps)
-take_parts (x ∷ xs) zero = refl
-take_parts (x ∷ xs) (suc k) = ap (λ (z : List Part). part x ∷ z) (take_parts xs k)
+  -- one more unit is read
+  module _ (later : List ℕ) (flag : Bool) (part : Part) (makes : (more : List Part) → Makes flag [] later more → Makes first [] rest (part ∷ more)) (ends : EndsIn rest later) (less : length later < length rest)
+      (request : Request) (next : List (List ℕ)) (reads : IsRequest inside (path_at path part) part request next) where
+    pub at_next : IsAt inside bytes (done + 1) later flag next
+    at_next = record {
+      before = at.before ++ part ∷ [];
+      count = inl (length-append at.before (part ∷ []) ∙ ap (λ (n : ℕ). n + 1) (counted (omega (arith, less))));
+      units = λ more m. subst (IsMessage bytes) (sym (append_assoc at.before (part ∷ []) more)) (at.units (part ∷ more) (makes more m));
+      leads = Behind at.leads part request next reads;
+      ends = ends_through bytes rest later at.ends ends;
+      few = omega (arith, at.few, less, length-append at.before (part ∷ []));
+    }
 
-pub drop_parts : (list : List rust.Unit) (k : ℕ) → drop k (parts list) ≡ parts (drop k list)
-drop_parts [] k = grind (arith, common_steps)
-drop_parts (x ∷ xs) zero = refl
-drop_parts (x ∷ xs) (suc k) = drop_parts xs k
-
-pub length_parts : (list : List rust.Unit) → length (parts list) ≡ length list
-length_parts [] = refl
-length_parts (x ∷ xs) = ap suc (length_parts xs)
-
-after_at : (list rest : List rust.Unit) (at i k : ℕ) → rest ≡ drop at list → k ≡ at + i → drop (suc i) rest ≡ drop (k + 1) list
-after_at list rest at i k is there =
-    ap (λ (z : List rust.Unit). drop (suc i) z) is ∙ drop-drop (suc i) at list ∙ ap (λ (n : ℕ). drop n list) (omega arith)
-
--- the units after the first ones are those of the rest
-pub rest_at : (list rest : List rust.Unit) (at i k : ℕ) (filler : rust.Unit) → rest ≡ drop at list → i < length rest → k ≡ at + i → drop k list ≡ slice_index_or rest i filler ∷ drop (k + 1) list
-rest_at list rest at i k filler is within there =
-    ap (λ (n : ℕ). drop n list) there ∙ sym (drop-drop i at list) ∙ ap (λ (z : List rust.Unit). drop i z) (sym is) ∙ drop-cons rest i filler within
-    ∙ ap (λ (z : List rust.Unit). slice_index_or rest i filler ∷ z) (after_at list rest at i k is there)
-
-taken : (list rest : List rust.Unit) (at i k : ℕ) (filler : rust.Unit) → rest ≡ drop at list → i < length rest → k ≡ at + i → take (k + 1) list ≡ take k list ++ slice_index_or rest i filler ∷ []
-taken list rest at i k filler is within there =
-    let e : drop k list ≡ slice_index_or rest i filler ∷ drop (k + 1) list = rest_at list rest at i k filler is within there in
-    take-add k 1 list ∙ ap (λ (z : List rust.Unit). take k list ++ take 1 z) e
-
--- the unit at an index of the rest
-pub unit_at : (inside : Bool) (bytes : List ℕ) (units : List Part) (list rest : List rust.Unit) (at i k : ℕ) (filler : rust.Unit) (path next : List (List ℕ)) (request : Request) → IsMessage bytes units → parts list ≡ units
-    → rest ≡ drop at list → i < length rest → k ≡ at + i → Leads inside (parts (take k list)) path
-    → IsRequest inside (path_at path (part (slice_index_or rest i filler))) (part (slice_index_or rest i filler)) request next → IsUnit inside bytes k (part (slice_index_or rest i filler)) request
-unit_at inside bytes units list rest at i k filler path next request are same is within there leads reads = record {
-  units = parts list;
-  after = parts (drop (k + 1) list);
-  path = path;
-  next = next;
-  are = subst (λ (z : List Part). IsMessage bytes z) (sym same) are;
-  here = drop_parts list k ∙ ap parts (rest_at list rest at i k filler is within there);
-  leads = subst (λ (z : List Part). Leads inside z path) (sym (take_parts list k)) leads;
-  reads = reads;
-}
-
--- the path after one more unit
-pub leads_next : (inside : Bool) (list rest : List rust.Unit) (at i k : ℕ) (filler : rust.Unit) (path next : List (List ℕ)) (request : Request) → rest ≡ drop at list → i < length rest → k ≡ at + i → Leads inside (parts (take k list)) path
-    → IsRequest inside (path_at path (part (slice_index_or rest i filler))) (part (slice_index_or rest i filler)) request next → Leads inside (parts (take (k + 1) list)) next
-leads_next inside list rest at i k filler path next request is within there leads reads =
-    subst (λ (z : List Part). Leads inside z next) (sym (parts_snoc (take k list) (slice_index_or rest i filler) (take (k + 1) list) (taken list rest at i k filler is within there)))
-    (Behind leads (part (slice_index_or rest i filler)) request next reads)
-
-pub behind_all : (bytes : List ℕ) (units : List Part) (list : List rust.Unit) (k : ℕ) → IsMessage bytes units → parts list ≡ units → length list ≤ k → IsBehind bytes k
-behind_all bytes units list k are same all =
-    (parts list, subst (λ (z : List Part). IsMessage bytes z) (sym same) are, omega (arith, length_parts list))
-
--- ---- from a place on
-
--- after i units of the rest the path is this one, if it was `from` before them
-abbrev pub LeadsFrom : Bool → List rust.Unit → ℕ → List (List ℕ) → ℕ → List (List ℕ) → Type 0
-LeadsFrom inside rest at from i path = (list : List rust.Unit) → rest ≡ drop at list → Leads inside (parts (take at list)) from → Leads inside (parts (take (at + i) list)) path
-
-pub from_none : (inside : Bool) (rest : List rust.Unit) (at : ℕ) (from : List (List ℕ)) → LeadsFrom inside rest at from 0 from
-from_none inside rest at from list is leads = let e : at ≡ at + 0 = omega arith in subst (λ (n : ℕ). Leads inside (parts (take n list)) from) e leads
-
-pub from_more : (inside : Bool) (rest : List rust.Unit) (at i : ℕ) (filler : rust.Unit) (from path next : List (List ℕ)) (request : Request) → i < length rest → LeadsFrom inside rest at from i path
-    → IsRequest inside (path_at path (part (slice_index_or rest i filler))) (part (slice_index_or rest i filler)) request next → LeadsFrom inside rest at from (i + 1) next
-from_more inside rest at i filler from path next request within so_far reads list is leads =
-    let e : (at + i) + 1 ≡ at + (i + 1) = omega arith in
-    subst (λ (n : ℕ). Leads inside (parts (take n list)) next) e (leads_next inside list rest at i (at + i) filler path next request is within refl (so_far list is leads) reads)
+    -- the unit that was read
+    pub unit_at : IsUnit inside bytes done part request
+    unit_at =
+        let tokens = some_tokens is_closed later in
+        let more : List Part = units_of flag [] tokens.0 in
+        let there : done ≡ length at.before = sym (counted (omega (arith, less))) in
+        record {
+          units = at.before ++ part ∷ more;
+          after = more;
+          path = path;
+          next = next;
+          are = at.units (part ∷ more) (makes more (tokens.0, tokens.1, refl));
+          here = ap (λ (n : ℕ). drop n (at.before ++ part ∷ more)) there ∙ drop-append_seam at.before (part ∷ more);
+          leads = subst (λ (z : List Part). Leads inside z path) (sym (ap (λ (n : ℕ). take n (at.before ++ part ∷ more)) there ∙ take-append_seam at.before (part ∷ more))) at.leads;
+          reads = reads;
+        }

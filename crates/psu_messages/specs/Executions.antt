@@ -127,10 +127,6 @@ pub record StopsAt {X S : Type 0} (does : X → Effect → X → Type 0) (fails 
   pub interruption : Interruption does fails stops source mid new stop now
   pub text : left ≡ new.text
 
--- The execution stopped for good: after an allocation failure before any effect, or at some point.
-abbrev pub IsInterrupted : {X S : Type 0} → (X → Effect → X → Type 0) → (X → Request → S → X → Type 0) → (X → S → X → Type 0) → Source → X → Progress → S → X → Text → Type 0
-IsInterrupted does fails stops source at c stop now left = (stops at stop now × (left ≡ c.text)) ⊎ StopsAt does fails stops source at c stop now left
-
 -- ---- one try
 
 -- a unit was tried once, whether it was accepted before or not

@@ -9,7 +9,6 @@ use crate::cursor::Cursor;
 use crate::steps::take_step;
 use crate::{Executor, Need};
 use psu_answers::ResponseBuffer;
-use psu_lex::laws::every_list_has_units;
 use std::alloc::Allocator;
 
 /// Executes the rest of an expansion. Returns what has to be waited for, if the expansion isn't done then.
@@ -26,7 +25,6 @@ pub(crate) fn expand<A: Allocator + Copy, F: Executor<A>>(
     ensures stops { IfErr result (λ stop. (source : Source) (units : ℕ)
         → StopsAt F.does F.fails F.stops source executor.old (within units body.now done.old parked.old gathered.old) stop executor.new gathered.new) }
 {
-    every_list_has_units();
     let mut cursor = Cursor::of(body);
     cursor.pass_to(*done, true);
     'units: loop {

@@ -14,7 +14,6 @@ use crate::tries::{Tried, attempt};
 use crate::{Executor, Expansion, Need, Progress};
 use psu_exec::{Outcome, Request, ScpiError};
 use psu_lex::Bytes;
-use psu_lex::laws::every_list_has_units;
 use std::alloc::Allocator;
 
 // Executes an expansion in the place of the unit that it replaces.
@@ -178,7 +177,6 @@ fn execute_units<'t, A: Allocator + Copy, F: Executor<A>>(
     ensures place { (bytes : List ℕ) → IsCursor false bytes cursor.old → IsCursor false bytes cursor.new }
     ensures grows { progress.old.units ≤ progress.new.units }
 {
-    every_list_has_units();
     'units: loop {
         if !executor.may_continue() {
             return Ok(Some(Need::Turn));

@@ -9,7 +9,7 @@ use Rattle.psu_exec.specs.Device.{Reply, Answer, Expand}
 use Rattle.psu_exec.specs.declared.exec.Exec.{Exec}
 use Rattle.psu_messages.specs.Effects.{Effect, Executed}
 use Rattle.psu_messages.specs.Units.{Asks, IsUnit, Source}
-use Rattle.psu_messages.specs.Executions.{Progress, Interruption, Advances, IsInterrupted as CutOff, IsOver, IsUnended, NextAt, beginning}
+use Rattle.psu_messages.specs.Executions.{Progress, Interruption, Advances, IsOver, IsUnended, NextAt, StopsAt, beginning}
 use Rattle.psu_messages.specs.Executions.Reaches.{Begins as Beginning}
 use Rattle.psu_messages.specs.Executions.Interruption.{Failed, Stopped, NotBuffered}
 use Rattle.psu_messages.proofs.Turning.{no_ask}
@@ -223,20 +223,14 @@ module _ {D A : Type 0} {G : Ghosts D} {X : Type 0} (exec : X → Exec D A G) (o
       (executed (exec mid) (exec here) (output mid) (output here) false request effect (Answer response) refl try (on mid here effect d)) s
 
   -- the line stopped early
-  broken_off : (x y : X) (cause : RunCause) (left : Text) → CutOff does fails stops source x beginning cause y left → Ended x y cause left.rest
-  broken_off x y cause left (inl (s, same)) =
-      let o = at_start some source (exec x) (output x) in
-      let d = stop x y cause s in
-      subst (λ (t : Text). Ended x y cause t.rest) (sym same)
-      (subst (λ (z : Exec D A G). Broken source (exec x) (output x) z (held (output y).written ((output y).gathered ++ [])) cause) (sym d.0)
-      (rest_outside ones reading o (λ h. halted_by (exec x) (exec x) cause d.2) (left_until cause (output x) (output x) (output y) o.sent [] o.all o.says o.joins d.1)))
-  broken_off x y cause left (inr s) =
+  broken_off : (x y : X) (cause : RunCause) (left : Text) → StopsAt does fails stops source x beginning cause y left → Ended x y cause left.rest
+  broken_off x y cause left s =
       let at = come exec output does on ones some source line s.advances.added x s.mid s.new (s.advances.reaches [] Beginning) s.advances.runs in
       subst (λ (t : Text). Ended x y cause t.rest) (sym s.text)
       (cut_at x s.mid y cause s.new.standing.units s.new.standing.inside s.new.standing.parked s.new.expansion s.new.text at.0 at.1 s.interruption)
 
-  pub broken : (x y : X) (cause : RunCause) (left : Text) (c : Progress) → c ≡ beginning → CutOff does fails stops source x c cause y left → Ended x y cause left.rest
-  broken x y cause left c fresh device_stops = broken_off x y cause left (subst (λ (z : Progress). CutOff does fails stops source x z cause y left) fresh device_stops)
+  pub broken : (x y : X) (cause : RunCause) (left : Text) (c : Progress) → c ≡ beginning → StopsAt does fails stops source x c cause y left → Ended x y cause left.rest
+  broken x y cause left c fresh device_stops = broken_off x y cause left (subst (λ (z : Progress). StopsAt does fails stops source x z cause y left) fresh device_stops)
 
 -- the line is complete
 pub whole : {D A : Type 0} {G : Ghosts D} {X : Type 0} (exec : X → Exec D A G) (output : X → OutputState) (does : X → Effect → X → Type 0) (on : DoesOn exec output does) (ones : Ones) (some : SomeUnits) (source : Source) (line : IsLine source) (x y : X) (from c : Progress)

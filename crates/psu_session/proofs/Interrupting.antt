@@ -1,13 +1,13 @@
 -- The calls of the device for a transmission that is interrupted.
-use Rattle.std.proofs.Common.{◌≡◌, List, [], ◌∷◌, refl, sym, ap, subst, map, inl, inr}
+use Rattle.std.proofs.Common.{◌≡◌, List, [], ◌∷◌, sym, ap, subst, map}
 use Rattle.psu_tree.specs.declared.unit_request.Request.{Request}
 use Rattle.psu_exec.specs.Device.{Answer}
 use Rattle.psu_answers.specs.ResponseBuffer.{Text}
 use Rattle.psu_messages.specs.Effects as messages
 use Rattle.psu_messages.specs.Effects.{Effect}
-use Rattle.psu_messages.specs.Executions.{Advances, Interruption, IsInterrupted, Progress, tried}
+use Rattle.psu_messages.specs.Executions.{Advances, Interruption, Progress, StopsAt, tried}
 use Rattle.psu_messages.specs.Executions.Interruption.{Failed, Stopped, NotBuffered}
-use Rattle.psu_messages.proofs.Going.{behind, stay, tries}
+use Rattle.psu_messages.proofs.Going.{behind, tries}
 use Rattle.psu_session.specs.Exchange.{Order}
 use Rattle.psu_session.specs.Events.{Call, call_of}
 use Rattle.psu_session.specs.Serving.{Runs}
@@ -37,6 +37,5 @@ module _ {X V S : Type 0} {does : X → Effect → X → Type 0} {fails : X → 
       (behind does order.source x mid here c d (tried d (Answer response)) a (tries does order.source mid here d request (Answer response) next (record { effect = effect; done = done; is = try })))
       (same here y stop s)
 
-  pub interrupted : (order : Order) (x : X) (c : Progress) (stop : S) (y : X) (left : Text) → IsInterrupted does fails stops order.source x c stop y left → CallsAdvancing made order c (device x) (device y)
-  interrupted order x c stop y left (inl (s, e)) = advanced_to order x c x c y (stay does order.source x x c refl) (same x y stop s)
-  interrupted order x c stop y left (inr a) = at_last order x c a.mid a.new stop y a.advances a.interruption
+  pub interrupted : (order : Order) (x : X) (c : Progress) (stop : S) (y : X) (left : Text) → StopsAt does fails stops order.source x c stop y left → CallsAdvancing made order c (device x) (device y)
+  interrupted order x c stop y left a = at_last order x c a.mid a.new stop y a.advances a.interruption
