@@ -1,4 +1,4 @@
-use Rattle.std.proofs.Common.{◌≡◌, ◌≤◌, ◌∙◌, ap, arith, false, subst, sym, refl, List, ℕ}
+use Rattle.std.proofs.Common.{◌≡◌, ◌≤◌, ◌∙◌, ap, arith, false, subst, sym, List, ℕ}
 use Rattle.psu_messages.specs.Executions.{IsOver}
 use Rattle.psu_messages.specs.Places.{IsCursor, IsKept}
 use Rattle.psu_messages.specs.Shown.{progress_of}
