@@ -20,13 +20,7 @@ pub struct Probe<'a> {
 impl<'a> Executor<Global> for Probe<'a> {
     type Stop = Stopped;
 
-    ghost does = { λ _ _ _. Unit {0} };
-
-    ghost fails = { λ _ _ _ _. Unit {0} };
-
-    ghost stops = { λ _ _ _. Unit {0} };
-
-    ghost yields = { λ _. ⊥ };
+    ghost relations = { record { does = λ _ _ _. Unit {0}; fails = λ _ _ _ _. Unit {0}; stops = λ _ _ _. Unit {0}; yields = λ _. ⊥ } };
 
     // It never yields.
     fn may_continue(&self) -> bool {

@@ -10,6 +10,7 @@ use Rattle.psu_messages.specs.Stepping.{IsBrokenOff, IsLeft, IsResponse, parked_
 use Rattle.psu_messages.specs.declared.need.Need.{Need}
 use Rattle.psu_messages.specs.declared.need.Need.TheVariants.{Flush, Lock, Room}
 use Rattle.psu_messages.specs.Units.{Source}
+use Rattle.psu_messages.specs.Relations.{Relations}
 use Rattle.psu_messages.specs.Executions.{Progress, Reaches, Interruption, Advances, IsUnended, StopsAt, AddsResponse, Trial, IsNext, IsExpanded, tried, outside, sent, standing_after, expansion_after, text_after}
 use Rattle.psu_messages.specs.Executions.Reaches.{Tries, Leaves, Sends}
 use Rattle.psu_messages.specs.Executions.Interruption.{Failed, Stopped, NotBuffered}
@@ -175,39 +176,39 @@ passed_on (Err reason) e P is p = subst P (sym is) p
 
 -- ---- stops
 
-module _ {X S : Type 0} {does : X → Effect → X → Type 0} {fails : X → Request → S → X → Type 0} {stops : X → S → X → Type 0} {source : Source} where
-  pub stops_on : {was mid now : X} {c d : Progress} {stop : S} {left : Text} → Advances does source was c mid d → StopsAt does fails stops source mid d stop now left → StopsAt does fails stops source was c stop now left
-  stops_on {was} {mid} {now} {c} {d} advances s = record { mid = s.mid; new = s.new; advances = behind does source was mid s.mid c d s.new advances s.advances; interruption = s.interruption; text = s.text }
+module _ {X S : Type 0} {r : Relations X S} {source : Source} where
+  pub stops_on : {was mid now : X} {c d : Progress} {stop : S} {left : Text} → Advances r.does source was c mid d → StopsAt r source mid d stop now left → StopsAt r source was c stop now left
+  stops_on {was} {mid} {now} {c} {d} advances s = record { mid = s.mid; new = s.new; advances = behind r.does source was mid s.mid c d s.new advances s.advances; interruption = s.interruption; text = s.text }
 
   -- at the present point, with something that is to be ended
-  pub some_stop : {was now : X} {c : Progress} {stop : S} {left : Text} → IsUnended c → stops was stop now → left ≡ c.text → StopsAt does fails stops source was c stop now left
-  some_stop {was} {now} {c} begun s same = record { mid = was; new = c; advances = stay does source was was c refl; interruption = Stopped begun s; text = same }
+  pub some_stop : {was now : X} {c : Progress} {stop : S} {left : Text} → IsUnended c → r.stops was stop now → left ≡ c.text → StopsAt r source was c stop now left
+  some_stop {was} {now} {c} begun s same = record { mid = was; new = c; advances = stay r.does source was was c refl; interruption = Stopped begun s; text = same }
 
   -- in the next unit
-  pub broken_off : {was now : X} {c : Progress} (request : Request) {stop : S} {left : Text} → IsNext source c request → IsBrokenOff fails stops was c.standing.parked request stop now → left ≡ c.text
-      → StopsAt does fails stops source was c stop now left
-  broken_off {was} {now} {c} request next (inl (parked, failed)) same = record { mid = was; new = c; advances = stay does source was was c refl; interruption = Failed request next parked failed; text = same }
+  pub broken_off : {was now : X} {c : Progress} (request : Request) {stop : S} {left : Text} → IsNext source c request → IsBrokenOff r was c.standing.parked request stop now → left ≡ c.text
+      → StopsAt r source was c stop now left
+  broken_off {was} {now} {c} request next (inl (parked, failed)) same = record { mid = was; new = c; advances = stay r.does source was was c refl; interruption = Failed request next parked failed; text = same }
   broken_off {was} {now} {c} request next (inr (parked, s)) same = some_stop (inr (inl parked)) s same
 
   -- after the next unit, whose response is gathered or is not
-  pub not_buffered : {was mid now : X} {c : Progress} {request : Request} {reply : Reply} {stop : S} {left : Text} → IsNext source c request → Trial does was c.standing.parked request mid reply → stops mid stop now → IsLeft c.text reply left → IsResponse reply
-      → StopsAt does fails stops source was c stop now left
+  pub not_buffered : {was mid now : X} {c : Progress} {request : Request} {reply : Reply} {stop : S} {left : Text} → IsNext source c request → Trial r.does was c.standing.parked request mid reply → r.stops mid stop now → IsLeft c.text reply left → IsResponse reply
+      → StopsAt r source was c stop now left
   not_buffered {was} {mid} {now} {c} {request} {reply} next t s (inl same) (response, is) =
       let try = subst (IsTry c.standing.parked request t.effect) is t.is in
-      record { mid = was; new = c; advances = stay does source was was c refl; interruption = NotBuffered mid request next t.effect response try t.done s; text = same }
+      record { mid = was; new = c; advances = stay r.does source was was c refl; interruption = NotBuffered mid request next t.effect response try t.done s; text = same }
   not_buffered {was} {mid} {now} {c} {request} {reply} next t s (inr (same, answered)) response =
-      record { mid = mid; new = tried c reply; advances = tries does source was mid c request reply next t; interruption = Stopped (inl (ap (λ (x : Text). x.answered) (sym same) ∙ answered)) s; text = same }
+      record { mid = mid; new = tried c reply; advances = tries r.does source was mid c request reply next t; interruption = Stopped (inl (ap (λ (x : Text). x.answered) (sym same) ∙ answered)) s; text = same }
 
 -- the point that it had reached
-pub reached : {X S : Type 0} {does : X → Effect → X → Type 0} {fails : X → Request → S → X → Type 0} {stops : X → S → X → Type 0} {source : Source} {was now : X} {c : Progress} {stop : S} {left : Text} → StopsAt does fails stops source was c stop now left
-    → (mid : X) × (d : Progress) × Advances does source was c mid d × (((request : Request) × fails mid request stop now) ⊎ stops mid stop now)
-reached {X} {S} {does} {fails} {stops} {source} {was} {now} {c} {stop} {left} h = by h.interruption where
-  by : Interruption does fails stops source h.mid h.new stop now → (mid : X) × (d : Progress) × Advances does source was c mid d × (((request : Request) × fails mid request stop now) ⊎ stops mid stop now)
+pub reached : {X S : Type 0} {r : Relations X S} {source : Source} {was now : X} {c : Progress} {stop : S} {left : Text} → StopsAt r source was c stop now left
+    → (mid : X) × (d : Progress) × Advances r.does source was c mid d × (((request : Request) × r.fails mid request stop now) ⊎ r.stops mid stop now)
+reached {X} {S} {r} {source} {was} {now} {c} {stop} {left} h = by h.interruption where
+  by : Interruption r source h.mid h.new stop now → (mid : X) × (d : Progress) × Advances r.does source was c mid d × (((request : Request) × r.fails mid request stop now) ⊎ r.stops mid stop now)
   by (Failed request next parked f) = (h.mid, h.new, h.advances, inl (request, f))
   by (Stopped begun s) = (h.mid, h.new, h.advances, inr s)
   by (NotBuffered here request next effect response try d s) =
       let reply = Answer response in
-      (here, tried h.new reply, behind does source was h.mid here c h.new (tried h.new reply) h.advances (one does source h.mid here h.new (tried h.new reply) effect d (λ before b. Tries b request next effect reply try)), inr s)
+      (here, tried h.new reply, behind r.does source was h.mid here c h.new (tried h.new reply) h.advances (one r.does source h.mid here h.new (tried h.new reply) effect d (λ before b. Tries b request next effect reply try)), inr s)
 
 -- ---- what each effect leaves unchanged
 
@@ -219,9 +220,9 @@ pub kept_advances : {X Y : Type 0} {does : X → Effect → X → Type 0} {sourc
 kept_advances {X} {Y} {does} {source} {x} {y} advances part keeps = kept does part keeps x advances.added y advances.runs
 
 -- also if the execution stopped
-pub kept_interrupted : {X Y S : Type 0} {does : X → Effect → X → Type 0} {fails : X → Request → S → X → Type 0} {stops : X → S → X → Type 0} {source : Source} {was now : X} {c : Progress} {stop : S} {left : Text} → StopsAt does fails stops source was c stop now left
-    → (part : X → Y) → ((x y : X) (effect : Effect) → does x effect y → part y ≡ part x) → ((x y : X) (request : Request) (stop : S) → fails x request stop y → part y ≡ part x) → ((x y : X) (stop : S) → stops x stop y → part y ≡ part x) → part now ≡ part was
-kept_interrupted {X} {Y} {S} {does} {fails} {stops} {source} {was} {now} {c} {stop} {left} halts part done failed stopped =
+pub kept_interrupted : {X Y S : Type 0} {r : Relations X S} {source : Source} {was now : X} {c : Progress} {stop : S} {left : Text} → StopsAt r source was c stop now left
+    → (part : X → Y) → ((x y : X) (effect : Effect) → r.does x effect y → part y ≡ part x) → ((x y : X) (request : Request) (stop : S) → r.fails x request stop y → part y ≡ part x) → ((x y : X) (stop : S) → r.stops x stop y → part y ≡ part x) → part now ≡ part was
+kept_interrupted {X} {Y} {S} {r} {source} {was} {now} {c} {stop} {left} halts part done failed stopped =
     let r = reached halts in
     let before = kept_advances r.2 part done in
     elim (r.3) [ inl f ↦ failed r.0 now f.0 stop f.1 ∙ before | inr s ↦ stopped r.0 now stop s ∙ before ]

@@ -10,6 +10,7 @@ use Rattle.psu_answers.specs.ResponseBuffer.{Text}
 use Rattle.psu_messages.specs.Effects.{Effect, Sent}
 use Rattle.psu_messages.specs.Units as units
 use Rattle.psu_messages.specs.Units.{Source, Fault, Asks, EndsMessage, HasNone, IsBetween, IsBehind, IsRequest, IsUnit, Leads, path_at}
+use Rattle.psu_messages.specs.Relations.{Relations}
 use Rattle.psu_messages.specs.Executions.{Closes, Progress, Advances, IsNext, NextUnit, StopsAt, ended}
 use Rattle.psu_messages.specs.Executions.Reaches.{Ends}
 use Rattle.psu_messages.specs.Shown.{body_of, progress, progress_of, inside_of}
@@ -110,6 +111,6 @@ module _ {A X : Type 0} (does : X → Effect → X → Type 0) (source : Source)
   pub from_plain : (was now : X) (d : Progress) → Advances does source was (plain c.units c.parked c.gathered) now d → Advances does source was (progress_of c) now d
   from_plain was now d advances = subst (λ (z : Progress). Advances does source was z now d) (sym (plain_of c none)) advances
 
-  pub stops_plain : {S : Type 0} {fails : X → Request → S → X → Type 0} {stops : X → S → X → Type 0} (was now : X) (stop : S) (left : Text) → StopsAt does fails stops source was (plain c.units c.parked c.gathered) stop now left
-      → StopsAt does fails stops source was (progress_of c) stop now left
-  stops_plain {S} {fails} {stops} was now stop left stopped = subst (λ (z : Progress). StopsAt does fails stops source was z stop now left) (sym (plain_of c none)) stopped
+pub stops_plain : {A X S : Type 0} (r : Relations X S) (source : Source) (c : Rust A) → c.expansion ≡ None → (was now : X) (stop : S) (left : Text) → StopsAt r source was (plain c.units c.parked c.gathered) stop now left
+    → StopsAt r source was (progress_of c) stop now left
+stops_plain r source c none was now stop left stopped = subst (λ (z : Progress). StopsAt r source was z stop now left) (sym (plain_of c none)) stopped

@@ -1,8 +1,8 @@
 -- The effects of a transmission: tries of its units, and sent pieces of its response messages.
-use Rattle.std.specs.Prelude.{◌≡◌, ◌⊎◌, [], ◌∷◌, ℕ, Bool, true, false, Option, Some, None, List}
+use Rattle.std.specs.Prelude.{◌≡◌, [], ◌∷◌, ℕ, Bool, true, false, Option, Some, None, List}
 use Rattle.psu_tree.specs.declared.unit_request.Request.{Request}
 use Rattle.psu_messages.specs.declared.need.Need.{Need}
-use Rattle.psu_messages.specs.declared.need.Need.TheVariants.{Flush, Lock, Room, Turn}
+use Rattle.psu_messages.specs.declared.need.Need.TheVariants.{Flush, Lock, Room}
 use Rattle.psu_exec.specs.Device.{Reply, Parked, Held, Later}
 
 -- An effect: a unit is executed, or the wait of one that was accepted is settled, or a piece of text is sent, the
@@ -36,7 +36,3 @@ Runs {X} does x (effect ∷ effects) y = (mid : X) × does x effect mid × Runs 
 -- the last effect is a try of a unit, which waits for this
 abbrev pub Awaits : {X : Type 0} → (X → Effect → X → Type 0) → X → Need → Type 0
 Awaits {X} does now need = (was : X) × (effect : Effect) × (parked : Bool) × (request : Request) × (reply : Reply) × does was effect now × IsTry parked request effect reply × (needs reply ≡ Some need)
-
--- the executor yields, or the last effect is a try of a unit, which waits for this
-abbrev pub IsAwaited : {X : Type 0} → (X → Effect → X → Type 0) → (X → Type 0) → X → Need → Type 0
-IsAwaited does yields now need = ((need ≡ Turn) × yields now) ⊎ Awaits does now need

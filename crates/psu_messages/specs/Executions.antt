@@ -7,6 +7,7 @@ use Rattle.psu_answers.specs.ResponseBuffer.{Text, emptied, nothing, appended}
 use Rattle.psu_messages.specs.Standing as standing
 use Rattle.psu_messages.specs.Standing.{Standing, start}
 use Rattle.psu_messages.specs.Effects.{Effect, Sent, IsTry, Runs}
+use Rattle.psu_messages.specs.Relations.{Relations}
 use Rattle.psu_messages.specs.Units.{Source, Asks, IsBehind, EndsMessage, HasNone, IsUnit}
 
 -- the progress of a transmission: which unit is next, the expansion that replaces a unit, and the responses that are
@@ -113,18 +114,18 @@ IsUnended c = (c.text.answered ≡ true) ⊎ (c.standing.parked ≡ true) ⊎ (i
 -- Why the execution stopped for good at some point: the next unit was executed, but not to its end; another effect
 -- was not completed, or an allocation failed; or the next unit ended with a response, which could not be added to the
 -- response buffer.
-pub data Interruption {X S : Type 0} (does : X → Effect → X → Type 0) (fails : X → Request → S → X → Type 0) (stops : X → S → X → Type 0) (source : Source) (mid : X) (c : Progress) (stop : S) (now : X) : Type 0 where
-  Failed : (request : Request) → IsNext source c request → c.standing.parked ≡ false → fails mid request stop now → Interruption does fails stops source mid c stop now
-  Stopped : IsUnended c → stops mid stop now → Interruption does fails stops source mid c stop now
-  NotBuffered : (here : X) (request : Request) → IsNext source c request → (effect : Effect) (response : List ℕ) → IsTry c.standing.parked request effect (Answer response) → does mid effect here → stops here stop now → Interruption does fails stops source mid c stop now
+pub data Interruption {X S : Type 0} (r : Relations X S) (source : Source) (mid : X) (c : Progress) (stop : S) (now : X) : Type 0 where
+  Failed : (request : Request) → IsNext source c request → c.standing.parked ≡ false → r.fails mid request stop now → Interruption r source mid c stop now
+  Stopped : IsUnended c → r.stops mid stop now → Interruption r source mid c stop now
+  NotBuffered : (here : X) (request : Request) → IsNext source c request → (effect : Effect) (response : List ℕ) → IsTry c.standing.parked request effect (Answer response) → r.does mid effect here → r.stops here stop now → Interruption r source mid c stop now
 
 -- The effects between two moments lead a transmission to some point of its progress, at which it stopped. The
 -- responses that are not sent at that point are left.
-pub record StopsAt {X S : Type 0} (does : X → Effect → X → Type 0) (fails : X → Request → S → X → Type 0) (stops : X → S → X → Type 0) (source : Source) (at : X) (c : Progress) (stop : S) (now : X) (left : Text) : Type 0 where
+pub record StopsAt {X S : Type 0} (r : Relations X S) (source : Source) (at : X) (c : Progress) (stop : S) (now : X) (left : Text) : Type 0 where
   pub mid : X
   pub new : Progress
-  pub advances : Advances does source at c mid new
-  pub interruption : Interruption does fails stops source mid new stop now
+  pub advances : Advances r.does source at c mid new
+  pub interruption : Interruption r source mid new stop now
   pub text : left ≡ new.text
 
 -- ---- one try

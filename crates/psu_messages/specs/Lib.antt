@@ -1,4 +1,5 @@
 pub mod Effects
+pub mod Relations
 pub mod Standing
 pub mod Units
 pub mod Places

@@ -4,6 +4,7 @@ use Rattle.psu_tree.specs.declared.unit_request.Request.{Request}
 use Rattle.psu_exec.specs.Device.{Reply, Answer}
 use Rattle.psu_answers.specs.ResponseBuffer.{Text}
 use Rattle.psu_messages.specs.Executions.{Progress, text_after}
+use Rattle.psu_messages.specs.Relations.{Relations}
 use Rattle.psu_messages.specs.declared.need.Need.{Need}
 use Rattle.psu_messages.specs.declared.need.Need.TheVariants.{Flush}
 
@@ -32,8 +33,8 @@ expanded_by (Some need) units body done parked text = within units body done par
 
 -- a unit that was not accepted yet was executed, but not to its end; or the settle of one that was accepted was not
 -- completed
-abbrev pub IsBrokenOff : {X S : Type 0} → (X → Request → S → X → Type 0) → (X → S → X → Type 0) → X → Bool → Request → S → X → Type 0
-IsBrokenOff fails stops at parked request stop now = ((parked ≡ false) × fails at request stop now) ⊎ ((parked ≡ true) × stops at stop now)
+abbrev pub IsBrokenOff : {X S : Type 0} → Relations X S → X → Bool → Request → S → X → Type 0
+IsBrokenOff r at parked request stop now = ((parked ≡ false) × r.fails at request stop now) ⊎ ((parked ≡ true) × r.stops at stop now)
 
 -- the reply is a response
 abbrev pub IsResponse : Reply → Type 0

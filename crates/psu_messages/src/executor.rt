@@ -1,8 +1,8 @@
 // The executor of a session's units.
 ghost use Rattle.std.specs.Prelude.{◌≡◌, false, IfOk, IfErr, OnOk};
-ghost use Rattle.psu_tree.specs.declared.unit_request.Request.{Request as RequestData};
 ghost use Rattle.psu_exec.specs.Shown.{outcome_of};
-ghost use Rattle.psu_messages.specs.Effects.{Effect, Executed, Settled, Sent};
+ghost use Rattle.psu_messages.specs.Effects.{Executed, Settled, Sent};
+ghost use Rattle.psu_messages.specs.Relations.{Relations};
 
 use crate::Refused;
 use psu_exec::{Outcome, Request};
@@ -14,38 +14,29 @@ pub trait Executor<A: Allocator + Copy> {
     /// The reason why it stops for good.
     type Stop;
 
-    /// An effect that was completed.
-    ghost does: { Self → Effect → Self → Type 0 };
-
-    /// A unit that was executed, but not to its end.
-    ghost fails: { Self → RequestData → Self.Stop → Self → Type 0 };
-
-    /// Any other effect that was not completed, or an allocation failure.
-    ghost stops: { Self → Self.Stop → Self → Type 0 };
-
-    /// A state in which it yields: others are let in before the next unit.
-    ghost yields: { Self → Type 0 };
+    /// What leads from one of its states to another.
+    ghost relations: { Relations Self Self.Stop };
 
     /// Whether it continues with the next unit and does not yield.
     fn may_continue(&self) -> bool
-        ensures { result ≡ false → yields self.now };
+        ensures { result ≡ false → relations.yields self.now };
 
     /// Tries a unit.
     fn execute(&mut self, request: &Request<'_>) -> Result<Outcome<A>, Self::Stop>
-        ensures done { IfOk result (λ o. does self.old (Executed request.now (outcome_of o)) self.new) }
-        ensures failed { IfErr result (λ stop. fails self.old request.now stop self.new) };
+        ensures done { IfOk result (λ o. relations.does self.old (Executed request.now (outcome_of o)) self.new) }
+        ensures failed { IfErr result (λ stop. relations.fails self.old request.now stop self.new) };
 
     /// Returns the result of the wait of a unit that was accepted.
     fn settle(&mut self) -> Result<Outcome<A>, Self::Stop>
-        ensures done { IfOk result (λ o. does self.old (Settled (outcome_of o)) self.new) }
-        ensures stopped { IfErr result (λ stop. stops self.old stop self.new) };
+        ensures done { IfOk result (λ o. relations.does self.old (Settled (outcome_of o)) self.new) }
+        ensures stopped { IfErr result (λ stop. relations.stops self.old stop self.new) };
 
     /// Sends a piece of a response message, the last or an earlier one.
     fn send(&mut self, text: &[u8], is_last: bool) -> Result<(), Self::Stop>
-        ensures done { OnOk result (does self.old (Sent text.now is_last) self.new) }
-        ensures stopped { IfErr result (λ stop. stops self.old stop self.new) };
+        ensures done { OnOk result (relations.does self.old (Sent text.now is_last) self.new) }
+        ensures stopped { IfErr result (λ stop. relations.stops self.old stop self.new) };
 
     /// The reason why it stops where memory was refused.
     fn out_of_memory(&self, refused: Refused) -> Self::Stop
-        ensures { stops self.now result self.now };
+        ensures { relations.stops self.now result self.now };
 }

@@ -1,6 +1,6 @@
 // The units of an expansion, in the place of the unit that it replaces.
 ghost use Rattle.std.specs.Prelude.{ℕ, IfOk, IfErr, IfSome};
-ghost use Rattle.psu_messages.specs.Effects.{IsAwaited};
+ghost use Rattle.psu_messages.specs.Relations.{IsAwaited};
 ghost use Rattle.psu_messages.specs.Executions.{Advances, StopsAt};
 ghost use Rattle.psu_messages.specs.Stepping.{expanded_by, within};
 ghost use Rattle.psu_messages.specs.Units.{Source};
@@ -19,11 +19,11 @@ pub(crate) fn expand<A: Allocator + Copy, F: Executor<A>>(
     parked: &mut bool,
     gathered: &mut ResponseBuffer<A>,
 ) -> Result<Option<Need>, F::Stop>
-    ensures advances { IfOk result (λ need. (source : Source) (units : ℕ) → Advances F.does source executor.old (within units body.now done.old parked.old gathered.old)
+    ensures advances { IfOk result (λ need. (source : Source) (units : ℕ) → Advances F.relations.does source executor.old (within units body.now done.old parked.old gathered.old)
         executor.new (expanded_by need units body.now done.new parked.new gathered.new)) }
-    ensures waits { IfOk result (λ some. IfSome some (IsAwaited F.does F.yields executor.new)) }
+    ensures waits { IfOk result (λ some. IfSome some (IsAwaited F.relations executor.new)) }
     ensures stops { IfErr result (λ stop. (source : Source) (units : ℕ)
-        → StopsAt F.does F.fails F.stops source executor.old (within units body.now done.old parked.old gathered.old) stop executor.new gathered.new) }
+        → StopsAt F.relations source executor.old (within units body.now done.old parked.old gathered.old) stop executor.new gathered.new) }
 {
     let mut cursor = Cursor::of(body);
     cursor.pass_to(*done, true);

@@ -1,6 +1,6 @@
 // The execution of a transmission, unit by unit, with a response message for each message that has responses.
 ghost use Rattle.std.specs.Prelude.{◌≡◌, ℕ, List, is_some, ◌+◌, ◌<◌, ◌≤◌, ◌^◌, true, false, None, IfOk, IfErr, IfSome, OnOk, OnErr};
-ghost use Rattle.psu_messages.specs.Effects.{IsAwaited};
+ghost use Rattle.psu_messages.specs.Relations.{IsAwaited};
 ghost use Rattle.psu_messages.specs.Executions.{Advances, IsNext, IsOver, NextUnit, StopsAt};
 ghost use Rattle.psu_messages.specs.Places.{IsCursor, IsKept};
 ghost use Rattle.psu_messages.specs.Shown.{progress_of};
@@ -23,11 +23,11 @@ fn continue_expansion<A: Allocator + Copy, F: Executor<A>>(
 ) -> Result<Option<Need>, F::Stop>
     requires some { is_some progress.old.expansion ≡ true }
     requires units { progress.old.units + 1 < 2 ^ 64 }
-    ensures advances { IfOk result (λ _. (source : Source) → Advances F.does source executor.old (progress_of progress.old) executor.new (progress_of progress.new)) }
+    ensures advances { IfOk result (λ _. (source : Source) → Advances F.relations.does source executor.old (progress_of progress.old) executor.new (progress_of progress.new)) }
     ensures units { IfOk result (λ need. need ≡ None → progress.new.units ≡ progress.old.units + 1) }
     ensures grows { progress.old.units ≤ progress.new.units }
-    ensures waits { IfOk result (λ some. IfSome some (IsAwaited F.does F.yields executor.new)) }
-    ensures stops { IfErr result (λ stop. (source : Source) → StopsAt F.does F.fails F.stops source executor.old (progress_of progress.old) stop executor.new progress.new.gathered) }
+    ensures waits { IfOk result (λ some. IfSome some (IsAwaited F.relations executor.new)) }
+    ensures stops { IfErr result (λ stop. (source : Source) → StopsAt F.relations source executor.old (progress_of progress.old) stop executor.new progress.new.gathered) }
 {
     let Some(expansion) = &mut progress.expansion else {
         return Ok(None);
@@ -59,12 +59,12 @@ fn begin<A: Allocator + Copy, F: Executor<A>>(
     requires none { progress.old.expansion ≡ None }
     requires units { progress.old.units + 1 < 2 ^ 64 }
     ensures advances { IfOk result (λ _. (source : Source) → IsNext source (plain progress.old.units progress.old.parked progress.old.gathered) request.now
-        → Advances F.does source executor.old (plain progress.old.units progress.old.parked progress.old.gathered) executor.new (progress_of progress.new)) }
+        → Advances F.relations.does source executor.old (plain progress.old.units progress.old.parked progress.old.gathered) executor.new (progress_of progress.new)) }
     ensures units { IfOk result (λ need. need ≡ None → progress.new.units ≡ progress.old.units + 1) }
     ensures grows { progress.old.units ≤ progress.new.units }
-    ensures waits { IfOk result (λ some. IfSome some (IsAwaited F.does F.yields executor.new)) }
+    ensures waits { IfOk result (λ some. IfSome some (IsAwaited F.relations executor.new)) }
     ensures stops { IfErr result (λ stop. (source : Source) → IsNext source (plain progress.old.units progress.old.parked progress.old.gathered) request.now
-        → StopsAt F.does F.fails F.stops source executor.old (plain progress.old.units progress.old.parked progress.old.gathered) stop executor.new progress.new.gathered) }
+        → StopsAt F.relations source executor.old (plain progress.old.units progress.old.parked progress.old.gathered) stop executor.new progress.new.gathered) }
 {
     match attempt(executor, &mut progress.parked, request)? {
         Tried::Waits(need) => Ok(Some(need)),
@@ -90,10 +90,10 @@ fn close_before<A: Allocator + Copy, F: Executor<A>>(
     progress: &mut Progress<A>,
 ) -> Result<(), F::Stop>
     ensures advances { OnOk result ((source : Source) → (first ≡ true → progress.old.expansion ≡ None → EndsMessage source progress.old.units None)
-        → Advances F.does source executor.old (progress_of progress.old) executor.new (progress_of progress.new)) }
+        → Advances F.relations.does source executor.old (progress_of progress.old) executor.new (progress_of progress.new)) }
     ensures clear { OnOk result (first ≡ true → progress.new.expansion ≡ None → progress.new.gathered.answered ≡ false) }
     ensures units { progress.new.units ≡ progress.old.units }
-    ensures stopped { IfErr result (λ stop. F.stops executor.old stop executor.new) }
+    ensures stopped { IfErr result (λ stop. F.relations.stops executor.old stop executor.new) }
     ensures left { OnErr result (progress.new.gathered ≡ progress.old.gathered) }
     ensures unsent { OnErr result (progress.old.gathered.answered ≡ true) }
 {
@@ -115,12 +115,12 @@ fn take_turn<A: Allocator + Copy, F: Executor<A>>(
 ) -> Result<Option<Need>, F::Stop>
     requires { progress.old.units + 1 < 2 ^ 64 }
     ensures advances { IfOk result (λ _. (source : Source) → Asks source progress.old.units request.now first
-        → Advances F.does source executor.old (progress_of progress.old) executor.new (progress_of progress.new)) }
+        → Advances F.relations.does source executor.old (progress_of progress.old) executor.new (progress_of progress.new)) }
     ensures units { IfOk result (λ need. need ≡ None → progress.new.units ≡ progress.old.units + 1) }
     ensures grows { progress.old.units ≤ progress.new.units }
-    ensures waits { IfOk result (λ some. IfSome some (IsAwaited F.does F.yields executor.new)) }
+    ensures waits { IfOk result (λ some. IfSome some (IsAwaited F.relations executor.new)) }
     ensures stops { IfErr result (λ stop. (source : Source) → Asks source progress.old.units request.now first
-        → StopsAt F.does F.fails F.stops source executor.old (progress_of progress.old) stop executor.new progress.new.gathered) }
+        → StopsAt F.relations source executor.old (progress_of progress.old) stop executor.new progress.new.gathered) }
 {
     close_before(executor, first, progress)?;
     if progress.expansion.is_some() {
@@ -138,10 +138,10 @@ fn execute_units<'t, A: Allocator + Copy, F: Executor<A>>(
 ) -> Result<Option<Need>, F::Stop>
     requires place { IsCursor false cursor.old }
     requires read { cursor.old.read ≡ progress.old.units }
-    ensures advances { IfOk result (λ _. Advances F.does (Text cursor.old.text.now) executor.old (progress_of progress.old) executor.new (progress_of progress.new)) }
+    ensures advances { IfOk result (λ _. Advances F.relations.does (Text cursor.old.text.now) executor.old (progress_of progress.old) executor.new (progress_of progress.new)) }
     ensures over { IfOk result (λ need. need ≡ None → IsOver (Text cursor.old.text.now) (progress_of progress.new)) }
-    ensures waits { IfOk result (λ some. IfSome some (IsAwaited F.does F.yields executor.new)) }
-    ensures stops { IfErr result (λ stop. StopsAt F.does F.fails F.stops (Text cursor.old.text.now) executor.old (progress_of progress.old) stop executor.new progress.new.gathered) }
+    ensures waits { IfOk result (λ some. IfSome some (IsAwaited F.relations executor.new)) }
+    ensures stops { IfErr result (λ stop. StopsAt F.relations (Text cursor.old.text.now) executor.old (progress_of progress.old) stop executor.new progress.new.gathered) }
     ensures place { IsCursor false cursor.new }
     ensures text { cursor.new.text ≡ cursor.old.text }
     ensures grows { progress.old.units ≤ progress.new.units }
@@ -172,10 +172,10 @@ pub fn execute_text<A: Allocator + Copy, F: Executor<A>>(
     progress: &mut Progress<A>,
 ) -> Result<Option<Need>, F::Stop>
     requires { progress.old.units ≡ 0 }
-    ensures advances { IfOk result (λ _. Advances F.does (Text bytes.now) executor.old (progress_of progress.old) executor.new (progress_of progress.new)) }
+    ensures advances { IfOk result (λ _. Advances F.relations.does (Text bytes.now) executor.old (progress_of progress.old) executor.new (progress_of progress.new)) }
     ensures over { IfOk result (λ need. need ≡ None → IsOver (Text bytes.now) (progress_of progress.new)) }
-    ensures waits { IfOk result (λ some. IfSome some (IsAwaited F.does F.yields executor.new)) }
-    ensures stops { IfErr result (λ stop. StopsAt F.does F.fails F.stops (Text bytes.now) executor.old (progress_of progress.old) stop executor.new progress.new.gathered) }
+    ensures waits { IfOk result (λ some. IfSome some (IsAwaited F.relations executor.new)) }
+    ensures stops { IfErr result (λ stop. StopsAt F.relations (Text bytes.now) executor.old (progress_of progress.old) stop executor.new progress.new.gathered) }
 {
     let mut cursor = Cursor::of(bytes);
     let need = execute_units(executor, &mut cursor, progress)?;
@@ -189,10 +189,10 @@ pub fn execute_fault<A: Allocator + Copy, F: Executor<A>>(
     error: ScpiError,
     progress: &mut Progress<A>,
 ) -> Result<Option<Need>, F::Stop>
-    ensures advances { IfOk result (λ _. Advances F.does (Fault error) executor.old (progress_of progress.old) executor.new (progress_of progress.new)) }
+    ensures advances { IfOk result (λ _. Advances F.relations.does (Fault error) executor.old (progress_of progress.old) executor.new (progress_of progress.new)) }
     ensures over { IfOk result (λ need. need ≡ None → IsOver (Fault error) (progress_of progress.new)) }
-    ensures waits { IfOk result (λ some. IfSome some (IsAwaited F.does F.yields executor.new)) }
-    ensures stops { IfErr result (λ stop. StopsAt F.does F.fails F.stops (Fault error) executor.old (progress_of progress.old) stop executor.new progress.new.gathered) }
+    ensures waits { IfOk result (λ some. IfSome some (IsAwaited F.relations executor.new)) }
+    ensures stops { IfErr result (λ stop. StopsAt F.relations (Fault error) executor.old (progress_of progress.old) stop executor.new progress.new.gathered) }
 {
     if progress.units > 0 {
         close(executor, &mut progress.gathered)?;
@@ -222,10 +222,10 @@ pub(crate) fn execute_rest<A: Allocator + Copy, F: Executor<A>>(
 ) -> Result<Option<Need>, F::Stop>
     requires kept { IsKept false bytes.now place.old }
     requires done { place.old.read ≤ progress.old.units }
-    ensures advances { IfOk result (λ _. Advances F.does (Text bytes.now) executor.old (progress_of progress.old) executor.new (progress_of progress.new)) }
+    ensures advances { IfOk result (λ _. Advances F.relations.does (Text bytes.now) executor.old (progress_of progress.old) executor.new (progress_of progress.new)) }
     ensures over { IfOk result (λ need. need ≡ None → IsOver (Text bytes.now) (progress_of progress.new)) }
-    ensures waits { IfOk result (λ some. IfSome some (IsAwaited F.does F.yields executor.new)) }
-    ensures stops { IfErr result (λ stop. StopsAt F.does F.fails F.stops (Text bytes.now) executor.old (progress_of progress.old) stop executor.new progress.new.gathered) }
+    ensures waits { IfOk result (λ some. IfSome some (IsAwaited F.relations executor.new)) }
+    ensures stops { IfErr result (λ stop. StopsAt F.relations (Text bytes.now) executor.old (progress_of progress.old) stop executor.new progress.new.gathered) }
     ensures kept { IsKept false bytes.now place.new }
     ensures done { place.new.read ≤ progress.new.units }
 {

@@ -18,8 +18,8 @@ pub(crate) fn add_response<A: Allocator + Copy, F: Executor<A>>(
     gathered: &mut ResponseBuffer<A>,
     outcome: &Outcome<A>,
 ) -> Result<(), F::Stop>
-    ensures adds { OnOk result (AddsResponse F.does executor.old gathered.old (outcome_of outcome.now) executor.new gathered.new) }
-    ensures stopped { IfErr result (λ stop. F.stops executor.old stop executor.new) }
+    ensures adds { OnOk result (AddsResponse F.relations.does executor.old gathered.old (outcome_of outcome.now) executor.new gathered.new) }
+    ensures stopped { IfErr result (λ stop. F.relations.stops executor.old stop executor.new) }
     ensures left { OnErr result (IsLeft gathered.old (outcome_of outcome.now) gathered.new) }
     ensures response { OnErr result (IsResponse (outcome_of outcome.now)) }
 {
@@ -44,8 +44,8 @@ pub(crate) fn close<A: Allocator + Copy, F: Executor<A>>(
     executor: &mut F,
     gathered: &mut ResponseBuffer<A>,
 ) -> Result<(), F::Stop>
-    ensures closes { OnOk result (Closes F.does executor.old gathered.old executor.new gathered.new) }
-    ensures stopped { IfErr result (λ stop. F.stops executor.old stop executor.new) }
+    ensures closes { OnOk result (Closes F.relations.does executor.old gathered.old executor.new gathered.new) }
+    ensures stopped { IfErr result (λ stop. F.relations.stops executor.old stop executor.new) }
     ensures left { OnErr result (gathered.new ≡ gathered.old) }
     ensures unsent { OnErr result (gathered.old.answered ≡ true) }
 {

@@ -23,10 +23,10 @@ pub(crate) fn take_step<A: Allocator + Copy, F: Executor<A>>(
     gathered: &mut ResponseBuffer<A>,
 ) -> Result<Option<Need>, F::Stop>
     ensures advances { IfOk result (λ need. (source : Source) (units : ℕ) (body : List ℕ) (done : ℕ) → IsInside body done request.now
-        → Advances F.does source executor.old (within units body done parked.old gathered.old) executor.new (within units body (done_by need done) parked.new gathered.new)) }
-    ensures waits { IfOk result (λ some. IfSome some (Awaits F.does executor.new)) }
+        → Advances F.relations.does source executor.old (within units body done parked.old gathered.old) executor.new (within units body (done_by need done) parked.new gathered.new)) }
+    ensures waits { IfOk result (λ some. IfSome some (Awaits F.relations.does executor.new)) }
     ensures stops { IfErr result (λ stop. (source : Source) (units : ℕ) (body : List ℕ) (done : ℕ) → IsInside body done request.now
-        → StopsAt F.does F.fails F.stops source executor.old (within units body done parked.old gathered.old) stop executor.new gathered.new) }
+        → StopsAt F.relations source executor.old (within units body done parked.old gathered.old) stop executor.new gathered.new) }
 {
     match attempt(executor, parked, request)? {
         Tried::Waits(need) => Ok(Some(need)),

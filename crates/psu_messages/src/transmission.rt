@@ -1,6 +1,6 @@
 // A transmission in execution.
 ghost use Rattle.std.specs.Prelude.{◌≡◌, None, IfOk, IfErr, IfSome};
-ghost use Rattle.psu_messages.specs.Effects.{IsAwaited};
+ghost use Rattle.psu_messages.specs.Relations.{IsAwaited};
 ghost use Rattle.psu_messages.specs.Executions.{Advances, IsOver, StopsAt, beginning};
 ghost use Rattle.psu_messages.specs.Units.{source_of};
 
@@ -63,10 +63,10 @@ impl<A: Allocator + Copy> Transmission<A> {
         alloc: A,
     ) -> Result<Option<Need>, F::Stop>
         ensures source { self.new.source ≡ self.old.source }
-        ensures advances { IfOk result (λ _. Advances F.does self.old.source executor.old self.old.progress executor.new self.new.progress) }
+        ensures advances { IfOk result (λ _. Advances F.relations.does self.old.source executor.old self.old.progress executor.new self.new.progress) }
         ensures over { IfOk result (λ need. need ≡ None → IsOver self.old.source self.new.progress) }
-        ensures waits { IfOk result (λ some. IfSome some (IsAwaited F.does F.yields executor.new)) }
-        ensures stops { IfErr result (λ stop. StopsAt F.does F.fails F.stops self.old.source executor.old self.old.progress stop executor.new self.new.progress.text) }
+        ensures waits { IfOk result (λ some. IfSome some (IsAwaited F.relations executor.new)) }
+        ensures stops { IfErr result (λ stop. StopsAt F.relations self.old.source executor.old self.old.progress stop executor.new self.new.progress.text) }
     {
         match &self.input {
             Input::Text(text) => {

@@ -38,8 +38,8 @@ pub(crate) fn attempt<A: Allocator + Copy, F: Executor<A>>(
     parked: &mut bool,
     request: &Request<'_>,
 ) -> Result<Tried<A>, F::Stop>
-    ensures tried { IfOk result (IsTried F.does executor.old parked.old request.now executor.new parked.new) }
-    ensures stopped { IfErr result (λ stop. IsBrokenOff F.fails F.stops executor.old parked.old request.now stop executor.new) }
+    ensures tried { IfOk result (IsTried F.relations.does executor.old parked.old request.now executor.new parked.new) }
+    ensures stopped { IfErr result (λ stop. IsBrokenOff F.relations executor.old parked.old request.now stop executor.new) }
 {
     let outcome = if *parked {
         executor.settle()?

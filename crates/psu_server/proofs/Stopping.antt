@@ -8,6 +8,7 @@ use Rattle.psu_answers.specs.Response.{are_some, joined, response}
 use Rattle.psu_exec.specs.Device.{Reply, Answer, Expand}
 use Rattle.psu_exec.specs.declared.exec.Exec.{Exec}
 use Rattle.psu_messages.specs.Effects.{Effect, Executed}
+use Rattle.psu_messages.specs.Relations.{Relations}
 use Rattle.psu_messages.specs.Units.{Asks, IsUnit, Source}
 use Rattle.psu_messages.specs.Executions.{Progress, Interruption, Advances, IsOver, IsUnended, NextAt, StopsAt, beginning}
 use Rattle.psu_messages.specs.Executions.Reaches.{Begins as Beginning}
@@ -161,14 +162,14 @@ StopsOn {D} {A} {G} {X} exec output stops = (x y : X) (cause : RunCause) → sto
 failed_until : {D A : Type 0} {G : Ghosts D} (mid new : Exec D A G) (now later : OutputState) (request : Request) (cause : RunCause) → IsFailed mid now request cause new later → SaysUntil cause now later []
 failed_until mid new now later request cause (same, s) = until_still cause now later s.own (ap (λ (t : OutputState). t.written) same) (ap (λ (t : OutputState). t.gathered) same)
 
-module _ {D A : Type 0} {G : Ghosts D} {X : Type 0} (exec : X → Exec D A G) (output : X → OutputState) (does : X → Effect → X → Type 0) (fails : X → Request → RunCause → X → Type 0) (stops : X → RunCause → X → Type 0)
-    (on : DoesOn exec output does) (fail : FailsOn exec output fails) (stop : StopsOn exec output stops) (ones : Ones) (some : SomeUnits) (reading : SomeReading) (source : Source) (line : IsLine source) where
+module _ {D A : Type 0} {G : Ghosts D} {X : Type 0} (exec : X → Exec D A G) (output : X → OutputState) (r : Relations X RunCause)
+    (on : DoesOn exec output r.does) (fail : FailsOn exec output r.fails) (stop : StopsOn exec output r.stops) (ones : Ones) (some : SomeUnits) (reading : SomeReading) (source : Source) (line : IsLine source) where
   -- the output up to a place, and the response buffer there
   abbrev Ended : X → X → RunCause → List ℕ → Type 0
   Ended x y cause rest = Broken source (exec x) (output x) (exec y) (held (output y).written ((output y).gathered ++ rest)) cause
 
   failed_at : (x mid y : X) (cause : RunCause) (place : ℕ) (inside : Option ℕ) (expansion : Option (List ℕ)) (text : Text) (request : Request) → At source (exec x) (output x) (exec mid) (output mid) place expansion text inside
-      → NextAt source (record { standing = record { units = place; inside = inside; parked = false }; expansion = expansion; text = text }) inside request → fails mid request cause y → Ended x y cause text.rest
+      → NextAt source (record { standing = record { units = place; inside = inside; parked = false }; expansion = expansion; text = text }) inside request → r.fails mid request cause y → Ended x y cause text.rest
   failed_at x mid y cause place None expansion text request (inl o) (first, asks, clear) f =
       let d = fail mid y request cause f in
       stop_outside ones reading request first o asks (begun_by (exec mid) (exec y) request cause d.1) d.1.why
@@ -180,7 +181,7 @@ module _ {D A : Type 0} {G : Ghosts D} {X : Type 0} (exec : X → Exec D A G) (o
       (left_until cause (output x) (output mid) (output y) i.sent text.rest i.all i.says i.joins (failed_until (exec mid) (exec y) (output mid) (output y) request cause d))
 
   stopped_at : (x mid y : X) (cause : RunCause) (place : ℕ) (inside : Option ℕ) (expansion : Option (List ℕ)) (text : Text) → At source (exec x) (output x) (exec mid) (output mid) place expansion text inside
-      → IsUnended (record { standing = record { units = place; inside = inside; parked = false }; expansion = expansion; text = text }) → stops mid cause y → Ended x y cause text.rest
+      → IsUnended (record { standing = record { units = place; inside = inside; parked = false }; expansion = expansion; text = text }) → r.stops mid cause y → Ended x y cause text.rest
   stopped_at x mid y cause place None expansion text (inl o) begun s =
       let d = stop mid y cause s in
       subst (λ (z : Exec D A G). Broken source (exec x) (output x) z (held (output y).written ((output y).gathered ++ text.rest)) cause) (sym d.0)
@@ -194,7 +195,7 @@ module _ {D A : Type 0} {G : Ghosts D} {X : Type 0} (exec : X → Exec D A G) (o
       (rest_inside ones reading i (λ h. halted_by (exec x) (exec mid) cause d.2) (left_until cause (output x) (output mid) (output y) i.sent text.rest i.all i.says i.joins d.1))
 
   untold_at : (x mid here y : X) (cause : RunCause) (place : ℕ) (inside : Option ℕ) (expansion : Option (List ℕ)) (text : Text) (request : Request) (reply : Reply) → At source (exec x) (output x) (exec mid) (output mid) place expansion text inside
-      → NextAt source (record { standing = record { units = place; inside = inside; parked = false }; expansion = expansion; text = text }) inside request → IsDone (exec mid) (output mid) (Executed request reply) (exec here) (output here) → stops here cause y
+      → NextAt source (record { standing = record { units = place; inside = inside; parked = false }; expansion = expansion; text = text }) inside request → IsDone (exec mid) (output mid) (Executed request reply) (exec here) (output here) → r.stops here cause y
       → Ended x y cause text.rest
   untold_at x mid here y cause place inside expansion text request reply at next done s =
       let d = stop here y cause s in
@@ -214,7 +215,7 @@ module _ {D A : Type 0} {G : Ghosts D} {X : Type 0} (exec : X → Exec D A G) (o
           stop_inside ones reading part request i (same_unit i body part request stands unit) begun why (left_until cause (output x) (output mid) (output y) i.sent text.rest i.all i.says i.joins until)
 
   cut_at : (x mid y : X) (cause : RunCause) (place : ℕ) (inside : Option ℕ) (parked : Bool) (expansion : Option (List ℕ)) (text : Text) → parked ≡ false → At source (exec x) (output x) (exec mid) (output mid) place expansion text inside
-      → Interruption does fails stops source mid (record { standing = record { units = place; inside = inside; parked = parked }; expansion = expansion; text = text }) cause y → Ended x y cause text.rest
+      → Interruption r source mid (record { standing = record { units = place; inside = inside; parked = parked }; expansion = expansion; text = text }) cause y → Ended x y cause text.rest
   cut_at x mid y cause place inside true expansion text e at cut = absurd (cc (e))
   cut_at x mid y cause place inside false expansion text e at (Failed request next parked f) = failed_at x mid y cause place inside expansion text request at next f
   cut_at x mid y cause place inside false expansion text e at (Stopped begun s) = stopped_at x mid y cause place inside expansion text at begun s
@@ -223,14 +224,14 @@ module _ {D A : Type 0} {G : Ghosts D} {X : Type 0} (exec : X → Exec D A G) (o
       (executed (exec mid) (exec here) (output mid) (output here) false request effect (Answer response) refl try (on mid here effect d)) s
 
   -- the line stopped early
-  broken_off : (x y : X) (cause : RunCause) (left : Text) → StopsAt does fails stops source x beginning cause y left → Ended x y cause left.rest
+  broken_off : (x y : X) (cause : RunCause) (left : Text) → StopsAt r source x beginning cause y left → Ended x y cause left.rest
   broken_off x y cause left s =
-      let at = come exec output does on ones some source line s.advances.added x s.mid s.new (s.advances.reaches [] Beginning) s.advances.runs in
+      let at = come exec output r.does on ones some source line s.advances.added x s.mid s.new (s.advances.reaches [] Beginning) s.advances.runs in
       subst (λ (t : Text). Ended x y cause t.rest) (sym s.text)
       (cut_at x s.mid y cause s.new.standing.units s.new.standing.inside s.new.standing.parked s.new.expansion s.new.text at.0 at.1 s.interruption)
 
-  pub broken : (x y : X) (cause : RunCause) (left : Text) (c : Progress) → c ≡ beginning → StopsAt does fails stops source x c cause y left → Ended x y cause left.rest
-  broken x y cause left c fresh device_stops = broken_off x y cause left (subst (λ (z : Progress). StopsAt does fails stops source x z cause y left) fresh device_stops)
+  pub broken : (x y : X) (cause : RunCause) (left : Text) (c : Progress) → c ≡ beginning → StopsAt r source x c cause y left → Ended x y cause left.rest
+  broken x y cause left c fresh device_stops = broken_off x y cause left (subst (λ (z : Progress). StopsAt r source x z cause y left) fresh device_stops)
 
 -- the line is complete
 pub whole : {D A : Type 0} {G : Ghosts D} {X : Type 0} (exec : X → Exec D A G) (output : X → OutputState) (does : X → Effect → X → Type 0) (on : DoesOn exec output does) (ones : Ones) (some : SomeUnits) (source : Source) (line : IsLine source) (x y : X) (from c : Progress)

@@ -3,7 +3,7 @@ ghost use Rattle.std.specs.Prelude.{◌≡◌, [], List, ℕ, IfErr, IfOk, IfSom
 ghost use Rattle.psu_answers.specs.ResponseBuffer.{nothing};
 ghost use Rattle.psu_answers.specs.Response.{joined, response};
 ghost use Rattle.psu_messages.specs.Executions.{Advances, IsOver, StopsAt};
-ghost use Rattle.psu_messages.specs.Effects.{IsAwaited};
+ghost use Rattle.psu_messages.specs.Relations.{IsAwaited};
 ghost use Rattle.psu_messages.specs.Shown.{progress_of};
 ghost use Rattle.psu_tree.specs.declared.unit_request.Request.{Request as RequestData};
 ghost use Rattle.psu_server.specs.Effects.{IsDone, IsFailed, IsStopped, line_source};
@@ -37,10 +37,10 @@ fn proceed<A: Allocator + Copy, F: Executor<A>>(
     progress: &mut Progress<A>,
 ) -> Result<Option<Need>, F::Stop>
     requires { progress.old.units ≡ 0 }
-    ensures goes { OnOk result (Advances F.does (line_source lines.now.is_too_long lines.now.line.items) executor.old (progress_of progress.old) executor.new (progress_of progress.new)) }
+    ensures goes { OnOk result (Advances F.relations.does (line_source lines.now.is_too_long lines.now.line.items) executor.old (progress_of progress.old) executor.new (progress_of progress.new)) }
     ensures over { IfOk result (λ need. need ≡ None → IsOver (line_source lines.now.is_too_long lines.now.line.items) (progress_of progress.new)) }
-    ensures waits { IfOk result (λ some. IfSome some (IsAwaited F.does F.yields executor.new)) }
-    ensures stops { IfErr result (λ stop. StopsAt F.does F.fails F.stops (line_source lines.now.is_too_long lines.now.line.items) executor.old (progress_of progress.old) stop executor.new
+    ensures waits { IfOk result (λ some. IfSome some (IsAwaited F.relations executor.new)) }
+    ensures stops { IfErr result (λ stop. StopsAt F.relations (line_source lines.now.is_too_long lines.now.line.items) executor.old (progress_of progress.old) stop executor.new
         progress.new.gathered) }
 {
     if lines.is_too_long {
@@ -61,16 +61,15 @@ pub struct Console<'p, 'w, W: Write, D: Disk, A: Allocator + Copy> {
 impl<'p, 'w, W: Write, D: Disk, A: Allocator + Copy> Executor<A> for Console<'p, 'w, W, D, A> {
     type Stop = RunCause;
 
-    ghost does = { λ x effect y. (y.run_state.ghost_name ≡ x.run_state.ghost_name) × (y.writer.ghost_name ≡ x.writer.ghost_name)
-        × IsDone x.run_state.now.powered.exec (held (W.contents x.writer.now) x.run_state.now.unwritten.output.items) effect y.run_state.now.powered.exec (held (W.contents y.writer.now) y.run_state.now.unwritten.output.items) };
-
-    ghost fails = { λ x request cause y. (y.run_state.ghost_name ≡ x.run_state.ghost_name) × (y.writer.ghost_name ≡ x.writer.ghost_name)
-        × IsFailed x.run_state.now.powered.exec (held (W.contents x.writer.now) x.run_state.now.unwritten.output.items) request cause y.run_state.now.powered.exec (held (W.contents y.writer.now) y.run_state.now.unwritten.output.items) };
-
-    ghost stops = { λ x cause y. (y.run_state.ghost_name ≡ x.run_state.ghost_name) × (y.writer.ghost_name ≡ x.writer.ghost_name)
-        × IsStopped x.run_state.now.powered.exec (held (W.contents x.writer.now) x.run_state.now.unwritten.output.items) cause y.run_state.now.powered.exec (held (W.contents y.writer.now) y.run_state.now.unwritten.output.items) };
-
-    ghost yields = { λ _. ⊥ };
+    ghost relations = { record {
+      does = λ x effect y. (y.run_state.ghost_name ≡ x.run_state.ghost_name) × (y.writer.ghost_name ≡ x.writer.ghost_name)
+          × IsDone x.run_state.now.powered.exec (held (W.contents x.writer.now) x.run_state.now.unwritten.output.items) effect y.run_state.now.powered.exec (held (W.contents y.writer.now) y.run_state.now.unwritten.output.items);
+      fails = λ x request cause y. (y.run_state.ghost_name ≡ x.run_state.ghost_name) × (y.writer.ghost_name ≡ x.writer.ghost_name)
+          × IsFailed x.run_state.now.powered.exec (held (W.contents x.writer.now) x.run_state.now.unwritten.output.items) request cause y.run_state.now.powered.exec (held (W.contents y.writer.now) y.run_state.now.unwritten.output.items);
+      stops = λ x cause y. (y.run_state.ghost_name ≡ x.run_state.ghost_name) × (y.writer.ghost_name ≡ x.writer.ghost_name)
+          × IsStopped x.run_state.now.powered.exec (held (W.contents x.writer.now) x.run_state.now.unwritten.output.items) cause y.run_state.now.powered.exec (held (W.contents y.writer.now) y.run_state.now.unwritten.output.items);
+      yields = λ _. ⊥;
+    } };
 
     // It never yields: a run has no others.
     #[inline(always)]

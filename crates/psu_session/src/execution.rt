@@ -33,14 +33,13 @@ pub(crate) struct Execution<'a, 'b, 'c, D: Device> {
 impl<'a, 'b, 'c, D: Device> Executor<Global> for Execution<'a, 'b, 'c, D> {
     type Stop = Ended;
 
-    ghost does = { λ x effect y. (y.output.ghost_name ≡ x.output.ghost_name) × (y.device.ghost_name ≡ x.device.ghost_name) × (y.core ≡ x.core) × (y.origin ≡ x.origin)
-        × Puts x.core.now x.origin effect x.output.now.items y.output.now.items × D.does x.device.now (call_of effect) y.device.now };
-
-    ghost fails = { λ x request stop y. ⊥ };
-
-    ghost stops = { λ x stop y. (y.output.ghost_name ≡ x.output.ghost_name) × (y.device.ghost_name ≡ x.device.ghost_name) × (y.device.now ≡ x.device.now) };
-
-    ghost yields = { λ _. Unit {0} };
+    ghost relations = { record {
+      does = λ x effect y. (y.output.ghost_name ≡ x.output.ghost_name) × (y.device.ghost_name ≡ x.device.ghost_name) × (y.core ≡ x.core) × (y.origin ≡ x.origin)
+          × Puts x.core.now x.origin effect x.output.now.items y.output.now.items × D.does x.device.now (call_of effect) y.device.now;
+      fails = λ x request stop y. ⊥;
+      stops = λ x stop y. (y.output.ghost_name ≡ x.output.ghost_name) × (y.device.ghost_name ≡ x.device.ghost_name) × (y.device.now ≡ x.device.now);
+      yields = λ _. Unit {0};
+    } };
 
     fn may_continue(&self) -> bool {
         self.left > 0 && self.output.len() < ROOM

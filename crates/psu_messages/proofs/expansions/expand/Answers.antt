@@ -18,7 +18,7 @@ returns-in-Some-step-clause-advances g c = λ source units.
     (unit_is true c.units.cursor c.units.invariant.place c.next_unit.new.self c.next_unit.ensures.text c.next_unit.ensures.path c.in-Some.unit c.request-request.result c.request-request.new.self c.next_unit.ensures.read
     c.in-Some.ensures.some c.next_unit.ensures.rest c.in-Some.ensures.less c.request-request.ensures.request c.request-request.ensures.text c.request-request.ensures.units c.request-request.ensures.read) in
     let went = rw c.in-Some-step.is at c.in_ok-step.ensures.advances in
-    behind g.F.Executor.does source c.args.executor.now c.units.executor c.take_step.new.executor _ _ _ (c.units.invariant.advances source units) (went source units c.args.body.now c.units.done next)
+    behind g.F.Executor.relations.does source c.args.executor.now c.units.executor c.take_step.new.executor _ _ _ (c.units.invariant.advances source units) (went source units c.args.body.now c.units.done next)
 
 pub units-preserved : goal.units-preserved
 units-preserved g c =
@@ -31,11 +31,11 @@ units-preserved g c =
           c.in-Some.ensures.some c.next_unit.ensures.rest c.in-Some.ensures.less c.request-request.ensures.request c.request-request.ensures.text c.request-request.ensures.units c.request-request.ensures.read;
       text = ap (λ t. t.now) (c.request-request.ensures.text ∙ c.next_unit.ensures.text) ∙ c.units.invariant.text;
       read = omega (arith, c.request-request.ensures.read, c.next_unit.ensures.read, c.units.invariant.read);
-      advances = λ source units. behind g.F.Executor.does source c.args.executor.now c.units.executor c.take_step.new.executor _ _ _ (c.units.invariant.advances source units) (went source units c.args.body.now c.units.done next);
+      advances = λ source units. behind g.F.Executor.relations.does source c.args.executor.now c.units.executor c.take_step.new.executor _ _ _ (c.units.invariant.advances source units) (went source units c.args.body.now c.units.done next);
     }
 
 pub returns-clause-advances : goal.returns-clause-advances
 returns-clause-advances g c = λ source units.
-    behind g.F.Executor.does source c.args.executor.now c.units.executor c.units.executor _ _ _ (c.units.invariant.advances source units)
-    (leaves_all g.F.Executor.does source c.units.executor units c.args.body.now c.units.done c.units.parked c.units.gathered
+    behind g.F.Executor.relations.does source c.args.executor.now c.units.executor c.units.executor _ _ _ (c.units.invariant.advances source units)
+    (leaves_all g.F.Executor.relations.does source c.units.executor units c.args.body.now c.units.done c.units.parked c.units.gathered
     (behind_out c.args.body.now c.units.done c.units.cursor c.units.invariant.text c.units.invariant.read (none_behind true c.units.cursor c.units.invariant.place c.in_default.ensures.none)))

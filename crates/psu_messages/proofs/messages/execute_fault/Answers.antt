@@ -12,7 +12,7 @@ returns-in_err-close-clause-stops g c =
 pub returns-then-progress-gt0-clause-advances : goal.returns-then-progress-gt0-clause-advances
 returns-then-progress-gt0-clause-advances g c =
     let more : 0 < c.args.progress.now.units = omega (arith, c.if-progress-gt0.true) in
-    closes g.F.Executor.does (Fault c.args.error) c.args.executor.now c.close.new.executor (progress_of c.args.progress.now) c.close.new.gathered (λ none. absurd (omega arith)) c.in_ok-close.ensures.closes
+    closes g.F.Executor.relations.does (Fault c.args.error) c.args.executor.now c.close.new.executor (progress_of c.args.progress.now) c.close.new.gathered (λ none. absurd (omega arith)) c.in_ok-close.ensures.closes
 
 pub returns-in_err-close-2-clause-stops : goal.returns-in_err-close-2-clause-stops
 returns-in_err-close-2-clause-stops g c =
@@ -24,5 +24,5 @@ pub returns-clause-advances : goal.returns-clause-advances
 returns-clause-advances g c =
     let first : c.args.progress.now.units ≡ 0 = omega (arith, c.if-progress-gt0.false) in
     let next : c.take_turn.new.progress.units ≡ 1 = c.in_ok-turn.ensures.units c.in_default.is ∙ ap (λ (n : ℕ). n + 1) first in
-    behind g.F.Executor.does (Fault c.args.error) c.args.executor.now c.take_turn.new.executor c.close-2.new.executor _ _ _ (c.in_ok-turn.ensures.advances (Fault c.args.error) (first, refl, refl))
-    (closes g.F.Executor.does (Fault c.args.error) c.take_turn.new.executor c.close-2.new.executor (progress_of c.take_turn.new.progress) c.close-2.new.gathered (λ none. absurd (omega arith)) c.in_ok-close-2.ensures.closes)
+    behind g.F.Executor.relations.does (Fault c.args.error) c.args.executor.now c.take_turn.new.executor c.close-2.new.executor _ _ _ (c.in_ok-turn.ensures.advances (Fault c.args.error) (first, refl, refl))
+    (closes g.F.Executor.relations.does (Fault c.args.error) c.take_turn.new.executor c.close-2.new.executor (progress_of c.take_turn.new.progress) c.close-2.new.gathered (λ none. absurd (omega arith)) c.in_ok-close-2.ensures.closes)

@@ -10,7 +10,7 @@ invariant-units g l = record {
   place : IsCursor false l.cursor;
   text : l.cursor.text ≡ l.initial.cursor.text;
   read : l.cursor.read ≡ l.progress.units;
-  advances : Advances g.F.Executor.does (Text l.initial.cursor.text.now) l.initial.executor (progress_of l.initial.progress) l.executor (progress_of l.progress);
+  advances : Advances g.F.Executor.relations.does (Text l.initial.cursor.text.now) l.initial.executor (progress_of l.initial.progress) l.executor (progress_of l.progress);
   grows : l.initial.progress.units ≤ l.progress.units;
 }
 

@@ -11,7 +11,7 @@ returns-in_err-close_before-clause-stops g c =
 pub returns-then-is_some-clause-advances : goal.returns-then-is_some-clause-advances
 returns-then-is_some-clause-advances g c =
     IfOk-weaker c.continue_expansion.result _ _
-    (λ need advances source asks. behind g.F.Executor.does source c.args.executor.now c.close_before.new.executor c.continue_expansion.new.executor _ _ _
+    (λ need advances source asks. behind g.F.Executor.relations.does source c.args.executor.now c.close_before.new.executor c.continue_expansion.new.executor _ _ _
     (c.in_ok-close_before.ensures.advances source (λ first out. turn_ends source c.args.progress.now.units c.args.request.now c.args.first asks first)) (advances source))
     c.continue_expansion.ensures.advances
 
@@ -28,8 +28,8 @@ returns-clause-stops g c =
     IfErr-weaker c.begin.result _ _
     (λ stop stops source asks. stops_on
     (c.in_ok-close_before.ensures.advances source (λ first out. turn_ends source c.args.progress.now.units c.args.request.now c.args.first asks first))
-    (stops_plain g.F.Executor.does source c.close_before.new.progress none c.close_before.new.executor c.begin.new.executor stop _
-    (stops source (next_of g.F.Executor.does source c.close_before.new.progress none c.args.request.now
+    (stops_plain g.F.Executor.relations source c.close_before.new.progress none c.close_before.new.executor c.begin.new.executor stop _
+    (stops source (next_of g.F.Executor.relations.does source c.close_before.new.progress none c.args.request.now
     (turn_next source c.close_before.new.progress c.args.progress.now.units c.args.request.now c.args.first c.in_ok-close_before.ensures.units asks c.in_ok-close_before.ensures.clear)))))
     c.begin.ensures.stops
 
@@ -37,9 +37,9 @@ pub returns-clause-advances : goal.returns-clause-advances
 returns-clause-advances g c =
     let none : c.close_before.new.progress.expansion ≡ None = without c.close_before.new.progress.expansion (sym c.is_some.ensures ∙ c.if-is_some.false) in
     IfOk-weaker c.begin.result _ _
-    (λ need advances source asks. behind g.F.Executor.does source c.args.executor.now c.close_before.new.executor c.begin.new.executor _ _ _
+    (λ need advances source asks. behind g.F.Executor.relations.does source c.args.executor.now c.close_before.new.executor c.begin.new.executor _ _ _
     (c.in_ok-close_before.ensures.advances source (λ first out. turn_ends source c.args.progress.now.units c.args.request.now c.args.first asks first))
-    (from_plain g.F.Executor.does source c.close_before.new.progress none c.close_before.new.executor c.begin.new.executor _
-    (advances source (next_of g.F.Executor.does source c.close_before.new.progress none c.args.request.now
+    (from_plain g.F.Executor.relations.does source c.close_before.new.progress none c.close_before.new.executor c.begin.new.executor _
+    (advances source (next_of g.F.Executor.relations.does source c.close_before.new.progress none c.args.request.now
     (turn_next source c.close_before.new.progress c.args.progress.now.units c.args.request.now c.args.first c.in_ok-close_before.ensures.units asks c.in_ok-close_before.ensures.clear)))))
     c.begin.ensures.advances

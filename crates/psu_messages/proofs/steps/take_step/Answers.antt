@@ -17,11 +17,11 @@ returns-in_err-add_response-in-Ended-clause-stops g c =
 pub returns-in-Waits-clause-advances : goal.returns-in-Waits-clause-advances
 returns-in-Waits-clause-advances g c = λ source units body done unit.
     let t = rw c.in-Waits.is at c.in_ok-need.ensures.tried in
-    waits g.F.Executor.does source c.args.executor.now c.attempt.new.executor (record { units = units; inside = Some done; parked = c.args.parked.now }) c.attempt.new.parked (Some body) c.args.gathered.now c.args.request.now t.0 c.in-Waits.need
+    waits g.F.Executor.relations.does source c.args.executor.now c.attempt.new.executor (record { units = units; inside = Some done; parked = c.args.parked.now }) c.attempt.new.parked (Some body) c.args.gathered.now c.args.request.now t.0 c.in-Waits.need
     (next_within source units body done c.args.parked.now c.args.gathered.now c.args.request.now unit) t.1 t.2 t.3
 
 pub returns-in_ok-add_response-in-Ended-clause-advances : goal.returns-in_ok-add_response-in-Ended-clause-advances
 returns-in_ok-add_response-in-Ended-clause-advances g c = λ source units body done unit.
     let t = rw c.in-Ended.is at c.in_ok-need.ensures.tried in
-    added_within g.F.Executor.does source c.args.executor.now c.attempt.new.executor c.add_response.new.executor units body done c.args.parked.now c.attempt.new.parked c.args.gathered.now c.add_response.new.gathered c.args.request.now (outcome_of c.in-Ended.outcome) unit t.0 t.1 t.2
+    added_within g.F.Executor.relations.does source c.args.executor.now c.attempt.new.executor c.add_response.new.executor units body done c.args.parked.now c.attempt.new.parked c.args.gathered.now c.add_response.new.gathered c.args.request.now (outcome_of c.in-Ended.outcome) unit t.0 t.1 t.2
     c.in_ok-add_response-in-Ended.ensures.adds

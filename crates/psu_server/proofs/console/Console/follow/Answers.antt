@@ -19,7 +19,7 @@ returns-clause-breaks g c =
       syntax = c.one_syntax_of_a_unit.ensures;
     } in
     let lines = c.args.lines.now in
-    let b = broken (λ x. x.run_state.now.powered.exec) (λ x. held (g.W.Write.contents x.writer.now) x.run_state.now.unwritten.output.items) _ _ _ (λ x y effect d. d.2) (λ x y request cause f. f.2) (λ x y cause s. s.2) ones c.every_list_has_units.ensures c.every_unit_reads.ensures
+    let b = broken (λ x. x.run_state.now.powered.exec) (λ x. held (g.W.Write.contents x.writer.now) x.run_state.now.unwritten.output.items) _ (λ x y effect d. d.2) (λ x y request cause f. f.2) (λ x y cause s. s.2) ones c.every_list_has_units.ensures c.every_unit_reads.ensures
     (line_source lines.is_too_long lines.line.items) (is_line lines.is_too_long lines.line.items lines.free) _ c.proceed-done.new.executor c.in-Err.cause c.proceed-done.new.progress.gathered _ (ap (progress start None) (c.replace-gathered.ensures.value ∙ c.requires.fresh)) c.in-Err.ensures.stops in
     (b.0, asks_line lines.is_too_long lines.line.items b.0 lines.short c.requires.power b.1, b.2, b.3, b.4)
 
