@@ -14,7 +14,7 @@ use Rattle.psu_session.specs.Events.{Call, call_of}
 use Rattle.psu_session.specs.Serving.{Runs}
 use Rattle.psu_session.specs.Stopping.{CallsAdvancing}
 
-module _ {X V S : Type 0} {r : Relations X S} (made : V → Call → V → Type 0) (device : X → V)
+module _ {X V S : Type 0} (r : Relations X S) (made : V → Call → V → Type 0) (device : X → V)
     (step : (x y : X) (effect : Effect) → r.does x effect y → made (device x) (call_of effect) (device y)) (fail : (x y : X) (request : Request) (stop : S) → r.fails x request stop y → ⊥)
     (same : (x y : X) (stop : S) → r.stops x stop y → device y ≡ device x) where
   calls_made : (x : X) (added : List Effect) (y : X) → messages.Runs r.does x added y → Runs made (device x) (map call_of added) (device y)
