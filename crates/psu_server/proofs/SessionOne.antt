@@ -1,5 +1,5 @@
 -- The wait and the store after a call on session 1.
-use Rattle.std.proofs.Common.{◌≡◌, ℕ, ◌==◌, if◌then◌else◌, not, Bool, true, false, Option, Some, None, List, [], ◌∷◌, refl, sym, ap, ◌∙◌, subst, inl, inr, slice_index_or, slice_set}
+use Rattle.std.proofs.Common.{◌≡◌, ℕ, ◌==◌, if◌then◌else◌, not, Bool, true, false, Option, Some, None, List, [], ◌∷◌, refl, sym, ap, ◌∙◌, subst, slice_index_or, slice_set}
 use Rattle.psu_disk.specs.declared.disk.Disk.{Ghosts}
 use Rattle.psu_locks.specs.Locks.{Locks, may_command}
 use Rattle.psu_exec.specs.Calls.{Executed, Settled, Cleared, Allows, settle_answer, settled}

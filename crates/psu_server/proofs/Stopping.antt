@@ -23,7 +23,7 @@ use Rattle.psu_server.specs.declared.run_cause.RunCause.{RunCause}
 use Rattle.psu_server.specs.declared.run_cause.RunCause.TheVariants.{Memory, Write}
 use Rattle.psu_server.proofs.Asking.{AskedBy, asked_all, asked_next, asked_some, first_next, first_some}
 use Rattle.psu_server.proofs.Calls.{begins_all, unit_calls}
-use Rattle.psu_server.proofs.Coming.{At, DoesOn, Inside, IsLine, LineExpands, Outside, at_start, come, executed, same_unit}
+use Rattle.psu_server.proofs.Coming.{At, DoesOn, Inside, IsLine, LineExpands, Outside, come, executed, same_unit}
 use Rattle.psu_server.proofs.MessageEnds.{line_begun, line_more, line_over, units_begun, units_more, units_over}
 use Rattle.psu_server.proofs.Readings.{SomeReading}
 use Rattle.psu_server.proofs.Scripts.{Ones, SomeUnits}
