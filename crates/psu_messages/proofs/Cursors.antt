@@ -1,5 +1,5 @@
 -- A cursor over the units of a text.
-use Rattle.std.proofs.Common.{◌≡◌, ℕ, ◌+◌, ◌<◌, ◌≤◌, Bool, true, false, Option, Some, None, IfSome, arith, List, [], ◌∷◌, length, refl, sym, ap, ◌∙◌, subst}
+use Rattle.std.proofs.Common.{◌≡◌, ℕ, ◌+◌, ◌<◌, ◌≤◌, Bool, true, false, Option, Some, None, IfSome, arith, List, [], ◌∷◌, length, refl, sym, ap, subst}
 use Rattle.std.proofs.lemmas.List.{append-nil}
 use Rattle.psu_lex.specs.Message.{EndsIn, Makes, Part, part}
 use Rattle.psu_lex.specs.declared.unit.Unit as rust
@@ -11,29 +11,25 @@ use Rattle.psu_messages.specs.declared.cursor.Cursor.{Cursor}
 use Rattle.psu_messages.specs.declared.cursor.Place.{Place}
 use Rattle.psu_messages.proofs.Places.{at_end, at_next, at_same, behind_at, unit_at}
 
-module _ (inside : Bool) (old : Cursor) (at : IsCursor inside old) (mid : Cursor) (text : mid.text ≡ old.text) (path : mid.path ≡ old.path) where
-  -- the next unit is read
-  module _ (unit : rust.Unit) (request : Request) (new : Cursor) (read : mid.read ≡ old.read) (makes : (more : List Part) → Makes mid.units.first [] mid.units.text.now more → Makes old.units.first [] old.units.text.now (part unit ∷ more))
-      (ends : EndsIn old.units.text.now mid.units.text.now) (less : length mid.units.text.now < length old.units.text.now)
-      (reads : IsRequest inside (path_at mid.path (part unit)) (part unit) request new.path) (same : new.text ≡ mid.text) (units : new.units ≡ mid.units) (one : new.read ≡ mid.read + 1) where
-    from_old : IsRequest inside (path_at old.path (part unit)) (part unit) request new.path
-    from_old = subst (λ (z : List (List ℕ)). IsRequest inside (path_at z (part unit)) (part unit) request new.path) path reads
-
+module _ (inside : Bool) (old : Cursor) (at : IsCursor inside old) (later : Units) where
+  -- the next unit is read, after which these are left
+  module _ (unit : rust.Unit) (request : Request) (new : Cursor) (makes : (more : List Part) → Makes later.first [] later.text.now more → Makes old.units.first [] old.units.text.now (part unit ∷ more))
+      (ends : EndsIn old.units.text.now later.text.now) (less : length later.text.now < length old.units.text.now)
+      (reads : IsRequest inside (path_at old.path (part unit)) (part unit) request new.path) (same : new.text ≡ old.text) (units : new.units ≡ later) (one : new.read ≡ old.read + 1) where
     pub goes_on : IsCursor inside new
     goes_on =
-        subst (λ (t : _). IsAt inside t.now new.read new.units.text.now new.units.first new.path) (sym (same ∙ text))
-        (at_same inside old.text.now _ _ _ _ _ _ _ _ (one ∙ ap (λ (n : ℕ). n + 1) read) (ap (λ (u : Units). u.text.now) units) (ap (λ (u : Units). u.first) units) refl
-        (at_next at mid.units.text.now mid.units.first (part unit) makes ends less request new.path from_old))
+        subst (λ (t : _). IsAt inside t.now new.read new.units.text.now new.units.first new.path) (sym same)
+        (at_same inside old.text.now _ _ _ _ _ _ _ _ one (ap (λ (u : Units). u.text.now) units) (ap (λ (u : Units). u.first) units) refl
+        (at_next at later.text.now later.first (part unit) makes ends less request new.path reads))
 
     pub unit_is : IsUnit inside old.text.now old.read (part unit) request
-    unit_is = unit_at at mid.units.text.now mid.units.first (part unit) makes ends less request new.path from_old
+    unit_is = unit_at at later.text.now later.first (part unit) makes ends less request new.path reads
 
   -- none is left
-  pub ends_at : (count : ℕ) (last : Units) → Makes old.units.first [] old.units.text.now [] → old.read ≤ count → ((rest : List ℕ) → EndsIn mid.text.now rest → length rest ≡ 0 → last.text.now ≡ rest) → last.first ≡ true
-      → IsAt inside mid.text.now count last.text.now last.first mid.path
-  ends_at count last none later are first =
-      at_same inside mid.text.now _ _ _ _ _ _ _ _ refl (are [] (mid.text.now, sym (append-nil mid.text.now)) refl) first path
-      (subst (λ (t : _). IsAt inside t.now count [] true old.path) (sym text) (at_end at count none later))
+  pub ends_at : (count : ℕ) → Makes old.units.first [] old.units.text.now [] → old.read ≤ count → ((rest : List ℕ) → EndsIn old.text.now rest → length rest ≡ 0 → later.text.now ≡ rest) → later.first ≡ true
+      → IsAt inside old.text.now count later.text.now later.first old.path
+  ends_at count none more are first =
+      at_same inside old.text.now _ _ _ _ _ _ _ _ refl (are [] (old.text.now, sym (append-nil old.text.now)) refl) first refl (at_end at count none more)
 
 -- no unit is left where the cursor is
 pub none_behind : (inside : Bool) (old : Cursor) → IsCursor inside old → Makes old.units.first [] old.units.text.now [] → IsBehind old.text.now old.read

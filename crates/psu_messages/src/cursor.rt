@@ -36,27 +36,7 @@ impl<'t> Cursor<'t> {
         }
     }
 
-    /// Returns the next unit. Where none is left, nothing has changed.
-    #[inline(always)]
-    pub(crate) fn next_unit(&mut self) -> Option<Unit<'t>>
-        ensures some { IfSome result (λ unit. (units : List Part) → Makes self.new.units.first [] self.new.units.text.now units
-            → Makes self.old.units.first [] self.old.units.text.now (part unit ∷ units)) }
-        ensures rest { EndsIn self.old.units.text.now self.new.units.text.now }
-        ensures less { IfSome result (λ _. length self.new.units.text.now < length self.old.units.text.now) }
-        ensures none { IfNone result (Makes self.old.units.first [] self.old.units.text.now []) }
-        ensures same { IfNone result (self.new.units ≡ self.old.units) }
-        ensures text { self.new.text ≡ self.old.text }
-        ensures path { self.new.path ≡ self.old.path }
-        ensures read { self.new.read ≡ self.old.read }
-    {
-        let mut units = self.units;
-        let unit = units.next_unit()?;
-        self.units = units;
-        Some(unit)
-    }
-
-    /// Parses the unit that was returned last, and moves the path; the first unit of a message is read from the root.
-    #[inline(always)]
+    /// Parses the unit that was taken last, and moves the path; the first unit of a message is read from the root.
     pub(crate) fn request(&mut self, unit: &Unit<'t>, inside: bool) -> Request<'t>
         requires { self.old.read + 1 < 2 ^ 64 }
         ensures request { IsRequest inside (path_at self.old.path (part unit.now)) (part unit.now) result self.new.path }
@@ -78,7 +58,7 @@ impl<'t> Cursor<'t> {
         ensures count { self.old.read ≤ count → self.new.read ≡ count }
     {
         while self.read < count {
-            let Some(unit) = self.next_unit() else {
+            let Some(unit) = self.units.next_unit() else {
                 self.units = Units::of_last(self.text, 0, true);
                 self.read = count;
                 return;

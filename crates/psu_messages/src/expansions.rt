@@ -31,7 +31,7 @@ pub(crate) fn expand<A: Allocator + Copy, F: Executor<A>>(
         if !executor.may_continue() {
             return Ok(Some(Need::Turn));
         }
-        let Some(unit) = cursor.next_unit() else {
+        let Some(unit) = cursor.units.next_unit() else {
             break;
         };
         let request = cursor.request(&unit, true);

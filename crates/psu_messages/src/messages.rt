@@ -142,7 +142,7 @@ fn execute_units<'t, A: Allocator + Copy, F: Executor<A>>(
     ensures over { IfOk result (λ need. need ≡ None → IsOver (Text cursor.old.text.now) (progress_of progress.new)) }
     ensures waits { IfOk result (λ some. IfSome some (IsAwaited F.relations executor.new)) }
     ensures stops { IfErr result (λ stop. StopsAt F.relations (Text cursor.old.text.now) executor.old (progress_of progress.old) stop executor.new progress.new.gathered) }
-    ensures place { IsCursor false cursor.new }
+    ensures place { IfOk result (λ need. is_some need ≡ true → IsCursor false cursor.new) }
     ensures text { cursor.new.text ≡ cursor.old.text }
     ensures grows { progress.old.units ≤ progress.new.units }
 {
@@ -150,7 +150,7 @@ fn execute_units<'t, A: Allocator + Copy, F: Executor<A>>(
         if !executor.may_continue() {
             return Ok(Some(Need::Turn));
         }
-        let Some(unit) = cursor.next_unit() else {
+        let Some(unit) = cursor.units.next_unit() else {
             break;
         };
         let request = cursor.request(&unit, false);

@@ -20,7 +20,7 @@ returns-clause-kept g c =
           subst (IsKept false c.args.bytes.now) (sym w.place-is)
           (w.advance_to-then-is_some.ensures.place false c.args.bytes.now
           (w.advance_to.ensures.place false c.args.bytes.now c.requires.kept (some_kept c.save_between-begun.result c.pass_to.new.self c.args.bytes.now text at c.save_between-begun.ensures.place))
-          (some_kept w.save_between-reached.result c.execute_units.new.cursor c.args.bytes.now (ap (λ t. t.now) c.in_ok-need.ensures.text ∙ text) c.in_ok-need.ensures.place w.save_between-reached.ensures.place))
+          (some_kept w.save_between-reached.result c.execute_units.new.cursor c.args.bytes.now (ap (λ t. t.now) c.in_ok-need.ensures.text ∙ text) (c.in_ok-need.ensures.place (sym c.is_some.ensures ∙ w.if-is_some.true)) w.save_between-reached.ensures.place))
       | else-is_some w ↦ subst (IsKept false c.args.bytes.now) (sym w.place-is) c.requires.kept
     ]
 
