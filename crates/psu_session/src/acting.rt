@@ -62,7 +62,7 @@ impl Parts {
     fn order(&mut self, origin: Origin, input: Input<Global>) -> Result<(), Ended>
         requires { HasRoom self.old }
         ensures done { OnOk result (state_of self.new ≡ added (state_of self.old) (Execute (order_of (record { origin = origin; input = input })) ∷ []) [] []) }
-        ensures refused { OnErr result (4194304 < self.old.held.out + cost_of (order_of (record { origin = origin; input = input }))) }
+        ensures refused { OnErr result (4194304 < (state_of self.old).held + cost_of (order_of (record { origin = origin; input = input }))) }
     {
         self.held.take(input.size())?;
         self.waiting.push_back_reserved(Work::Execute(Order { origin, input }));
@@ -73,7 +73,7 @@ impl Parts {
     fn ask_release(&mut self, now: u64, number: u32) -> Result<(), Ended>
         requires { HasRoom self.old }
         ensures done { OnOk result (state_of self.new ≡ added (state_of self.old) [] (record { number = number; requested_at = now } ∷ []) []) }
-        ensures refused { OnErr result (4194304 < self.old.owed.out + cost 0) }
+        ensures refused { OnErr result (4194304 < (state_of self.old).owed + cost 0) }
     {
         self.owed.take(0)?;
         self.releases.push_back_reserved(Release {
