@@ -65,7 +65,8 @@ impl Parts {
         ensures refused { OnErr result (4194304 < (state_of self.old).held + cost_of (order_of (record { origin = origin; input = input }))) }
     {
         self.held.take(input.size())?;
-        self.waiting.push_back_reserved(Work::Execute(Order { origin, input }));
+        self.waiting
+            .push_back_reserved(Work::Execute(Order { origin, input }));
         Ok(())
     }
 
