@@ -1,5 +1,5 @@
 -- The units of an expansion.
-use Rattle.std.proofs.Common.{◌≡◌, ℕ, ◌+◌, Bool, false, List, refl, sym, subst}
+use Rattle.std.proofs.Common.{◌≡◌, ℕ, ◌+◌, Bool, true, false, List, refl, subst}
 use Rattle.psu_lex.specs.Message.{Part}
 use Rattle.psu_tree.specs.declared.unit_request.Request.{Request}
 use Rattle.psu_answers.specs.ResponseBuffer.{Text}
@@ -8,10 +8,13 @@ use Rattle.psu_messages.specs.Units.{IsBehind, IsUnit, Source}
 use Rattle.psu_messages.specs.Executions.{Advances}
 use Rattle.psu_messages.specs.Stepping.{plain, within}
 use Rattle.psu_messages.specs.Turns.{IsInside}
+use Rattle.psu_messages.specs.declared.cursor.Cursor.{Cursor}
 use Rattle.psu_messages.proofs.Going.{leaves}
 
-pub inside_at : (body : List ℕ) (place now : ℕ) (part : Part) (request : Request) → place ≡ now → IsUnit true body now part request → IsInside body place request
-inside_at body place now part request e unit = (part, subst (λ (n : ℕ). IsUnit true body n part request) (sym e) unit)
+-- the unit that a cursor of an expansion has read
+pub inside_at : (body : List ℕ) (done : ℕ) (cursor : Cursor) (part : Part) (request : Request) → cursor.text.now ≡ body → cursor.read ≡ done → IsUnit true cursor.text.now cursor.read part request → IsInside body done request
+inside_at body done cursor part request text read unit =
+    (part, subst (λ (n : ℕ). IsUnit true body n part request) read (subst (λ (bytes : List ℕ). IsUnit true bytes cursor.read part request) text unit))
 
 -- all units of an expansion are done
 pub leaves_all : {X : Type 0} (does : X → Effect → X → Type 0) (source : Source) (was : X) (place : ℕ) (body : List ℕ) (done : ℕ) (parked : Bool) (text : Text) → IsBehind body done

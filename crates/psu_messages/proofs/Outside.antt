@@ -1,5 +1,5 @@
 -- The units of a transmission, outside expansions.
-use Rattle.std.proofs.Common.{◌≡◌, not, ℕ, min, ◌+◌, ◌<◌, Bool, true, false, Option, Some, None, is_some, List, [], ◌∷◌, ◌++◌, length, take, drop, slice_index_or, refl, sym, ap, ◌∙◌, subst, arith, inl, inr}
+use Rattle.std.proofs.Common.{◌≡◌, not, ℕ, Bool, true, false, Option, Some, None, is_some, List, [], ◌∷◌, ◌++◌, drop, refl, sym, ap, ◌∙◌, subst, arith, inl, inr}
 use Rattle.std.proofs.lemmas.Grind.{common_steps}
 use Rattle.psu_lex.specs.Message.{Part}
 use Rattle.psu_tree.specs.declared.unit_request.Request.{Request}
@@ -10,12 +10,13 @@ use Rattle.psu_answers.specs.ResponseBuffer.{Text}
 use Rattle.psu_messages.specs.Effects.{Effect, Sent}
 use Rattle.psu_messages.specs.Units as units
 use Rattle.psu_messages.specs.Units.{Source, Fault, Asks, EndsMessage, HasNone, IsBetween, IsBehind, IsRequest, IsUnit, Leads, path_at}
-use Rattle.psu_messages.specs.Executions.{Closes, Progress, Advances, IsNext, NextUnit, ended}
+use Rattle.psu_messages.specs.Executions.{Closes, Progress, Advances, IsNext, NextUnit, StopsAt, ended}
 use Rattle.psu_messages.specs.Executions.Reaches.{Ends}
 use Rattle.psu_messages.specs.Shown.{body_of, progress, progress_of, inside_of}
 use Rattle.psu_messages.specs.Turns.{is_expansion}
 use Rattle.psu_messages.specs.Stepping.{plain, within}
 use Rattle.psu_messages.specs.declared.progress.Progress.{Progress as Rust}
+use Rattle.psu_messages.specs.declared.cursor.Cursor.{Cursor}
 use Rattle.psu_messages.specs.declared.expansion.Expansion.{Expansion}
 use Rattle.psu_messages.proofs.Going.{one, stay}
 
@@ -45,8 +46,13 @@ pub closed : {X : Type 0} (does : X → Effect → X → Type 0) (was now : X) (
 closed does was now old new (inl (unanswered, same, is)) = ap (λ (z : Text). z.answered) is ∙ unanswered
 closed does was now old new (inr (answered, grows, is)) = ap (λ (z : Text). z.answered) is
 
-pub asks_at : (bytes : List ℕ) (place now : ℕ) (part : Part) (request : Request) → place ≡ now → IsUnit false bytes now part request → Asks (units.Text bytes) place request part.first
-asks_at bytes place now part request e unit = (part, subst (λ (n : ℕ). IsUnit false bytes n part request) (sym e) unit, refl)
+-- the unit that a cursor of a text has read
+pub asks_at : (bytes : List ℕ) (place : ℕ) (cursor : Cursor) (part : Part) (request : Request) → cursor.text.now ≡ bytes → cursor.read ≡ place → IsUnit false cursor.text.now cursor.read part request → Asks (units.Text bytes) place request part.first
+asks_at bytes place cursor part request text read unit =
+    (part, subst (λ (n : ℕ). IsUnit false bytes n part request) read (subst (λ (b : List ℕ). IsUnit false b cursor.read part request) text unit), refl)
+
+pub behind_out : (bytes : List ℕ) (place : ℕ) (cursor : Cursor) → cursor.text.now ≡ bytes → cursor.read ≡ place → IsBehind cursor.text.now cursor.read → IsBehind bytes place
+behind_out bytes place cursor text read behind = subst (λ (n : ℕ). IsBehind bytes n) read (subst (λ (b : List ℕ). IsBehind b cursor.read) text behind)
 
 -- ---- the expansion in the next unit's place
 
@@ -92,3 +98,18 @@ turn_next source c units request first same asks clear =
 pub not_false : (b : Bool) → not b ≡ false → b ≡ true
 not_false true e = refl
 not_false false e = absurd (cc (e))
+
+-- where no expansion replaces the next unit
+plain_of : {A : Type 0} (c : Rust A) → c.expansion ≡ None → progress_of c ≡ plain c.units c.parked c.gathered
+plain_of c none = ap (λ e. progress (record { units = c.units; inside = inside_of e; parked = c.parked }) (body_of e) c.gathered) none
+
+module _ {A X : Type 0} (does : X → Effect → X → Type 0) (source : Source) (c : Rust A) (none : c.expansion ≡ None) where
+  pub next_of : (request : Request) → NextUnit source (progress_of c) request → IsNext source (plain c.units c.parked c.gathered) request
+  next_of request next = next_plain source c.units c.parked c.gathered request (subst (λ (z : Progress). NextUnit source z request) (plain_of c none) next)
+
+  pub from_plain : (was now : X) (d : Progress) → Advances does source was (plain c.units c.parked c.gathered) now d → Advances does source was (progress_of c) now d
+  from_plain was now d advances = subst (λ (z : Progress). Advances does source was z now d) (sym (plain_of c none)) advances
+
+  pub stops_plain : {S : Type 0} {fails : X → Request → S → X → Type 0} {stops : X → S → X → Type 0} (was now : X) (stop : S) (left : Text) → StopsAt does fails stops source was (plain c.units c.parked c.gathered) stop now left
+      → StopsAt does fails stops source was (progress_of c) stop now left
+  stops_plain {S} {fails} {stops} was now stop left stopped = subst (λ (z : Progress). StopsAt does fails stops source was z stop now left) (sym (plain_of c none)) stopped

@@ -15,9 +15,9 @@ pub record IsAt (inside : Bool) (bytes : List ℕ) (done : ℕ) (rest : List ℕ
   pub ends : EndsIn bytes rest
   pub few : length before + length rest ≤ length bytes
 
--- the place of a cursor
-abbrev pub IsCursor : Bool → List ℕ → Cursor → Type 0
-IsCursor inside bytes cursor = IsAt inside bytes cursor.read cursor.units.text.now cursor.units.first cursor.path
+-- a cursor is at a place in its text
+abbrev pub IsCursor : Bool → Cursor → Type 0
+IsCursor inside cursor = IsAt inside cursor.text.now cursor.read cursor.units.text.now cursor.units.first cursor.path
 
 -- a place that is kept, by the number of bytes behind it
 abbrev pub IsKept : {A : Type 0} → Bool → List ℕ → Place A → Type 0

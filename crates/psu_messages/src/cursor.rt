@@ -11,6 +11,8 @@ use std::alloc::Allocator;
 /// A cursor over the units of a text.
 #[derive(Drop)]
 pub(crate) struct Cursor<'t> {
+    /// The text.
+    pub(crate) text: &'t [u8],
     /// The units that are not read yet.
     pub(crate) units: Units<'t>,
     /// The path at which the next one is read.
@@ -22,10 +24,12 @@ pub(crate) struct Cursor<'t> {
 impl<'t> Cursor<'t> {
     /// Returns the cursor before the first unit of a text.
     pub(crate) fn of(text: &'t [u8]) -> Cursor<'t>
-        ensures place { (inside : Bool) → IsCursor inside text.now result }
+        ensures place { (inside : Bool) → IsCursor inside result }
+        ensures text { result.text.now ≡ text.now }
         ensures read { result.read ≡ 0 }
     {
         Cursor {
+            text,
             units: Units::of(text),
             path: Path::root(),
             read: 0,
@@ -41,6 +45,7 @@ impl<'t> Cursor<'t> {
         ensures less { IfSome result (λ _. length self.new.units.text.now < length self.old.units.text.now) }
         ensures none { IfNone result (Makes self.old.units.first [] self.old.units.text.now []) }
         ensures same { IfNone result (self.new.units ≡ self.old.units) }
+        ensures text { self.new.text ≡ self.old.text }
         ensures path { self.new.path ≡ self.old.path }
         ensures read { self.new.read ≡ self.old.read }
     {
@@ -55,6 +60,7 @@ impl<'t> Cursor<'t> {
     pub(crate) fn request(&mut self, unit: &Unit<'t>, inside: bool) -> Request<'t>
         requires { self.old.read + 1 < 2 ^ 64 }
         ensures request { IsRequest inside (path_at self.old.path (part unit.now)) (part unit.now) result self.new.path }
+        ensures text { self.new.text ≡ self.old.text }
         ensures units { self.new.units ≡ self.old.units }
         ensures read { self.new.read ≡ self.old.read + 1 }
     {
@@ -67,12 +73,13 @@ impl<'t> Cursor<'t> {
 
     /// Passes over units until so many were read. Where the text has fewer, none is left then.
     pub(crate) fn pass_to(&mut self, count: u64, inside: bool)
-        ensures place { (bytes : List ℕ) → IsCursor inside bytes self.old → IsCursor inside bytes self.new }
+        ensures place { IsCursor inside self.old → IsCursor inside self.new }
+        ensures text { self.new.text ≡ self.old.text }
         ensures count { self.old.read ≤ count → self.new.read ≡ count }
     {
         while self.read < count {
             let Some(unit) = self.next_unit() else {
-                self.units = Units::of(&[]);
+                self.units = Units::of_last(self.text, 0, true);
                 self.read = count;
                 return;
             };
@@ -82,7 +89,7 @@ impl<'t> Cursor<'t> {
 
     // Returns the place of the cursor, to be kept without the text; none where memory is refused.
     fn save<A: Allocator + Copy>(&self, alloc: A) -> Option<Place<A>>
-        ensures place { IfSome result (λ place. (inside : Bool) (bytes : List ℕ) → IsCursor inside bytes self.now → IsKept inside bytes place) }
+        ensures place { IfSome result (λ place. (inside : Bool) → IsCursor inside self.now → IsKept inside self.now.text.now place) }
         ensures read { IfSome result (λ place. place.read ≡ self.now.read) }
     {
         let path = self.path.save(alloc).ok()?;
@@ -101,7 +108,7 @@ impl<'t> Cursor<'t> {
         least: u64,
         most: u64,
     ) -> Option<Place<A>>
-        ensures place { IfSome result (λ place. (inside : Bool) (bytes : List ℕ) → IsCursor inside bytes self.now → IsKept inside bytes place) }
+        ensures place { IfSome result (λ place. (inside : Bool) → IsCursor inside self.now → IsKept inside self.now.text.now place) }
         ensures read { IfSome result (λ place. place.read ≤ most) }
     {
         if self.read <= least || most < self.read {
@@ -140,13 +147,24 @@ impl<A: Allocator + Copy> Place<A> {
 
     /// Returns a cursor at this place of its text.
     pub(crate) fn cursor<'t>(&'t self, text: &'t [u8]) -> Cursor<'t>
-        ensures place { (inside : Bool) → IsKept inside text.now self.now → IsCursor inside text.now result }
+        ensures place { (inside : Bool) → IsKept inside text.now self.now → IsCursor inside result }
+        ensures text { result.text.now ≡ text.now }
         ensures read { result.read ≡ self.now.read }
     {
         Cursor {
+            text,
             units: Units::of_last(text, self.left, self.first),
             path: self.path.restore(),
             read: self.read,
+        }
+    }
+    /// Becomes a later place of the same text, where there is one.
+    pub(crate) fn advance_to(&mut self, later: Option<Place<A>>)
+        ensures place { (inside : Bool) (bytes : List ℕ) → IsKept inside bytes self.old → IfSome later (IsKept inside bytes) → IsKept inside bytes self.new }
+        ensures read { (most : ℕ) → self.old.read ≤ most → IfSome later (λ place. place.read ≤ most) → self.new.read ≤ most }
+    {
+        if let Some(later) = later {
+            *self = later;
         }
     }
 }

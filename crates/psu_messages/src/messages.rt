@@ -1,5 +1,5 @@
 // The execution of a transmission, unit by unit, with a response message for each message that has responses.
-ghost use Rattle.std.specs.Prelude.{◌≡◌, ℕ, List, ◌+◌, ◌<◌, ◌≤◌, ◌^◌, true, false, None, IfOk, IfErr, IfSome, OnOk, OnErr};
+ghost use Rattle.std.specs.Prelude.{◌≡◌, ℕ, List, is_some, ◌+◌, ◌<◌, ◌≤◌, ◌^◌, true, false, None, IfOk, IfErr, IfSome, OnOk, OnErr};
 ghost use Rattle.psu_messages.specs.Effects.{IsAwaited};
 ghost use Rattle.psu_messages.specs.Executions.{Advances, IsNext, IsOver, NextUnit, StopsAt};
 ghost use Rattle.psu_messages.specs.Places.{IsCursor, IsKept};
@@ -13,25 +13,25 @@ use crate::responses::{add_response, close};
 use crate::tries::{Tried, attempt};
 use crate::{Executor, Expansion, Need, Progress};
 use psu_exec::{Outcome, Request, ScpiError};
-use psu_lex::Bytes;
 use std::alloc::Allocator;
 
-// Executes an expansion in the place of the unit that it replaces.
-fn replace<A: Allocator + Copy, F: Executor<A>>(
+// Executes the rest of the expansion that replaces the next unit.
+#[inline(never)]
+fn continue_expansion<A: Allocator + Copy, F: Executor<A>>(
     executor: &mut F,
-    body: Bytes<A>,
     progress: &mut Progress<A>,
 ) -> Result<Option<Need>, F::Stop>
-    requires none { progress.old.expansion ≡ None }
+    requires some { is_some progress.old.expansion ≡ true }
     requires units { progress.old.units + 1 < 2 ^ 64 }
-    ensures advances { IfOk result (λ _. (source : Source) → Advances F.does source executor.old (within progress.old.units body 0 progress.old.parked progress.old.gathered) executor.new (progress_of progress.new)) }
+    ensures advances { IfOk result (λ _. (source : Source) → Advances F.does source executor.old (progress_of progress.old) executor.new (progress_of progress.new)) }
     ensures units { IfOk result (λ need. need ≡ None → progress.new.units ≡ progress.old.units + 1) }
     ensures grows { progress.old.units ≤ progress.new.units }
     ensures waits { IfOk result (λ some. IfSome some (IsAwaited F.does F.yields executor.new)) }
-    ensures stops { IfErr result (λ stop. (source : Source)
-        → StopsAt F.does F.fails F.stops source executor.old (within progress.old.units body 0 progress.old.parked progress.old.gathered) stop executor.new progress.new.gathered) }
+    ensures stops { IfErr result (λ stop. (source : Source) → StopsAt F.does F.fails F.stops source executor.old (progress_of progress.old) stop executor.new progress.new.gathered) }
 {
-    let mut expansion = Expansion { body, done: 0 };
+    let Some(expansion) = &mut progress.expansion else {
+        return Ok(None);
+    };
     let need = expand(
         executor,
         expansion.body.as_slice(),
@@ -41,13 +41,11 @@ fn replace<A: Allocator + Copy, F: Executor<A>>(
     )?;
     match need {
         None => {
+            progress.expansion = None;
             progress.units += 1;
             Ok(None)
         }
-        Some(need) => {
-            progress.expansion = Some(expansion);
-            Ok(Some(need))
-        }
+        Some(need) => Ok(Some(need)),
     }
 }
 
@@ -71,49 +69,16 @@ fn begin<A: Allocator + Copy, F: Executor<A>>(
     match attempt(executor, &mut progress.parked, request)? {
         Tried::Waits(need) => Ok(Some(need)),
         Tried::Ended(outcome) => match outcome {
-            Outcome::Expand(body) => replace(executor, body, progress),
+            Outcome::Expand(body) => {
+                progress.expansion = Some(Expansion { body, done: 0 });
+                continue_expansion(executor, progress)
+            }
             outcome => {
                 add_response(executor, &mut progress.gathered, &outcome)?;
                 progress.units += 1;
                 Ok(None)
             }
         },
-    }
-}
-
-// Executes a unit of a message, or continues the expansion in its place.
-#[inline(always)]
-fn perform<A: Allocator + Copy, F: Executor<A>>(
-    executor: &mut F,
-    request: &Request<'_>,
-    progress: &mut Progress<A>,
-) -> Result<Option<Need>, F::Stop>
-    requires { progress.old.units + 1 < 2 ^ 64 }
-    ensures advances { IfOk result (λ _. (source : Source) → NextUnit source (progress_of progress.old) request.now
-        → Advances F.does source executor.old (progress_of progress.old) executor.new (progress_of progress.new)) }
-    ensures units { IfOk result (λ need. need ≡ None → progress.new.units ≡ progress.old.units + 1) }
-    ensures grows { progress.old.units ≤ progress.new.units }
-    ensures waits { IfOk result (λ some. IfSome some (IsAwaited F.does F.yields executor.new)) }
-    ensures stops { IfErr result (λ stop. (source : Source) → NextUnit source (progress_of progress.old) request.now
-        → StopsAt F.does F.fails F.stops source executor.old (progress_of progress.old) stop executor.new progress.new.gathered) }
-{
-    let Some(expansion) = &mut progress.expansion else {
-        return begin(executor, request, progress);
-    };
-    let need = expand(
-        executor,
-        expansion.body.as_slice(),
-        &mut expansion.done,
-        &mut progress.parked,
-        &mut progress.gathered,
-    )?;
-    match need {
-        None => {
-            progress.expansion = None;
-            progress.units += 1;
-            Ok(None)
-        }
-        Some(need) => Ok(Some(need)),
     }
 }
 
@@ -139,7 +104,8 @@ fn close_before<A: Allocator + Copy, F: Executor<A>>(
     Ok(())
 }
 
-// Executes the next unit; before the first unit of a message, ends the message before it.
+// Executes the next unit, or continues the expansion in its place; before the first unit of a message, ends the message
+// before it.
 #[inline(always)]
 fn take_turn<A: Allocator + Copy, F: Executor<A>>(
     executor: &mut F,
@@ -157,8 +123,10 @@ fn take_turn<A: Allocator + Copy, F: Executor<A>>(
         → StopsAt F.does F.fails F.stops source executor.old (progress_of progress.old) stop executor.new progress.new.gathered) }
 {
     close_before(executor, first, progress)?;
-    let need = perform(executor, request, progress)?;
-    Ok(need)
+    if progress.expansion.is_some() {
+        return continue_expansion(executor, progress);
+    }
+    begin(executor, request, progress)
 }
 
 // Executes the units of a text from a cursor on, up to a unit that has to wait or before which the executor yields.
@@ -168,13 +136,14 @@ fn execute_units<'t, A: Allocator + Copy, F: Executor<A>>(
     cursor: &mut Cursor<'t>,
     progress: &mut Progress<A>,
 ) -> Result<Option<Need>, F::Stop>
-    requires { cursor.old.read ≡ progress.old.units }
-    ensures advances { IfOk result (λ _. (bytes : List ℕ) → IsCursor false bytes cursor.old → Advances F.does (Text bytes) executor.old (progress_of progress.old) executor.new (progress_of progress.new)) }
-    ensures over { IfOk result (λ need. (bytes : List ℕ) → IsCursor false bytes cursor.old → need ≡ None → IsOver (Text bytes) (progress_of progress.new)) }
+    requires place { IsCursor false cursor.old }
+    requires read { cursor.old.read ≡ progress.old.units }
+    ensures advances { IfOk result (λ _. Advances F.does (Text cursor.old.text.now) executor.old (progress_of progress.old) executor.new (progress_of progress.new)) }
+    ensures over { IfOk result (λ need. need ≡ None → IsOver (Text cursor.old.text.now) (progress_of progress.new)) }
     ensures waits { IfOk result (λ some. IfSome some (IsAwaited F.does F.yields executor.new)) }
-    ensures stops { IfErr result (λ stop. (bytes : List ℕ) → IsCursor false bytes cursor.old
-        → StopsAt F.does F.fails F.stops (Text bytes) executor.old (progress_of progress.old) stop executor.new progress.new.gathered) }
-    ensures place { (bytes : List ℕ) → IsCursor false bytes cursor.old → IsCursor false bytes cursor.new }
+    ensures stops { IfErr result (λ stop. StopsAt F.does F.fails F.stops (Text cursor.old.text.now) executor.old (progress_of progress.old) stop executor.new progress.new.gathered) }
+    ensures place { IsCursor false cursor.new }
+    ensures text { cursor.new.text ≡ cursor.old.text }
     ensures grows { progress.old.units ≤ progress.new.units }
 {
     'units: loop {
@@ -266,9 +235,8 @@ pub(crate) fn execute_rest<A: Allocator + Copy, F: Executor<A>>(
     let need = execute_units(executor, &mut cursor, progress)?;
     if need.is_some() {
         let reached = cursor.save_between(alloc, place.read, progress.units);
-        if let Some(kept) = reached.or(begun) {
-            *place = kept;
-        }
+        place.advance_to(begun);
+        place.advance_to(reached);
     }
     Ok(need)
 }

@@ -19,19 +19,19 @@ pub returns-in-Expand-clause-advances : goal.returns-in-Expand-clause-advances
 returns-in-Expand-clause-advances g c =
     let t = rw c.in-Ended.is at c.in_ok-need.ensures.tried in
     let u = rw c.in-Expand.is at t in
-    IfOk-weaker c.replace.result _ _
-    (λ need advances source next. behind g.F.Executor.does source c.args.executor.now c.attempt.new.executor c.replace.new.executor _ _ _
+    IfOk-weaker c.continue_expansion.result _ _
+    (λ need advances source next. behind g.F.Executor.does source c.args.executor.now c.attempt.new.executor c.continue_expansion.new.executor _ _ _
     (replaced g.F.Executor.does source c.args.executor.now c.attempt.new.executor c.args.progress.now.units c.args.progress.now.parked c.attempt.new.parked c.args.progress.now.gathered c.args.request.now c.in-Expand.body next u.0 u.2) (advances source))
-    c.replace.ensures.advances
+    c.continue_expansion.ensures.advances
 
 pub returns-in-Expand-clause-stops : goal.returns-in-Expand-clause-stops
 returns-in-Expand-clause-stops g c =
     let t = rw c.in-Ended.is at c.in_ok-need.ensures.tried in
     let u = rw c.in-Expand.is at t in
-    IfErr-weaker c.replace.result _ _
+    IfErr-weaker c.continue_expansion.result _ _
     (λ stop stops source next. stops_on
     (replaced g.F.Executor.does source c.args.executor.now c.attempt.new.executor c.args.progress.now.units c.args.progress.now.parked c.attempt.new.parked c.args.progress.now.gathered c.args.request.now c.in-Expand.body next u.0 u.2) (stops source))
-    c.replace.ensures.stops
+    c.continue_expansion.ensures.stops
 
 pub returns-in_err-add_response-in_default-clause-stops : goal.returns-in_err-add_response-in_default-clause-stops
 returns-in_err-add_response-in_default-clause-stops g c =

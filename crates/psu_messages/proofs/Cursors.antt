@@ -1,0 +1,50 @@
+-- A cursor over the units of a text.
+use Rattle.std.proofs.Common.{◌≡◌, ℕ, ◌+◌, ◌<◌, ◌≤◌, Bool, true, false, Option, Some, None, IfSome, arith, List, [], ◌∷◌, length, refl, sym, ap, ◌∙◌, subst}
+use Rattle.std.proofs.lemmas.List.{append-nil}
+use Rattle.psu_lex.specs.Message.{EndsIn, Makes, Part, part}
+use Rattle.psu_lex.specs.declared.unit.Unit as rust
+use Rattle.psu_lex.specs.declared.units.Units.{Units}
+use Rattle.psu_tree.specs.declared.unit_request.Request.{Request}
+use Rattle.psu_messages.specs.Places.{IsAt, IsCursor, IsKept}
+use Rattle.psu_messages.specs.Units.{IsBehind, IsRequest, IsUnit, path_at}
+use Rattle.psu_messages.specs.declared.cursor.Cursor.{Cursor}
+use Rattle.psu_messages.specs.declared.cursor.Place.{Place}
+use Rattle.psu_messages.proofs.Places.{at_end, at_next, at_same, behind_at, unit_at}
+
+module _ (inside : Bool) (old : Cursor) (at : IsCursor inside old) (mid : Cursor) (text : mid.text ≡ old.text) (path : mid.path ≡ old.path) where
+  -- the next unit is read
+  module _ (unit : rust.Unit) (request : Request) (new : Cursor) (read : mid.read ≡ old.read) (makes : (more : List Part) → Makes mid.units.first [] mid.units.text.now more → Makes old.units.first [] old.units.text.now (part unit ∷ more))
+      (ends : EndsIn old.units.text.now mid.units.text.now) (less : length mid.units.text.now < length old.units.text.now)
+      (reads : IsRequest inside (path_at mid.path (part unit)) (part unit) request new.path) (same : new.text ≡ mid.text) (units : new.units ≡ mid.units) (one : new.read ≡ mid.read + 1) where
+    from_old : IsRequest inside (path_at old.path (part unit)) (part unit) request new.path
+    from_old = subst (λ (z : List (List ℕ)). IsRequest inside (path_at z (part unit)) (part unit) request new.path) path reads
+
+    pub goes_on : IsCursor inside new
+    goes_on =
+        subst (λ (t : _). IsAt inside t.now new.read new.units.text.now new.units.first new.path) (sym (same ∙ text))
+        (at_same inside old.text.now _ _ _ _ _ _ _ _ (one ∙ ap (λ (n : ℕ). n + 1) read) (ap (λ (u : Units). u.text.now) units) (ap (λ (u : Units). u.first) units) refl
+        (at_next at mid.units.text.now mid.units.first (part unit) makes ends less request new.path from_old))
+
+    pub unit_is : IsUnit inside old.text.now old.read (part unit) request
+    unit_is = unit_at at mid.units.text.now mid.units.first (part unit) makes ends less request new.path from_old
+
+  -- none is left
+  pub ends_at : (count : ℕ) (last : Units) → Makes old.units.first [] old.units.text.now [] → old.read ≤ count → ((rest : List ℕ) → EndsIn mid.text.now rest → length rest ≡ 0 → last.text.now ≡ rest) → last.first ≡ true
+      → IsAt inside mid.text.now count last.text.now last.first mid.path
+  ends_at count last none later are first =
+      at_same inside mid.text.now _ _ _ _ _ _ _ _ refl (are [] (mid.text.now, sym (append-nil mid.text.now)) refl) first path
+      (subst (λ (t : _). IsAt inside t.now count [] true old.path) (sym text) (at_end at count none later))
+
+-- no unit is left where the cursor is
+pub none_behind : (inside : Bool) (old : Cursor) → IsCursor inside old → Makes old.units.first [] old.units.text.now [] → IsBehind old.text.now old.read
+none_behind inside old at none = behind_at at none
+
+-- a place of a cursor that is kept is one of its text
+pub some_kept : {A : Type 0} (kept : Option (Place A)) (cursor : Cursor) (bytes : List ℕ) → cursor.text.now ≡ bytes → IsCursor false cursor → IfSome kept (λ place. (inside : Bool) → IsCursor inside cursor → IsKept inside cursor.text.now place)
+    → IfSome kept (IsKept false bytes)
+some_kept None cursor bytes text at is = tt
+some_kept (Some place) cursor bytes text at is = subst (λ (b : List ℕ). IsKept false b place) text (is false at)
+
+pub some_later : {A : Type 0} (kept : Option (Place A)) (most more : ℕ) → most ≤ more → IfSome kept (λ place. place.read ≤ most) → IfSome kept (λ place. place.read ≤ more)
+some_later None most more later is = tt
+some_later (Some place) most more later is = omega (arith, later, is)
