@@ -5,6 +5,7 @@ ghost use Rattle.psu_session.specs.Room.{HasRoom};
 ghost use Rattle.psu_session.specs.Serving.{PerformsStep};
 ghost use Rattle.psu_session.specs.Shown.{one_running, state_of};
 ghost use Rattle.psu_session.specs.Stopping.{StopsNext};
+ghost use Rattle.psu_session.specs.declared.proceeded.Proceeded.TheVariants.{Completed};
 ghost use Rattle.psu_session.specs.State.{HasWork, State};
 
 use crate::execution::advance;
