@@ -3,6 +3,7 @@ use Rattle.std.proofs.Common.{◌≡◌, ℕ, ◌-◌, Option, Some, None, List,
 use Rattle.std.proofs.lemmas.List.{append-nil}
 use Rattle.psu_hislip.specs.Answer.{answer_size}
 use Rattle.psu_hislip.specs.Core.{IsCurrent}
+use Rattle.psu_messages.specs.Units.{Source}
 use Rattle.psu_messages.specs.Executions.{Progress, IsOver, beginning}
 use Rattle.psu_session.specs.Exchange.{Order, frames}
 use Rattle.psu_session.specs.Credit.{cost, cost_of}
@@ -37,6 +38,10 @@ next_running s next t is then = record {
   then = then;
   steps = subst (λ (z : Option Running). Steps s [] (with_work s s.waiting z)) is Still;
 }
+
+-- the same transmission, by its origin and what is executed
+pub next_same : (s t : State) (order : Order) (source : Source) (progress : Progress) → source ≡ order.source → IsNext s (running order progress) t → IsNext s (running (record { origin = order.origin; source = source }) progress) t
+next_same s t order source progress same next = subst (λ (z : Source). IsNext s (running (record { origin = order.origin; source = z }) progress) t) (sym same) next
 
 pub next_begins : (s : State) (order : Order) (progress : Progress) (later : List Work) (t : State) → progress ≡ beginning → s.running ≡ None → s.waiting ≡ Execute order ∷ later → t ≡ with_work s later None → IsNext s (running order progress) t
 next_begins s order progress later t new none is then = record {

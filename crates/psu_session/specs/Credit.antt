@@ -1,5 +1,5 @@
 -- How much a session holds of what it has received and not executed.
-use Rattle.std.specs.Prelude.{ℕ, ◌+◌, List, [], ◌∷◌, length}
+use Rattle.std.specs.Prelude.{ℕ, ◌+◌, List, [], ◌∷◌}
 use Rattle.psu_messages.specs.Units.{size_of}
 use Rattle.psu_session.specs.Exchange.{Order}
 

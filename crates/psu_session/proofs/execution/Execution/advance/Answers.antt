@@ -1,7 +1,5 @@
 use Rattle.std.proofs.Common.{ap, refl}
 use Rattle.psu_messages.proofs.Going.{kept_advances, kept_interrupted}
-use Rattle.psu_messages.specs.Units.{source_of}
-use Rattle.psu_messages.specs.Shown.{progress_of}
 use Rattle.psu_session.proofs.Executing.{advanced}
 use Rattle.psu_session.proofs.Interrupting.{interrupted}
 use Rattle.psu_session.proofs.Stopping.{if_err}
@@ -26,4 +24,4 @@ returns-clause-device g c = kept_advances c.in_ok-need.ensures.advances (λ x. x
 pub returns-in_err-need-clause-stopped : goal.returns-in_err-need-clause-stopped
 returns-in_err-need-clause-stopped g c =
     if_err c.from_residual.result
-    (interrupted g.D.Device.does (λ x. x.device.now) (λ x y effect d. d.5) (λ x y request stop f. f) (λ x y stop d. d.2) (record { origin = c.args.self.now.origin; source = source_of c.args.input.now }) _ (progress_of c.args.progress.now) _ _ _ c.in_err-need.ensures.stops)
+    (interrupted g.D.Device.does (λ x. x.device.now) (λ x y effect d. d.5) (λ x y request stop f. f) (λ x y stop d. d.2) (record { origin = c.args.self.now.origin; source = c.args.transmission.now.source }) _ c.args.transmission.now.progress _ _ _ c.in_err-need.ensures.stops)
