@@ -1,4 +1,4 @@
-use Rattle.std.proofs.Common.{◌≡◌, ◌<◌, Bool, false, Option, Some, None, List, [], ◌∷◌, refl, sym, ap, ◌∙◌, arith, length, slice_index_or}
+use Rattle.std.proofs.Common.{◌≡◌, ◌<◌, false, Option, Some, None, List, [], ◌∷◌, refl, sym, ap, ◌∙◌, arith, length, slice_index_or}
 use Rattle.std.specs.Option.{is_some}
 use Rattle.psu_session.specs.Shown.{running_of, work_of, works_of}
 use Rattle.psu_session.specs.State as state

@@ -1,4 +1,4 @@
-use Rattle.std.proofs.Common.{◌≡◌, ◌∙◌, Option, None, List, [], ◌∷◌, ap, drop, refl, sym, subst}
+use Rattle.std.proofs.Common.{◌≡◌, ◌∙◌, Option, List, [], ◌∷◌, ap, drop, refl, sym}
 use Rattle.psu_session.specs.Proceeding.{IsNextRelease, IsReleaseNext}
 use Rattle.psu_session.specs.Shown.{state_of, works_of}
 use Rattle.psu_session.specs.State as state
