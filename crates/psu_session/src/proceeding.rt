@@ -52,6 +52,7 @@ impl Parts {
     }
 
     // Whether a release is next.
+    #[inline(always)]
     fn is_release_next(&self) -> bool
         ensures { IsTrue result ↔ IsReleaseNext (state_of self.now) }
     {
@@ -122,6 +123,7 @@ impl Parts {
         match self.next() {
             None => Ok(Proceeded::Idle),
             Some(Next::Order(running)) => self.execute(device, running),
+            // A release that is next is done above.
             Some(Next::Release) => unreachable!(),
         }
     }
