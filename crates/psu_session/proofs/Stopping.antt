@@ -28,7 +28,7 @@ if_err (Err e) q = q
 -- ---- the rest of a step
 
 -- an action, whatever it requests, has some events
-pub some_locked : (waits : Bool) (timeout : ℕ) (kind : Option Kind) → (done : List Event) × IsLocked waits timeout kind done
+some_locked : (waits : Bool) (timeout : ℕ) (kind : Option Kind) → (done : List Event) × IsLocked waits timeout kind done
 some_locked true timeout kind = (_, refl)
 some_locked false timeout None = (_, refl)
 some_locked false timeout (Some kind) = (_, (Err NotHeld, refl))
@@ -91,9 +91,9 @@ module _ {X : Type 0} (does : X → Call → X → Type 0) where
     runs = runs_after does others f.done x y z runs f.runs;
   }
 
-  -- an action for which the device is not called
-  pub not_called : {T E : Type 0} (waits : Bool) (act : Act) (x : X) (r : Result T E) → OnErr r (CallsPrefix does (Does waits act) x x)
-  not_called waits act x r = if_err r (none_called (Does waits act) x (some_events waits act))
+  -- an action for which the device was not called
+  pub not_called : (waits : Bool) (act : Act) (x y : X) → y ≡ x → CallsPrefix does (Does waits act) x y
+  not_called waits act x y same = subst (λ (z : X). CallsPrefix does (Does waits act) x z) (sym same) (none_called (Does waits act) x (some_events waits act))
 
   -- an action stops after others
   pub stops_at : (Whole : List Event → Type 0) (works : List Work) (requested : List Release) (one : Act) (rest : List Act) (left_works : List Work) (left_requested : List Release) (s : State) (x : X) (t : State) (y z : X)

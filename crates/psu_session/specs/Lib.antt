@@ -22,3 +22,4 @@ pub mod SomeExchange
 pub mod Numbers
 pub mod Locking
 pub mod Stopping
+pub mod Room

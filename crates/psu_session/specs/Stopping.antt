@@ -1,15 +1,14 @@
 -- Which calls of the device a step has made where it is not completed, so that the session is over: memory was refused,
--- or more would be held than a session may hold. Source: this may happen between any two effects of a step, and a call
--- of the device cannot be undone.
-use Rattle.std.specs.Prelude.{Result, List, ◌++◌, map}
-use Rattle.psu_locks.specs.declared.freed.Freed.{Freed}
-use Rattle.psu_locks.specs.declared.lock_refusal.LockRefusal.{LockRefusal}
+-- or more would be held than a session may hold. Source: this may happen between two actions of a message and between
+-- two effects of a transmission, and a call of the device cannot be undone. Room for the reply to a single call is made
+-- before it.
+use Rattle.std.specs.Prelude.{◌≡◌, List, ◌++◌, map}
 use Rattle.psu_hislip.specs.Core.{IsCurrent}
 use Rattle.psu_messages.specs.Effects.{Effect}
 use Rattle.psu_messages.specs.Executions.{Progress, Reaches}
-use Rattle.psu_session.specs.Events.{Call, Event, Released, call_of, calls}
+use Rattle.psu_session.specs.Events.{Call, Event, call_of, calls}
 use Rattle.psu_session.specs.Exchange.{Order}
-use Rattle.psu_session.specs.Proceeding.{IsNext, IsNextRelease}
+use Rattle.psu_session.specs.Proceeding.{IsNext, IsReleaseNext}
 use Rattle.psu_session.specs.Serving.{Runs}
 use Rattle.psu_session.specs.State.{Running, State}
 
@@ -33,7 +32,7 @@ pub record CallsAdvancing {X : Type 0} (does : X → Call → X → Type 0) (ord
   pub runs : Runs does x (map call_of effects) y
 
 -- The execution of what is next was not completed: the device was called for effects of the next transmission, which
--- nothing has ended; or once, for the release of a lock that is next.
+-- nothing has ended; or a release is next, and the device was not called.
 pub data StopsNext {X : Type 0} (does : X → Call → X → Type 0) (s : State) (x y : X) : Type 0 where
   StopsOrder : (next : Running) (t : State) → IsNext s next t → IsCurrent t.core next.order.origin → CallsAdvancing does next.order next.progress x y → StopsNext does s x y
-  StopsRelease : (t : State) → IsNextRelease s t → (reply : Result Freed LockRefusal) → does x (Released reply) y → StopsNext does s x y
+  NotReleased : IsReleaseNext s → y ≡ x → StopsNext does s x y

@@ -1,13 +1,14 @@
 // What is done immediately for an action of a message.
-ghost use Rattle.std.specs.Prelude.{◌≡◌, OnOk, OnErr, [], ◌∷◌, Some, false};
+ghost use Rattle.std.specs.Prelude.{◌≡◌, ◌+◌, ◌<◌, OnOk, OnErr, [], ◌∷◌, Some, false};
 ghost use Rattle.psu_hislip.specs.Action.{act};
 ghost use Rattle.psu_hislip.specs.Header.{header_bytes};
 ghost use Rattle.psu_hislip.specs.declared.side.Side.TheVariants.{Async};
+ghost use Rattle.psu_session.specs.Credit.{cost, cost_of};
 ghost use Rattle.psu_session.specs.Locking.{kind_of};
 ghost use Rattle.psu_session.specs.Events.{Put, calls};
 ghost use Rattle.psu_session.specs.Step.{Does, IsInformed, IsLocked, IsQueried, delivers, puts, release_in, works_in};
 ghost use Rattle.psu_session.specs.Serving.{Appends, Runs};
-ghost use Rattle.psu_session.specs.Stopping.{CallsPrefix};
+ghost use Rattle.psu_session.specs.Room.{HasRoom};
 ghost use Rattle.psu_session.specs.Shown.{order_of, state_of};
 ghost use Rattle.psu_session.specs.State.{Execute, added};
 
@@ -47,84 +48,73 @@ impl Parts {
     }
 
     // Appends a message without payload to the output of the asynchronous connection.
-    pub(crate) fn put_header(&mut self, header: Header) -> Result<(), Ended>
-        ensures { OnOk result (state_of self.new ≡ added (state_of self.old) [] [] (puts header)) }
+    pub(crate) fn put_header(&mut self, header: Header)
+        requires { HasRoom self.old }
+        ensures { state_of self.new ≡ added (state_of self.old) [] [] (puts header) }
     {
-        self.put(Side::Async, &header.bytes())
+        self.async_output
+            .extend_from_slice(&header.bytes())
+            .unwrap();
     }
 
-    // Queues a transmission.
+    // Queues a transmission, unless more would be held than a session may hold.
     #[inline(always)]
     fn order(&mut self, origin: Origin, input: Input<Global>) -> Result<(), Ended>
-        ensures { OnOk result (state_of self.new ≡ added (state_of self.old) (Execute (order_of (record { origin = origin; input = input })) ∷ []) [] []) }
+        requires { HasRoom self.old }
+        ensures done { OnOk result (state_of self.new ≡ added (state_of self.old) (Execute (order_of (record { origin = origin; input = input })) ∷ []) [] []) }
+        ensures refused { OnErr result (4194304 < (state_of self.old).held + cost_of (order_of (record { origin = origin; input = input }))) }
     {
         self.held.take(input.size())?;
-        match self
-            .waiting
-            .push_back(Work::Execute(Order { origin, input }))
-        {
-            Ok(()) => Ok(()),
-            Err(_) => Err(Ended),
-        }
+        self.waiting
+            .push_back_reserved(Work::Execute(Order { origin, input }));
+        Ok(())
     }
 
-    // Adds a release that waits for the message of a number.
+    // Adds a release that waits for the message of a number, unless more would be held than a session may hold.
     fn ask_release(&mut self, now: u64, number: u32) -> Result<(), Ended>
-        ensures { OnOk result (state_of self.new ≡ added (state_of self.old) [] (record { number = number; requested_at = now } ∷ []) []) }
+        requires { HasRoom self.old }
+        ensures done { OnOk result (state_of self.new ≡ added (state_of self.old) [] (record { number = number; requested_at = now } ∷ []) []) }
+        ensures refused { OnErr result (4194304 < (state_of self.old).owed + cost 0) }
     {
         self.owed.take(0)?;
-        match self.releases.push_back(Release {
+        self.releases.push_back_reserved(Release {
             number,
             requested_at: now,
-        }) {
-            Ok(()) => Ok(()),
-            Err(_) => Err(Ended),
-        }
+        });
+        Ok(())
     }
 
     // Answers a status query, after the last response counts as read if the client said so.
-    fn answer_status<D: Device>(&mut self, device: &mut D, is_delivered: bool) -> Result<(), Ended>
-        ensures done { OnOk result (Appends D.does (IsQueried is_delivered) [] [] (state_of self.old) device.old (state_of self.new) device.new) }
-        ensures stopped { OnErr result (CallsPrefix D.does (IsQueried is_delivered) device.old device.new) }
+    fn answer_status<D: Device>(&mut self, device: &mut D, is_delivered: bool)
+        requires { HasRoom self.old }
+        ensures { Appends D.does (IsQueried is_delivered) [] [] (state_of self.old) device.old (state_of self.new) device.new }
     {
         deliver(device, is_delivered);
         let byte = device.query();
-        self.put_header(Header::new(MessageType::AsyncStatusResponse, byte, 0, 0))
+        self.put_header(Header::new(MessageType::AsyncStatusResponse, byte, 0, 0));
     }
 
     // Requests a lock. A request that waits is answered once it has a result.
-    fn ask_for_lock<D: Device>(
-        &mut self,
-        device: &mut D,
-        timeout: u32,
-        kind: Kind,
-    ) -> Result<(), Ended>
-        ensures done { OnOk result (Appends D.does (IsLocked false timeout (Some kind)) [] [] (state_of self.old) device.old (state_of self.new) device.new) }
-        ensures stopped { OnErr result (CallsPrefix D.does (IsLocked false timeout (Some kind)) device.old device.new) }
+    fn ask_for_lock<D: Device>(&mut self, device: &mut D, timeout: u32, kind: Kind)
+        requires { HasRoom self.old }
+        ensures { Appends D.does (IsLocked false timeout (Some kind)) [] [] (state_of self.old) device.old (state_of self.new) device.new }
     {
         let reply = device.lock(kind, timeout);
         match lock_response(reply) {
             Some(header) => self.put_header(header),
-            None => {
-                self.lock_waits = true;
-                Ok(())
-            }
+            None => self.lock_waits = true,
         }
     }
 
     // Requests the lock of a string. A string that no lock has is refused, and so is a request while another one waits:
     // its result could else be taken for that of the first.
-    fn answer_lock<D: Device>(
-        &mut self,
-        device: &mut D,
-        timeout: u32,
-        string: &[u8],
-    ) -> Result<(), Ended>
-        ensures done { OnOk result (Appends D.does (IsLocked (state_of self.old).lock_waits timeout (kind_of string.now)) [] [] (state_of self.old) device.old (state_of self.new) device.new) }
-        ensures stopped { OnErr result (CallsPrefix D.does (IsLocked (state_of self.old).lock_waits timeout (kind_of string.now)) device.old device.new) }
+    fn answer_lock<D: Device>(&mut self, device: &mut D, timeout: u32, string: &[u8])
+        requires { HasRoom self.old }
+        ensures { Appends D.does (IsLocked (state_of self.old).lock_waits timeout (kind_of string.now)) [] [] (state_of self.old) device.old (state_of self.new) device.new }
     {
         if self.lock_waits {
-            return self.put_header(LockResponse::Error.header());
+            self.put_header(LockResponse::Error.header());
+            return;
         }
         match lock_kind(string) {
             Some(kind) => self.ask_for_lock(device, timeout, kind),
@@ -133,12 +123,12 @@ impl Parts {
     }
 
     // Answers which locks are held.
-    fn answer_info<D: Device>(&mut self, device: &mut D) -> Result<(), Ended>
-        ensures done { OnOk result (Appends D.does IsInformed [] [] (state_of self.old) device.old (state_of self.new) device.new) }
-        ensures stopped { OnErr result (CallsPrefix D.does IsInformed device.old device.new) }
+    fn answer_info<D: Device>(&mut self, device: &mut D)
+        requires { HasRoom self.old }
+        ensures { Appends D.does IsInformed [] [] (state_of self.old) device.old (state_of self.new) device.new }
     {
         let info = device.inform();
-        self.put_header(lock_info_response(info))
+        self.put_header(lock_info_response(info));
     }
 
     /// Does what an action of a message requests, or queues it.
@@ -150,8 +140,9 @@ impl Parts {
         number: u32,
         action: Action<Global>,
     ) -> Result<(), Ended>
+        requires { HasRoom self.old }
         ensures done { OnOk result (Appends D.does (Does (state_of self.old).lock_waits (act action)) (works_in (act action)) (release_in now number (act action)) (state_of self.old) device.old (state_of self.new) device.new) }
-        ensures stopped { OnErr result (CallsPrefix D.does (Does (state_of self.old).lock_waits (act action)) device.old device.new) }
+        ensures uncalled { OnErr result (device.new ≡ device.old) }
     {
         match action {
             Action::Send(side, frames) => self.put(side, frames.as_slice()),
@@ -162,10 +153,19 @@ impl Parts {
                 device.deliver();
                 Ok(())
             }
-            Action::Status(is_delivered) => self.answer_status(device, is_delivered),
-            Action::Lock(timeout, string) => self.answer_lock(device, timeout, string.as_slice()),
+            Action::Status(is_delivered) => {
+                self.answer_status(device, is_delivered);
+                Ok(())
+            }
+            Action::Lock(timeout, string) => {
+                self.answer_lock(device, timeout, string.as_slice());
+                Ok(())
+            }
             Action::Release => self.ask_release(now, number),
-            Action::Info => self.answer_info(device),
+            Action::Info => {
+                self.answer_info(device);
+                Ok(())
+            }
             Action::Clear => {
                 device.clear();
                 Ok(())

@@ -24,6 +24,7 @@ mod proceeding;
 mod receiving;
 mod release;
 mod releasing;
+mod room;
 mod running;
 mod session;
 mod taking;

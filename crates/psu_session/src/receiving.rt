@@ -29,6 +29,7 @@ impl Parts {
     {
         let mut rest = actions.into_iter();
         while let Some(action) = rest.next() {
+            self.make_room()?;
             self.act(device, now, number, action)?;
         }
         Ok(())

@@ -1,10 +1,10 @@
 // A session.
-ghost use Rattle.std.specs.Prelude.{◌≡◌, ◌⊎◌, ◌↔◌, ◌+◌, ℕ, IsTrue, true, false, Some, [], ◌∷◌, IfOk, OnOk, OnErr, IfSome, IsNone, IsTrue};
+ghost use Rattle.std.specs.Prelude.{◌≡◌, ◌⊎◌, ◌↔◌, ◌+◌, IsTrue, true, false, [], ◌∷◌, IfOk, OnOk, OnErr, IfSome, IsNone};
 ghost use Rattle.psu_hislip.specs.Channel.{Fed};
 ghost use Rattle.psu_hislip.specs.Frame.{header_of};
 ghost use Rattle.psu_hislip.specs.Stream.{Received};
 ghost use Rattle.psu_hislip.specs.declared.message_type.MessageType.TheVariants.{InitializeResponse};
-ghost use Rattle.psu_session.specs.Events.{Fetched, Took, Wrote};
+ghost use Rattle.psu_session.specs.Events.{Took, Wrote};
 ghost use Rattle.psu_session.specs.History.{HasExchangeHistory};
 ghost use Rattle.psu_session.specs.Holding.{IsBounded, IsFull};
 ghost use Rattle.psu_session.specs.Releasing.{due_at};
@@ -107,7 +107,7 @@ impl Session {
         done
     }
 
-    /// Answers the lock request that waits, if there is one, with its result.
+    /// Answers the lock request that waits, if there is one, with its result. Room for the response is made first.
     pub fn lock_granted<D: Device>(&mut self, grant: Grant, device: &mut D) -> Result<(), Ended>
         ensures was { OnOk result (self.old.over ≡ false) }
         ensures continues { OnOk result (self.new.over ≡ false) }
@@ -118,31 +118,35 @@ impl Session {
         if self.over {
             return Err(Ended);
         }
-        let done = self.parts.lock_granted(grant, device);
-        self.over = done.is_err();
-        done
+        let room = self.parts.make_room();
+        self.over = room.is_err();
+        room?;
+        self.parts.lock_granted(grant, device);
+        Ok(())
     }
 
-    /// Sends the session's service request, if the device has one.
+    /// Sends the session's service request, if the device has one. Room for it is made first: where memory is refused, the
+    /// device is not called, and still has the request.
     pub fn service_requested<D: Device>(&mut self, device: &mut D) -> Result<(), Ended>
         ensures was { OnOk result (self.old.over ≡ false) }
         ensures continues { OnOk result (self.new.over ≡ false) }
         ensures done { OnOk result (Appends D.does IsServiceRequested [] [] self.old.state device.old self.new.state device.new) }
         ensures ended { OnErr result (self.new.over ≡ true) }
-        ensures stopped { OnErr result (self.old.over ≡ false → (byte : ℕ) × D.does device.old (Fetched (Some byte)) device.new) }
-        ensures over { self.old.over ≡ true → device.new ≡ device.old }
+        ensures uncalled { OnErr result (device.new ≡ device.old) }
     {
         if self.over {
             return Err(Ended);
         }
-        let done = self.parts.service_requested(device);
-        self.over = done.is_err();
-        done
+        let room = self.parts.make_room();
+        self.over = room.is_err();
+        room?;
+        self.parts.service_requested(device);
+        Ok(())
     }
 
     /// Continues the transmission in execution, or begins the first one in the queue, until a unit has to wait or
     /// others are let in. A transmission that a device clear or a FatalError has ended is dropped. A release that is
-    /// first in the queue is done.
+    /// first in the queue is done; where there is no room for its response, it is not begun.
     pub fn proceed<D: Device>(&mut self, device: &mut D) -> Result<Proceeded, Ended>
         ensures was { OnOk result (self.old.over ≡ false) }
         ensures continues { OnOk result (self.new.over ≡ false) }

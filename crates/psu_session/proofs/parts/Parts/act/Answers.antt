@@ -1,9 +1,7 @@
 use Rattle.std.proofs.Common.{ℕ, List, [], ◌∷◌, ap, refl, sym}
-use Rattle.psu_hislip.specs.Action.{act}
 use Rattle.psu_session.specs.Events.{DeviceCalled, Put, Delivered, Cleared}
 use Rattle.psu_session.specs.Shown.{state_of}
 use Rattle.psu_session.proofs.Serving.{none_added, on_ok}
-use Rattle.psu_session.proofs.Stopping.{not_called}
 use Rattle.psu_session.proofs.parts.Parts.act.Goals as goal
 
 pub returns-in-Send-clause-done : goal.returns-in-Send-clause-done
@@ -29,18 +27,3 @@ returns-in-Clear-clause-done g c = record {
   runs = (c.clear.new.self, c.clear.ensures, refl);
   then = rw c.in-Clear.is (sym (none_added (state_of c.args.self.now)));
 }
-
-pub returns-in-Send-clause-stopped : goal.returns-in-Send-clause-stopped
-returns-in-Send-clause-stopped g c = not_called g.D.Device.does c.args.self.now.lock_waits (act c.args.action) c.args.device.now c.put.result
-
-pub returns-in-Execute-clause-stopped : goal.returns-in-Execute-clause-stopped
-returns-in-Execute-clause-stopped g c = not_called g.D.Device.does c.args.self.now.lock_waits (act c.args.action) c.args.device.now c.order.result
-
-pub returns-in-TooMuch-clause-stopped : goal.returns-in-TooMuch-clause-stopped
-returns-in-TooMuch-clause-stopped g c = not_called g.D.Device.does c.args.self.now.lock_waits (act c.args.action) c.args.device.now c.order-in-TooMuch.result
-
-pub returns-in-Trigger-clause-stopped : goal.returns-in-Trigger-clause-stopped
-returns-in-Trigger-clause-stopped g c = not_called g.D.Device.does c.args.self.now.lock_waits (act c.args.action) c.args.device.now c.order-in-Trigger.result
-
-pub returns-in-Release-clause-stopped : goal.returns-in-Release-clause-stopped
-returns-in-Release-clause-stopped g c = not_called g.D.Device.does c.args.self.now.lock_waits (act c.args.action) c.args.device.now c.ask_release.result

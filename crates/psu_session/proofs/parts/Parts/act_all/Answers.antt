@@ -1,11 +1,12 @@
-use Rattle.std.proofs.Common.{◌≡◌, List, [], ◌∷◌, arith, subst, sym, flat_map}
+use Rattle.std.proofs.Common.{◌≡◌, List, [], ◌∷◌, arith, refl, subst, sym, flat_map}
 use Rattle.std.proofs.lemmas.Grind.{common_steps}
 use Rattle.psu_hislip.specs.Action.{act, acts}
 use Rattle.psu_hislip.specs.declared.action.Action.{Action}
 use Rattle.psu_session.specs.Step.{Each, release_in, works_in}
 use Rattle.psu_session.specs.Shown.{state_of}
+use Rattle.psu_session.specs.State.{State}
 use Rattle.psu_session.proofs.Serving.{DoneSoFar, begins, ends, steps}
-use Rattle.psu_session.proofs.Stopping.{if_err, stops_at}
+use Rattle.psu_session.proofs.Stopping.{if_err, not_called, stops_at}
 use Rattle.psu_session.proofs.parts.Parts.act_all.Goals as goal
 
 pub loop-action-init : goal.loop-action-init
@@ -25,8 +26,11 @@ loop-action-preserved g c =
     let s = state_of c.args.self.now in
     let here = subst (λ (left : List (Action _)). DoneSoFar does (Each s.lock_waits all) (Each (state_of c.loop-action.self).lock_waits (acts left)) (flat_map works_in all) (flat_map works_in (acts left)) (flat_map asks all) (flat_map asks (acts left)) s c.args.device.now (state_of c.loop-action.self) c.loop-action.device)
     c.in-Some.ensures.steps c.loop-action.invariant in
-    steps does asks (Each s.lock_waits all) (flat_map works_in all) (flat_map asks all) (act c.in-Some.action) (acts c.next.new.self) s c.args.device.now (state_of c.loop-action.self) c.loop-action.device (state_of c.act.new.self)
-    c.act.new.device here c.in_ok-act.ensures.done
+    let left = acts (c.in-Some.action ∷ c.next.new.self) in
+    let room = subst (λ (u : State). DoneSoFar does (Each s.lock_waits all) (Each u.lock_waits left) (flat_map works_in all) (flat_map works_in left) (flat_map asks all) (flat_map asks left) s c.args.device.now u c.loop-action.device)
+    (sym c.make_room.ensures.same) here in
+    steps does asks (Each s.lock_waits all) (flat_map works_in all) (flat_map asks all) (act c.in-Some.action) (acts c.next.new.self) s c.args.device.now (state_of c.make_room.new.self) c.loop-action.device (state_of c.act.new.self)
+    c.act.new.device room c.in_ok-act.ensures.done
 
 pub returns-clause-done : goal.returns-clause-done
 returns-clause-done g c =
@@ -39,6 +43,20 @@ returns-clause-done g c =
     (subst (λ (left : List (Action _)). DoneSoFar does (Each s.lock_waits all) (Each (state_of c.loop-action.self).lock_waits (acts left)) (flat_map works_in all) (flat_map works_in (acts left)) (flat_map asks all) (flat_map asks (acts left)) s c.args.device.now (state_of c.loop-action.self) c.loop-action.device) none
     c.loop-action.invariant)
 
+pub returns-in_err-make_room-clause-stopped : goal.returns-in_err-make_room-clause-stopped
+returns-in_err-make_room-clause-stopped g c =
+    let does = g.D.Device.does in
+    let all = acts c.args.actions.items in
+    let asks = release_in c.args.now c.args.number in
+    let s = state_of c.args.self.now in
+    let here = subst (λ (left : List (Action _)). DoneSoFar does (Each s.lock_waits all) (Each (state_of c.loop-action.self).lock_waits (acts left)) (flat_map works_in all) (flat_map works_in (acts left)) (flat_map asks all) (flat_map asks (acts left)) s c.args.device.now (state_of c.loop-action.self) c.loop-action.device)
+    c.in-Some.ensures.steps c.loop-action.invariant in
+    let left = acts (c.in-Some.action ∷ c.next.new.self) in
+    let one = act c.in-Some.action in
+    if_err c.from_residual.result
+    (stops_at does (Each s.lock_waits all) (flat_map works_in all) (flat_map asks all) one (acts c.next.new.self) (flat_map works_in left) (flat_map asks left) s c.args.device.now (state_of c.loop-action.self) c.loop-action.device c.loop-action.device here
+    (not_called does (state_of c.loop-action.self).lock_waits one c.loop-action.device c.loop-action.device refl))
+
 pub returns-in_err-act-clause-stopped : goal.returns-in_err-act-clause-stopped
 returns-in_err-act-clause-stopped g c =
     let does = g.D.Device.does in
@@ -47,6 +65,8 @@ returns-in_err-act-clause-stopped g c =
     let s = state_of c.args.self.now in
     let here = subst (λ (left : List (Action _)). DoneSoFar does (Each s.lock_waits all) (Each (state_of c.loop-action.self).lock_waits (acts left)) (flat_map works_in all) (flat_map works_in (acts left)) (flat_map asks all) (flat_map asks (acts left)) s c.args.device.now (state_of c.loop-action.self) c.loop-action.device)
     c.in-Some.ensures.steps c.loop-action.invariant in
-    if_err c.from_residual.result
-    (stops_at does (Each s.lock_waits all) (flat_map works_in all) (flat_map asks all) (act c.in-Some.action) (acts c.next.new.self) (flat_map works_in (acts (c.in-Some.action ∷ c.next.new.self))) (flat_map asks (acts (c.in-Some.action ∷ c.next.new.self))) s c.args.device.now (state_of c.loop-action.self) c.loop-action.device c.act.new.device here
-    c.in_err-act.ensures.stopped)
+    let left = acts (c.in-Some.action ∷ c.next.new.self) in
+    let one = act c.in-Some.action in
+    if_err c.from_residual-in_err-act.result
+    (stops_at does (Each s.lock_waits all) (flat_map works_in all) (flat_map asks all) one (acts c.next.new.self) (flat_map works_in left) (flat_map asks left) s c.args.device.now (state_of c.loop-action.self) c.loop-action.device c.act.new.device here
+    (not_called does (state_of c.loop-action.self).lock_waits one c.loop-action.device c.act.new.device c.in_err-act.ensures.uncalled))

@@ -7,39 +7,23 @@ use Rattle.psu_session.specs.Locking.{kind_of}
 use Rattle.psu_session.specs.Step.{IsLocked, puts}
 use Rattle.psu_session.specs.Shown.{state_of}
 use Rattle.psu_session.specs.State.{added}
-use Rattle.psu_session.proofs.Serving.{on_ok}
-use Rattle.psu_session.proofs.Stopping.{if_err, none_called, some_locked}
 use Rattle.psu_session.proofs.parts.Parts.answer_lock.Goals as goal
 
-pub returns-then-self-clause-done : goal.returns-then-self-clause-done
-returns-then-self-clause-done g c =
-    let kind = kind_of c.args.string.now in
-    on_ok c.put_header.result (λ did. record {
-      done = puts (lock_answer Error);
-      are = subst (λ (z : Bool). IsLocked z c.args.timeout kind (puts (lock_answer Error))) (sym c.if-self.true) refl;
-      runs = refl;
-      then = did ∙ ap (λ (h : Header). added (state_of c.args.self.now) [] [] (puts h)) c.header.ensures;
-    }) c.put_header.ensures
+pub returns-then-self : goal.returns-then-self
+returns-then-self g c = record {
+  done = puts (lock_answer Error);
+  are = subst (λ (z : Bool). IsLocked z c.args.timeout (kind_of c.args.string.now) (puts (lock_answer Error))) (sym c.if-self.true) refl;
+  runs = refl;
+  then = c.put_header.ensures ∙ ap (λ (h : Header). added (state_of c.args.self.now) [] [] (puts h)) c.header.ensures;
+}
 
-pub returns-in-None-clause-done : goal.returns-in-None-clause-done
-returns-in-None-clause-done g c =
+pub returns-in-None : goal.returns-in-None
+returns-in-None g c =
     let none : None ≡ kind_of c.args.string.now = sym c.in-None.is ∙ c.lock_kind.ensures in
-    on_ok c.put_header-in-None.result (λ did. record {
+    record {
       done = puts (lock_answer Error);
       are = subst (λ (z : Bool). IsLocked z c.args.timeout (kind_of c.args.string.now) (puts (lock_answer Error))) (sym c.if-self.false)
           (subst (λ (z : Option Kind). IsLocked false c.args.timeout z (puts (lock_answer Error))) none refl);
       runs = refl;
-      then = did ∙ ap (λ (h : Header). added (state_of c.args.self.now) [] [] (puts h)) c.header-in-None.ensures;
-    }) c.put_header-in-None.ensures
-
-pub returns-then-self-clause-stopped : goal.returns-then-self-clause-stopped
-returns-then-self-clause-stopped g c =
-    let waits = c.args.self.now.lock_waits in
-    let kind = kind_of c.args.string.now in
-    if_err c.put_header.result (none_called g.D.Device.does (IsLocked waits c.args.timeout kind) c.args.device.now (some_locked waits c.args.timeout kind))
-
-pub returns-in-None-clause-stopped : goal.returns-in-None-clause-stopped
-returns-in-None-clause-stopped g c =
-    let waits = c.args.self.now.lock_waits in
-    let kind = kind_of c.args.string.now in
-    if_err c.put_header-in-None.result (none_called g.D.Device.does (IsLocked waits c.args.timeout kind) c.args.device.now (some_locked waits c.args.timeout kind))
+      then = c.put_header-in-None.ensures ∙ ap (λ (h : Header). added (state_of c.args.self.now) [] [] (puts h)) c.header-in-None.ensures;
+    }

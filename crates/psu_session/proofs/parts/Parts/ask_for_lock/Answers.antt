@@ -1,31 +1,30 @@
-use Rattle.std.proofs.Common.{◌≡◌, ◌∙◌, Option, Some, None, false, true, [], ◌∷◌, ap, refl, sym}
+use Rattle.std.proofs.Common.{◌≡◌, ◌∙◌, Option, Some, None, true, [], ◌∷◌, ap, refl, sym}
 use Rattle.psu_hislip.specs.LockResponses.{lock_response}
 use Rattle.psu_hislip.specs.declared.header.Header.{Header}
 use Rattle.psu_session.specs.Events.{DeviceCalled, Locked, waits_after, waits_if}
-use Rattle.psu_session.specs.Step.{IsLocked, puts_any}
+use Rattle.psu_session.specs.Step.{puts_any}
 use Rattle.psu_session.specs.Shown.{state_of}
 use Rattle.psu_session.specs.State.{State, added}
-use Rattle.psu_session.proofs.Serving.{asks_nothing, none_added, on_ok}
-use Rattle.psu_session.proofs.Stopping.{all_called, if_err}
+use Rattle.psu_session.proofs.Serving.{asks_nothing, none_added}
 use Rattle.psu_session.proofs.parts.Parts.ask_for_lock.Goals as goal
 
 -- the state after a request with this response
 abbrev asked : State → Option Header → State
 asked s header = record (added s [] [] (puts_any header)) { lock_waits = waits_after (waits_if s.lock_waits header) (puts_any header) }
 
-pub returns-in-Some-clause-done : goal.returns-in-Some-clause-done
-returns-in-Some-clause-done g c =
+pub returns-in-Some : goal.returns-in-Some
+returns-in-Some g c =
     let reply = c.lock-reply.result in
     let is : Some c.in-Some.header ≡ lock_response reply = sym c.in-Some.is ∙ c.lock_response.ensures in
-    on_ok c.put_header.result (λ did. record {
+    record {
       done = DeviceCalled (Locked c.args.kind c.args.timeout reply) ∷ puts_any (lock_response reply);
       are = (reply, refl);
       runs = (c.lock-reply.new.self, c.lock-reply.ensures, asks_nothing g.D.Device.does (lock_response reply) c.lock-reply.new.self);
-      then = did ∙ ap (asked (state_of c.args.self.now)) is;
-    }) c.put_header.ensures
+      then = c.put_header.ensures ∙ ap (asked (state_of c.args.self.now)) is;
+    }
 
-pub returns-in-None-clause-done : goal.returns-in-None-clause-done
-returns-in-None-clause-done g c =
+pub returns-in-None : goal.returns-in-None
+returns-in-None g c =
     let reply = c.lock-reply.result in
     let is : None ≡ lock_response reply = sym c.in-None.is ∙ c.lock_response.ensures in
     record {
@@ -34,11 +33,3 @@ returns-in-None-clause-done g c =
       runs = (c.lock-reply.new.self, c.lock-reply.ensures, asks_nothing g.D.Device.does (lock_response reply) c.lock-reply.new.self);
       then = ap (λ (z : State). record z { lock_waits = true }) (sym (none_added (state_of c.args.self.now))) ∙ ap (asked (state_of c.args.self.now)) is;
     }
-
-pub returns-in-Some-clause-stopped : goal.returns-in-Some-clause-stopped
-returns-in-Some-clause-stopped g c =
-    let does = g.D.Device.does in
-    let reply = c.lock-reply.result in
-    if_err c.put_header.result
-    (all_called does (IsLocked false c.args.timeout (Some c.args.kind)) c.args.device.now c.lock-reply.new.self (DeviceCalled (Locked c.args.kind c.args.timeout reply) ∷ puts_any (lock_response reply)) (reply, refl)
-    (c.lock-reply.new.self, c.lock-reply.ensures, asks_nothing does (lock_response reply) c.lock-reply.new.self))

@@ -4,15 +4,14 @@ use Rattle.psu_hislip.specs.declared.header.Header.{Header}
 use Rattle.psu_session.specs.Step.{puts}
 use Rattle.psu_session.specs.Shown.{state_of}
 use Rattle.psu_session.specs.State.{added, with_owed}
-use Rattle.psu_session.proofs.Serving.{on_ok}
 use Rattle.psu_session.proofs.parts.Parts.release_lock.Goals as goal
 
-pub returns-clause-done : goal.returns-clause-done
-returns-clause-done g c =
+pub returns : goal.returns
+returns g c =
     let s = state_of c.args.self.now in
-    on_ok c.put_header.result (λ did. record {
+    record {
       reply = c.release-freed.result;
       call = c.release-freed.ensures;
-      then = did ∙ ap (λ (h : Header). added (with_owed s c.give_back.new.self.out) [] [] (puts h)) c.release_response.ensures
+      then = c.put_header.ensures ∙ ap (λ (h : Header). added (with_owed s c.give_back.new.self.out) [] [] (puts h)) c.release_response.ensures
           ∙ ap (λ (z : ℕ). added (with_owed s z) [] [] (puts (release_response c.release-freed.result))) c.give_back.ensures;
-    }) c.put_header.ensures
+    }
