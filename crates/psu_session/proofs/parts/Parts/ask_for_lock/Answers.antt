@@ -9,8 +9,8 @@ use Rattle.psu_session.proofs.Serving.{asks_nothing, none_added}
 use Rattle.psu_session.proofs.parts.Parts.ask_for_lock.Goals as goal
 
 -- the state after a request with this response
-abbrev asked : State → Option Header → State
-asked s header = record (added s [] [] (puts_any header)) { lock_waits = waits_after (waits_if s.lock_waits header) (puts_any header) }
+abbrev requested : State → Option Header → State
+requested s header = record (added s [] [] (puts_any header)) { lock_waits = waits_after (waits_if s.lock_waits header) (puts_any header) }
 
 pub returns-in-Some : goal.returns-in-Some
 returns-in-Some g c =
@@ -20,7 +20,7 @@ returns-in-Some g c =
       done = DeviceCalled (Locked c.args.kind c.args.timeout reply) ∷ puts_any (lock_response reply);
       are = (reply, refl);
       runs = (c.lock-reply.new.self, c.lock-reply.ensures, asks_nothing g.D.Device.does (lock_response reply) c.lock-reply.new.self);
-      then = c.put_header.ensures ∙ ap (asked (state_of c.args.self.now)) is;
+      then = c.put_header.ensures ∙ ap (requested (state_of c.args.self.now)) is;
     }
 
 pub returns-in-None : goal.returns-in-None
@@ -31,5 +31,5 @@ returns-in-None g c =
       done = DeviceCalled (Locked c.args.kind c.args.timeout reply) ∷ puts_any (lock_response reply);
       are = (reply, refl);
       runs = (c.lock-reply.new.self, c.lock-reply.ensures, asks_nothing g.D.Device.does (lock_response reply) c.lock-reply.new.self);
-      then = ap (λ (z : State). record z { lock_waits = true }) (sym (none_added (state_of c.args.self.now))) ∙ ap (asked (state_of c.args.self.now)) is;
+      then = ap (λ (z : State). record z { lock_waits = true }) (sym (none_added (state_of c.args.self.now))) ∙ ap (requested (state_of c.args.self.now)) is;
     }
