@@ -34,8 +34,7 @@ pub(crate) fn expand<A: Allocator + Copy, F: Executor<A>>(
         let Some(unit) = cursor.units.next_unit() else {
             break;
         };
-        let request = cursor.request(&unit, true);
-        let step = take_step(executor, &request, parked, gathered)?;
+        let step = take_step(executor, &cursor.request(&unit, true), parked, gathered)?;
         if let Some(need) = step {
             return Ok(Some(need));
         }

@@ -153,8 +153,12 @@ fn execute_units<'t, A: Allocator + Copy, F: Executor<A>>(
         let Some(unit) = cursor.units.next_unit() else {
             break;
         };
-        let request = cursor.request(&unit, false);
-        let turn = take_turn(executor, unit.first, &request, progress)?;
+        let turn = take_turn(
+            executor,
+            unit.first,
+            &cursor.request(&unit, false),
+            progress,
+        )?;
         if let Some(need) = turn {
             return Ok(Some(need));
         }
