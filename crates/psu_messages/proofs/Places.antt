@@ -31,6 +31,11 @@ at_start inside bytes rest first path e f p =
     subst (λ (z : List ℕ). IsAt inside bytes 0 z first path) (sym e)
     (subst (λ (z : Bool). IsAt inside bytes 0 bytes z path) (sym f) (subst (λ (z : List (List ℕ)). IsAt inside bytes 0 bytes true z) (sym p) start))
 
+-- no unit is left where no byte is left
+pub none_left : (first : Bool) (text : List ℕ) → length text ≡ 0 → Makes first [] text []
+none_left first [] n = ([], refl, refl)
+none_left first (x ∷ xs) n = absurd (omega (arith, n))
+
 -- a place at which the bytes, the flag and the path are others that are the same
 pub at_same : (inside : Bool) (bytes : List ℕ) (done now : ℕ) (rest is : List ℕ) (first flag : Bool) (path others : List (List ℕ)) → now ≡ done → is ≡ rest → flag ≡ first → others ≡ path
     → IsAt inside bytes done rest first path → IsAt inside bytes now is flag others

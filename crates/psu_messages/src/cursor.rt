@@ -21,6 +21,20 @@ pub(crate) struct Cursor<'t> {
     pub(crate) read: u64,
 }
 
+/// Takes the next unit, if one is left. At the end of a text the look at its bytes saves a call.
+#[inline(always)]
+pub(crate) fn take_unit<'t>(units: &mut Units<'t>) -> Option<Unit<'t>>
+    ensures some { IfSome result (λ unit. (more : List Part) → Makes units.new.first [] units.new.text.now more → Makes units.old.first [] units.old.text.now (part unit ∷ more)) }
+    ensures none { IfNone result (Makes units.old.first [] units.old.text.now []) }
+    ensures rest { EndsIn units.old.text.now units.new.text.now }
+    ensures less { IfSome result (λ _. length units.new.text.now < length units.old.text.now) }
+{
+    if units.text.is_empty() {
+        return None;
+    }
+    units.next_unit()
+}
+
 impl<'t> Cursor<'t> {
     /// Returns the cursor before the first unit of a text.
     pub(crate) fn of(text: &'t [u8]) -> Cursor<'t>
@@ -58,7 +72,7 @@ impl<'t> Cursor<'t> {
         ensures count { self.old.read ≤ count → self.new.read ≡ count }
     {
         while self.read < count {
-            let Some(unit) = self.units.next_unit() else {
+            let Some(unit) = take_unit(&mut self.units) else {
                 self.units = Units::of_last(self.text, 0, true);
                 self.read = count;
                 return;

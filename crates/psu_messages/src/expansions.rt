@@ -5,7 +5,7 @@ ghost use Rattle.psu_messages.specs.Executions.{Advances, StopsAt};
 ghost use Rattle.psu_messages.specs.Stepping.{expanded_by, within};
 ghost use Rattle.psu_messages.specs.Units.{Source};
 
-use crate::cursor::Cursor;
+use crate::cursor::{Cursor, take_unit};
 use crate::steps::take_step;
 use crate::{Executor, Need};
 use psu_answers::ResponseBuffer;
@@ -31,7 +31,7 @@ pub(crate) fn expand<A: Allocator + Copy, F: Executor<A>>(
         if !executor.may_continue() {
             return Ok(Some(Need::Turn));
         }
-        let Some(unit) = cursor.units.next_unit() else {
+        let Some(unit) = take_unit(&mut cursor.units) else {
             break;
         };
         let step = take_step(executor, &cursor.request(&unit, true), parked, gathered)?;

@@ -7,7 +7,7 @@ ghost use Rattle.psu_messages.specs.Shown.{progress_of};
 ghost use Rattle.psu_messages.specs.Stepping.{plain, within};
 ghost use Rattle.psu_messages.specs.Units.{Asks, EndsMessage, Fault, Source, Text};
 
-use crate::cursor::{Cursor, Place};
+use crate::cursor::{Cursor, Place, take_unit};
 use crate::expansions::expand;
 use crate::responses::{add_response, close};
 use crate::tries::{Tried, attempt};
@@ -150,7 +150,7 @@ fn execute_units<'t, A: Allocator + Copy, F: Executor<A>>(
         if !executor.may_continue() {
             return Ok(Some(Need::Turn));
         }
-        let Some(unit) = cursor.units.next_unit() else {
+        let Some(unit) = take_unit(&mut cursor.units) else {
             break;
         };
         let turn = take_turn(

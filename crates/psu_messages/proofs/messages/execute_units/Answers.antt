@@ -9,31 +9,31 @@ use Rattle.psu_messages.proofs.messages.execute_units.Goals as goal
 
 pub returns-in_err-turn-clause-stops : goal.returns-in_err-turn-clause-stops
 returns-in_err-turn-clause-stops g c =
-    let unit = unit_is false c.units.cursor c.units.invariant.place c.next_unit.new.self c.in-Some.unit c.request.result c.request.new.self
-    c.in-Some.ensures.some c.next_unit.ensures.rest c.in-Some.ensures.less c.request.ensures.request c.request.ensures.text c.request.ensures.units c.request.ensures.read in
+    let unit = unit_is false c.units.cursor c.units.invariant.place c.take_unit.new.units c.in-Some.unit c.request.result c.request.new.self
+    c.in-Some.ensures.some c.take_unit.ensures.rest c.in-Some.ensures.less c.request.ensures.request c.request.ensures.text c.request.ensures.units c.request.ensures.read in
     let asks = asks_at c.args.cursor.now.text.now c.units.progress.units c.units.cursor (part c.in-Some.unit) c.request.result (ap (λ t. t.now) c.units.invariant.text) c.units.invariant.read unit in
     passed_on c.from_residual.result c.in_err-turn.field-0.0 _ c.from_residual.ensures.1 (stops_on c.units.invariant.advances (c.in_err-turn.ensures.stops (Text c.args.cursor.now.text.now) asks))
 
 pub returns-in-Some-turn-clause-advances : goal.returns-in-Some-turn-clause-advances
 returns-in-Some-turn-clause-advances g c =
-    let unit = unit_is false c.units.cursor c.units.invariant.place c.next_unit.new.self c.in-Some.unit c.request.result c.request.new.self
-    c.in-Some.ensures.some c.next_unit.ensures.rest c.in-Some.ensures.less c.request.ensures.request c.request.ensures.text c.request.ensures.units c.request.ensures.read in
+    let unit = unit_is false c.units.cursor c.units.invariant.place c.take_unit.new.units c.in-Some.unit c.request.result c.request.new.self
+    c.in-Some.ensures.some c.take_unit.ensures.rest c.in-Some.ensures.less c.request.ensures.request c.request.ensures.text c.request.ensures.units c.request.ensures.read in
     let asks = asks_at c.args.cursor.now.text.now c.units.progress.units c.units.cursor (part c.in-Some.unit) c.request.result (ap (λ t. t.now) c.units.invariant.text) c.units.invariant.read unit in
     behind g.F.Executor.relations.does (Text c.args.cursor.now.text.now) c.args.executor.now c.units.executor c.take_turn.new.executor _ _ _ c.units.invariant.advances (c.in_ok-turn.ensures.advances (Text c.args.cursor.now.text.now) asks)
 
 pub returns-in-Some-turn-clause-place : goal.returns-in-Some-turn-clause-place
 returns-in-Some-turn-clause-place g c = λ some.
-    goes_on false c.units.cursor c.units.invariant.place c.next_unit.new.self c.in-Some.unit c.request.result c.request.new.self
-    c.in-Some.ensures.some c.next_unit.ensures.rest c.in-Some.ensures.less c.request.ensures.request c.request.ensures.text c.request.ensures.units c.request.ensures.read
+    goes_on false c.units.cursor c.units.invariant.place c.take_unit.new.units c.in-Some.unit c.request.result c.request.new.self
+    c.in-Some.ensures.some c.take_unit.ensures.rest c.in-Some.ensures.less c.request.ensures.request c.request.ensures.text c.request.ensures.units c.request.ensures.read
 
 pub units-preserved : goal.units-preserved
 units-preserved g c =
-    let unit = unit_is false c.units.cursor c.units.invariant.place c.next_unit.new.self c.in-Some.unit c.request.result c.request.new.self
-    c.in-Some.ensures.some c.next_unit.ensures.rest c.in-Some.ensures.less c.request.ensures.request c.request.ensures.text c.request.ensures.units c.request.ensures.read in
+    let unit = unit_is false c.units.cursor c.units.invariant.place c.take_unit.new.units c.in-Some.unit c.request.result c.request.new.self
+    c.in-Some.ensures.some c.take_unit.ensures.rest c.in-Some.ensures.less c.request.ensures.request c.request.ensures.text c.request.ensures.units c.request.ensures.read in
     let asks = asks_at c.args.cursor.now.text.now c.units.progress.units c.units.cursor (part c.in-Some.unit) c.request.result (ap (λ t. t.now) c.units.invariant.text) c.units.invariant.read unit in
     record {
-      place = goes_on false c.units.cursor c.units.invariant.place c.next_unit.new.self c.in-Some.unit c.request.result c.request.new.self
-          c.in-Some.ensures.some c.next_unit.ensures.rest c.in-Some.ensures.less c.request.ensures.request c.request.ensures.text c.request.ensures.units c.request.ensures.read;
+      place = goes_on false c.units.cursor c.units.invariant.place c.take_unit.new.units c.in-Some.unit c.request.result c.request.new.self
+          c.in-Some.ensures.some c.take_unit.ensures.rest c.in-Some.ensures.less c.request.ensures.request c.request.ensures.text c.request.ensures.units c.request.ensures.read;
       text = c.request.ensures.text ∙ c.units.invariant.text;
       read = omega (arith, c.request.ensures.read, c.units.invariant.read, c.in_ok-turn.ensures.units c.in_default-turn.is);
       advances = behind g.F.Executor.relations.does (Text c.args.cursor.now.text.now) c.args.executor.now c.units.executor c.take_turn.new.executor _ _ _ c.units.invariant.advances (c.in_ok-turn.ensures.advances (Text c.args.cursor.now.text.now) asks);
