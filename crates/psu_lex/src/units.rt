@@ -47,7 +47,7 @@ impl<'a> Units<'a> {
         }
     }
 
-    // Moves past the separator behind a unit, if there is one; `blank` is whether the unit is white space alone.
+    // Moves past the separator after a unit, if there is one; `blank` is whether the unit is white space alone.
     fn pass_separator(&mut self, blank: bool)
         requires { ends_unit self.old.text.now ≡ true }
         ensures makes { (text : List ℕ) (units : List Part) → blank ≡ all_white text → Makes self.new.first [] self.new.text.now units

@@ -29,6 +29,14 @@ impl<'a> Path<'a> {
             words: ArrayVec::new(),
         }
     }
+
+    /// Becomes the root of the tree.
+    pub fn clear(&mut self)
+        ensures { self.new ≡ [] }
+    {
+        self.words.clear();
+    }
+
     /// Copies the path, so that it can be kept without the message. The root needs no allocation.
     pub fn save<A: Allocator + Copy>(&self, alloc: A) -> Result<SavedPath<A>, AllocError>
         ensures ok { IfOk result (λ saved. saved ≡ self.now) }
