@@ -16,8 +16,8 @@ module _ (inside : Bool) (old : Cursor) (at : IsCursor inside old) (later : Unit
   module _ (unit : rust.Unit) (request : Request) (new : Cursor) (makes : (more : List Part) → Makes later.first [] later.text.now more → Makes old.units.first [] old.units.text.now (part unit ∷ more))
       (ends : EndsIn old.units.text.now later.text.now) (less : length later.text.now < length old.units.text.now)
       (reads : IsRequest inside (path_at old.path (part unit)) (part unit) request new.path) (same : new.text ≡ old.text) (units : new.units ≡ later) (one : new.read ≡ old.read + 1) where
-    pub goes_on : IsCursor inside new
-    goes_on =
+    pub continues : IsCursor inside new
+    continues =
         subst (λ (t : _). IsAt inside t.now new.read new.units.text.now new.units.first new.path) (sym same)
         (at_same inside old.text.now _ _ _ _ _ _ _ _ one (ap (λ (u : Units). u.text.now) units) (ap (λ (u : Units). u.first) units) refl
         (at_next at later.text.now later.first (part unit) makes ends less request new.path reads))

@@ -45,7 +45,7 @@ at_same inside bytes done now rest is first flag path others d e f p at =
     (subst (λ (z : Bool). IsAt inside bytes done rest z others) (sym f) (subst (λ (z : List (List ℕ)). IsAt inside bytes done rest first z) (sym p) at)))
 
 module _ {inside : Bool} {bytes : List ℕ} {done : ℕ} {rest : List ℕ} {first : Bool} {path : List (List ℕ)} (at : IsAt inside bytes done rest first path) where
-  -- where bytes are behind it, as many units are before it as were read
+  -- where bytes are after it, as many units are before it as were read
   pub counted : 0 < length rest → length at.before ≡ done
   counted some = elim at.count [ inl e ↦ e | inr n ↦ absurd (omega (arith, some, ap length n.0)) ]
 

@@ -5,8 +5,8 @@ use Rattle.psu_messages.specs.Units.{Leads}
 use Rattle.psu_messages.specs.declared.cursor.Cursor.{Cursor}
 use Rattle.psu_messages.specs.declared.cursor.Place.{Place}
 
--- A place in some bytes: so many units are before it, the bytes behind it give the others, and the next one is read at
--- this path. Where no byte is behind it, fewer units may be before it.
+-- A place in some bytes: so many units are before it, the bytes after it give the others, and the next one is read at
+-- this path. Where no byte is after it, fewer units may be before it.
 pub record IsAt (inside : Bool) (bytes : List ℕ) (done : ℕ) (rest : List ℕ) (first : Bool) (path : List (List ℕ)) : Type 0 where
   pub before : List Part
   pub count : (length before ≡ done) ⊎ ((rest ≡ []) × (length before ≤ done))
@@ -19,6 +19,6 @@ pub record IsAt (inside : Bool) (bytes : List ℕ) (done : ℕ) (rest : List ℕ
 abbrev pub IsCursor : Bool → Cursor → Type 0
 IsCursor inside cursor = IsAt inside cursor.text.now cursor.read cursor.units.text.now cursor.units.first cursor.path
 
--- a place that is kept, by the number of bytes behind it
+-- a place that is kept, by the number of bytes after it
 abbrev pub IsKept : {A : Type 0} → Bool → List ℕ → Place A → Type 0
 IsKept inside bytes place = (rest : List ℕ) × (length rest ≡ place.left) × IsAt inside bytes place.read rest place.first place.path

@@ -10,7 +10,7 @@ pub record Shown : Type 0 where
   pub source : Source
   pub progress : executions.Progress
 
--- a place of the text that is kept is not behind the units that are done
+-- a place of the text is kept, before which there are at most as many units as are done
 abbrev pub IsPlaced : {A : Type 0} → Source → Place A → ℕ → Type 0
 IsPlaced (Text bytes) place units = IsKept false bytes place × (place.read ≤ units)
 IsPlaced (Fault error) place units = Unit {0}

@@ -59,7 +59,7 @@ impl<'t> Cursor<'t> {
         ensures read { self.new.read ≡ self.old.read + 1 }
     {
         if unit.first {
-            self.path = Path::root();
+            self.path.clear();
         }
         self.read += 1;
         request(&mut self.path, unit, inside)
@@ -117,7 +117,7 @@ impl<'t> Cursor<'t> {
 pub(crate) struct Place<A: Allocator + Copy> {
     /// How many units are before it.
     pub(crate) read: u64,
-    /// How many bytes are behind it.
+    /// How many bytes are after it.
     pub(crate) left: usize,
     /// Whether the next unit is the first of its message.
     pub(crate) first: bool,
@@ -152,6 +152,7 @@ impl<A: Allocator + Copy> Place<A> {
             read: self.read,
         }
     }
+
     /// Becomes a later place of the same text, where there is one.
     pub(crate) fn advance_to(&mut self, later: Option<Place<A>>)
         ensures place { (inside : Bool) (bytes : List ℕ) → IsKept inside bytes self.old → IfSome later (IsKept inside bytes) → IsKept inside bytes self.new }

@@ -235,6 +235,7 @@ pub(crate) fn execute_rest<A: Allocator + Copy, F: Executor<A>>(
 {
     let mut cursor = place.cursor(bytes);
     cursor.pass_to(progress.units, false);
+    // Where a unit waits, the path has moved past it: then the place before the first unit of this call is kept.
     let begun = cursor.save_between(alloc, place.read, progress.units);
     let need = execute_units(executor, &mut cursor, progress)?;
     if need.is_some() {

@@ -11,7 +11,7 @@ use std::alloc::Allocator;
 use std::marker::Model;
 
 /// A transmission in execution: what is executed, and how far it is. Contracts see what it is and its progress. It
-/// keeps the place at which it continues, so that no unit is split off again that was executed in an earlier call.
+/// keeps a place up to which all units are done, so that a call passes over at most the units of the call before it.
 #[derive(Drop)]
 pub struct Transmission<A: Allocator + Copy> {
     input: Input<A>,

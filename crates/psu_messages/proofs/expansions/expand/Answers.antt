@@ -1,5 +1,5 @@
 use Rattle.std.proofs.Common.{◌∙◌, true, arith, ap}
-use Rattle.psu_messages.proofs.Cursors.{goes_on, none_behind, unit_is}
+use Rattle.psu_messages.proofs.Cursors.{continues, none_behind, unit_is}
 use Rattle.psu_messages.proofs.Going.{behind, passed_on, stops_on}
 use Rattle.psu_messages.proofs.Inside.{inside_at, leaves_all}
 use Rattle.psu_messages.proofs.Outside.{behind_out}
@@ -27,7 +27,7 @@ units-preserved g c =
     c.in-Some.ensures.some c.take_unit.ensures.rest c.in-Some.ensures.less c.request.ensures.request c.request.ensures.text c.request.ensures.units c.request.ensures.read) in
     let went = rw c.in_default-step.is at c.in_ok-step.ensures.advances in
     record {
-      place = goes_on true c.units.cursor c.units.invariant.place c.take_unit.new.units c.in-Some.unit c.request.result c.request.new.self
+      place = continues true c.units.cursor c.units.invariant.place c.take_unit.new.units c.in-Some.unit c.request.result c.request.new.self
           c.in-Some.ensures.some c.take_unit.ensures.rest c.in-Some.ensures.less c.request.ensures.request c.request.ensures.text c.request.ensures.units c.request.ensures.read;
       text = ap (λ t. t.now) c.request.ensures.text ∙ c.units.invariant.text;
       read = omega (arith, c.request.ensures.read, c.units.invariant.read);

@@ -2,7 +2,7 @@ use Rattle.std.proofs.Common.{◌∙◌, false, arith, ap}
 use Rattle.psu_lex.specs.Message.{part}
 use Rattle.psu_messages.specs.Shown.{progress_of, inside_of}
 use Rattle.psu_messages.specs.Units.{Text}
-use Rattle.psu_messages.proofs.Cursors.{goes_on, none_behind, unit_is}
+use Rattle.psu_messages.proofs.Cursors.{continues, none_behind, unit_is}
 use Rattle.psu_messages.proofs.Going.{behind, passed_on, stops_on}
 use Rattle.psu_messages.proofs.Outside.{asks_at, behind_out, closed, closes, ends_all}
 use Rattle.psu_messages.proofs.messages.execute_units.Goals as goal
@@ -23,7 +23,7 @@ returns-in-Some-turn-clause-advances g c =
 
 pub returns-in-Some-turn-clause-place : goal.returns-in-Some-turn-clause-place
 returns-in-Some-turn-clause-place g c = λ some.
-    goes_on false c.units.cursor c.units.invariant.place c.take_unit.new.units c.in-Some.unit c.request.result c.request.new.self
+    continues false c.units.cursor c.units.invariant.place c.take_unit.new.units c.in-Some.unit c.request.result c.request.new.self
     c.in-Some.ensures.some c.take_unit.ensures.rest c.in-Some.ensures.less c.request.ensures.request c.request.ensures.text c.request.ensures.units c.request.ensures.read
 
 pub units-preserved : goal.units-preserved
@@ -32,7 +32,7 @@ units-preserved g c =
     c.in-Some.ensures.some c.take_unit.ensures.rest c.in-Some.ensures.less c.request.ensures.request c.request.ensures.text c.request.ensures.units c.request.ensures.read in
     let asks = asks_at c.args.cursor.now.text.now c.units.progress.units c.units.cursor (part c.in-Some.unit) c.request.result (ap (λ t. t.now) c.units.invariant.text) c.units.invariant.read unit in
     record {
-      place = goes_on false c.units.cursor c.units.invariant.place c.take_unit.new.units c.in-Some.unit c.request.result c.request.new.self
+      place = continues false c.units.cursor c.units.invariant.place c.take_unit.new.units c.in-Some.unit c.request.result c.request.new.self
           c.in-Some.ensures.some c.take_unit.ensures.rest c.in-Some.ensures.less c.request.ensures.request c.request.ensures.text c.request.ensures.units c.request.ensures.read;
       text = c.request.ensures.text ∙ c.units.invariant.text;
       read = omega (arith, c.request.ensures.read, c.units.invariant.read, c.in_ok-turn.ensures.units c.in_default-turn.is);
