@@ -1,5 +1,5 @@
 -- What the seat of a thread has seen once the thread has called the device.
-use Rattle.std.specs.Prelude.{◌≡◌, ◌⊎◌, ℕ, Bool, false, Option, Some, None, Result, Ok, Err, List, []}
+use Rattle.std.specs.Prelude.{◌≡◌, ◌⊎◌, ℕ, Bool, Option, Some, None, Result, Ok, Err, List}
 use Rattle.std.specs.declared.alloc.Global.{Global}
 use Rattle.psu_disk.specs.declared.disk.Disk.{Ghosts}
 use Rattle.psu_turn.specs.Seats.{Sight, Calls}
@@ -51,12 +51,12 @@ over_sessions None = []
 
 -- What a unit with this reply has caused is what the notifications say that were then taken. A query that is answered
 -- causes nothing.
-abbrev pub IsNotified : Type 0 → Reply → Sight State Entry → Caused → Sight State Entry → Type 0
-IsNotified honest reply old caused new = ((text : List ℕ) × (reply ≡ Answer text) × (new ≡ old) × (caused.requesting ≡ []) × (caused.wakes_flusher ≡ false))
-    ⊎ Calls (AdmitsOn honest) old (Notified caused.requesting caused.wakes_flusher) new
+abbrev pub IsNotified : Type 0 → Reply → Sight State Entry → Option Caused → Sight State Entry → Type 0
+IsNotified honest reply old None new = (new ≡ old) × ((text : List ℕ) × (reply ≡ Answer text))
+IsNotified honest reply old (Some caused) new = Calls (AdmitsOn honest) old (Notified caused.requesting caused.wakes_flusher) new
 
 -- the seat executed a unit, which has caused this
-abbrev pub Causes : Type 0 → Reply → Sight State Entry → Entry → Caused → Sight State Entry → Type 0
+abbrev pub Causes : Type 0 → Reply → Sight State Entry → Entry → Option Caused → Sight State Entry → Type 0
 Causes honest reply old entry caused new = (mid : Sight State Entry) × Calls (AdmitsOn honest) old entry mid × IsNotified honest reply mid caused new
 
 -- the seat made this call, which has caused what the notifications say that were then taken

@@ -8,7 +8,7 @@ ghost use Rattle.psu_locks.specs.declared.grant.Grant.TheVariants as grants;
 ghost use Rattle.psu_bench.specs.Calls.{AdmitsOn, session_of};
 ghost use Rattle.psu_callers.specs.Seen.{Causes, GivesBack, HasEnded, IsNotified, Makes, Notifies, over_sessions, released_of};
 
-use crate::{Caused, CausedByJob, Granted, SharedGate};
+use crate::{Caused, CausedByJob, Granted, SharedGate, Visit};
 use psu_bench::{Bench, Gate, Point, Seat};
 use psu_disk::Disk;
 use psu_exec::{
@@ -16,37 +16,35 @@ use psu_exec::{
     Session, Sessions, Stranger,
 };
 use std::alloc::{AllocError, Global};
-use std::sync::{Arc, Mutex, Wait};
+use std::sync::{Arc, Wait};
 
 /// A thread's access to the device: the bench, a seat of its own there, and the gate. Each call says what the seat has
-/// then seen. Calls are made under a mutex, since a thread sleeps while it waits for one: many threads that wait for a
-/// turn of the bench itself would take the processor from each other.
+/// then seen. Calls are made in a visit, under the lock of the device.
 #[derive(Drop)]
 pub struct Caller<D: Disk, G: Gate> {
     bench: Arc<Bench<D, Global>>,
-    mutex: Arc<Mutex<()>>,
     seat: Seat<Global>,
     gate: SharedGate<G>,
     ghost same: { seat.turn ≡ arc_value bench },
     ghost here: { is_some seat.opening ≡ true },
 }
 
-// Returns what a unit has caused. A query that is answered sets no bit of a status register and changes nothing that is
-// stored, so it causes nothing.
+// Returns what a unit may have caused; none for a query that is answered: it sets no bit of a status register and changes
+// nothing that is stored, so it causes nothing.
 fn caused_by<D: Disk, R: Wait>(
     rt: &R,
     bench: &Bench<D, Global>,
     seat: &mut Seat<Global>,
     outcome: &Outcome<Global>,
-) -> Caused
+) -> Option<Caused>
     requires own { IsOf bench.now seat.old }
     ensures call { (seat.new ≡ seat.old) ⊎ ((asking : List ℕ) × (work : Bool) × Calls (AdmitsOn D.honest) seat.old (Notified asking work) seat.new) }
     ensures caused { IsNotified D.honest (outcome_of outcome.now) seat.old result seat.new }
     ensures own { IsOf bench.now seat.new }
 {
     match outcome {
-        Outcome::Answer(_) => Caused::nothing(),
-        _ => Caused::of(bench.take_notifications(rt, seat)),
+        Outcome::Answer(_) => None,
+        _ => Some(Caused::of(bench.take_notifications(rt, seat))),
     }
 }
 
@@ -78,13 +76,7 @@ impl<D: Disk + Drop, G: Gate + Drop> Caller<D, G> {
             return Err(AllocError);
         };
         let bench = Arc::new(alloc, bench)?;
-        let mutex = Arc::new(alloc, Mutex::new(()))?;
-        Ok(Caller {
-            bench,
-            mutex,
-            seat,
-            gate,
-        })
+        Ok(Caller { bench, seat, gate })
     }
 
     /// Creates a caller for another thread.
@@ -94,43 +86,48 @@ impl<D: Disk + Drop, G: Gate + Drop> Caller<D, G> {
         ensures split { IfOk result (λ other. Splits self.old.seat other.seat) }
     {
         let bench = Arc::try_clone(&self.bench)?;
-        let mutex = Arc::try_clone(&self.mutex)?;
         let gate = self.gate.another()?;
         let seat = self.bench.split(&mut self.seat);
-        Ok(Caller {
-            bench,
-            mutex,
-            seat,
-            gate,
-        })
+        Ok(Caller { bench, seat, gate })
     }
 
-    /// Executes one unit of a session, in one try, and then calls the gate. Returns its result, and what it has caused.
+    /// Executes one unit of a session, in one try. Returns its result, and what it may have caused; none for a query that
+    /// is answered. Then the visit keeps the lock, as its response is mostly sent at once; else the gate is called.
     #[tactic(auto, using(crate::proofs::Seats::is_of))]
     pub fn execute<R: Wait>(
         &mut self,
         rt: &R,
+        visit: &mut Visit<'_>,
         session: Session,
         request: &Request<'_>,
-    ) -> (Outcome<Global>, Caused)
+    ) -> (Outcome<Global>, Option<Caused>)
         ensures call { Makes D.honest self.old.seat (Executed session request.now (outcome_of result.0)) self.new.seat }
         ensures caused { Causes D.honest (outcome_of result.0) self.old.seat (Executed session request.now (outcome_of result.0)) result.1 self.new.seat }
     {
-        let guard = self.mutex.lock(rt);
+        let guard = visit.enter(rt);
         let outcome = self.bench.execute(rt, &mut self.seat, session, request);
         let caused = caused_by(rt, &self.bench, &mut self.seat, &outcome);
-        drop(guard);
-        self.gate.at(Point::AfterAnswer);
+        if caused.is_some() {
+            drop(guard);
+            self.gate.at(Point::AfterAnswer);
+        } else {
+            visit.keep(guard);
+        }
         (outcome, caused)
     }
 
     /// Returns the result of a session's wait, and what the call has caused.
     #[tactic(auto, using(crate::proofs::Seats::is_of))]
-    pub fn settle<R: Wait>(&mut self, rt: &R, session: Session) -> (Outcome<Global>, Caused)
+    pub fn settle<R: Wait>(
+        &mut self,
+        rt: &R,
+        visit: &mut Visit<'_>,
+        session: Session,
+    ) -> (Outcome<Global>, Caused)
         ensures call { Makes D.honest self.old.seat (Settled session (outcome_of result.0)) self.new.seat }
         ensures caused { Notifies D.honest self.old.seat (Settled session (outcome_of result.0)) result.1 self.new.seat }
     {
-        let _guard = self.mutex.lock(rt);
+        let _guard = visit.enter(rt);
         let outcome = self.bench.settle(rt, &mut self.seat, session);
         let notifications = self.bench.take_notifications(rt, &mut self.seat);
         (outcome, Caused::of(notifications))
@@ -138,20 +135,25 @@ impl<D: Disk + Drop, G: Gate + Drop> Caller<D, G> {
 
     /// Takes a job.
     #[tactic(auto, using(crate::proofs::Seats::is_of))]
-    pub fn take<R: Wait>(&mut self, rt: &R) -> Result<Job<D, Global>, NoJob>
+    pub fn take<R: Wait>(&mut self, rt: &R, visit: &mut Visit<'_>) -> Result<Job<D, Global>, NoJob>
         ensures call { Calls (AdmitsOn D.honest) self.old.seat (Took (taken_of result)) self.new.seat }
     {
-        let _guard = self.mutex.lock(rt);
+        let _guard = visit.enter(rt);
         self.bench.take(rt, &mut self.seat)
     }
 
     /// Gives back a finished job, and returns what that has caused. The end of another device's job is discarded.
     #[tactic(auto, using(crate::proofs::Seats::is_of))]
-    pub fn give_back<R: Wait>(&mut self, rt: &R, finished: Finished<D, Global>) -> CausedByJob
+    pub fn give_back<R: Wait>(
+        &mut self,
+        rt: &R,
+        visit: &mut Visit<'_>,
+        finished: Finished<D, Global>,
+    ) -> CausedByJob
         ensures call { GivesBack D.honest (finished_of finished.end) self.old.seat self.new.seat }
         ensures caused { HasEnded D.honest (finished_of finished.end) self.old.seat result self.new.seat }
     {
-        let _guard = self.mutex.lock(rt);
+        let _guard = visit.enter(rt);
         let given = self.bench.give_back(rt, &mut self.seat, finished);
         let notifications = self.bench.take_notifications(rt, &mut self.seat);
         CausedByJob::new(sessions_over(given), notifications.requesting)
@@ -159,68 +161,86 @@ impl<D: Disk + Drop, G: Gate + Drop> Caller<D, G> {
 
     /// Opens the session of the least free number.
     #[tactic(auto, using(crate::proofs::Seats::is_of))]
-    pub fn open_session<R: Wait>(&mut self, rt: &R) -> Result<Session, Crowded>
+    pub fn open_session<R: Wait>(
+        &mut self,
+        rt: &R,
+        visit: &mut Visit<'_>,
+    ) -> Result<Session, Crowded>
         ensures call { Calls (AdmitsOn D.honest) self.old.seat (Opened (session_of result)) self.new.seat }
     {
-        let _guard = self.mutex.lock(rt);
+        let _guard = visit.enter(rt);
         self.bench.open_session(rt, &mut self.seat)
     }
 
     /// Closes a session. Returns the sessions whose lock requests were then granted.
     #[tactic(auto, using(crate::proofs::Seats::is_of))]
-    pub fn close_session<R: Wait>(&mut self, rt: &R, session: Session) -> Granted
+    pub fn close_session<R: Wait>(
+        &mut self,
+        rt: &R,
+        visit: &mut Visit<'_>,
+        session: Session,
+    ) -> Granted
         ensures call { Calls (AdmitsOn D.honest) self.old.seat (Closed session result.sessions) self.new.seat }
         ensures grant { result.grant ≡ grants.Granted }
     {
-        let _guard = self.mutex.lock(rt);
+        let _guard = visit.enter(rt);
         let granted = self.bench.close_session(rt, &mut self.seat, session);
         Granted::new(granted, Grant::Granted)
     }
 
     /// Drops the wait of a session.
     #[tactic(auto, using(crate::proofs::Seats::is_of))]
-    pub fn clear<R: Wait>(&mut self, rt: &R, session: Session)
+    pub fn clear<R: Wait>(&mut self, rt: &R, visit: &mut Visit<'_>, session: Session)
         ensures call { Calls (AdmitsOn D.honest) self.old.seat (Cleared session) self.new.seat }
     {
-        let _guard = self.mutex.lock(rt);
+        let _guard = visit.enter(rt);
         self.bench.clear(rt, &mut self.seat, session);
     }
 
-    /// Records that a response is sent to a session. Returns what that has caused.
+    /// Records that a response is sent to a session, and calls the gate. Returns what that has caused.
     #[tactic(auto, using(crate::proofs::Seats::is_of))]
-    pub fn sent<R: Wait>(&mut self, rt: &R, session: Session) -> Caused
+    pub fn sent<R: Wait>(&mut self, rt: &R, visit: &mut Visit<'_>, session: Session) -> Caused
         ensures call { Makes D.honest self.old.seat (Sent session) self.new.seat }
         ensures caused { Notifies D.honest self.old.seat (Sent session) result self.new.seat }
     {
-        let _guard = self.mutex.lock(rt);
+        let guard = visit.enter(rt);
         self.bench.sent(rt, &mut self.seat, session);
-        Caused::of(self.bench.take_notifications(rt, &mut self.seat))
+        let notifications = self.bench.take_notifications(rt, &mut self.seat);
+        drop(guard);
+        self.gate.at(Point::AfterAnswer);
+        Caused::of(notifications)
     }
 
-    /// Records that what was sent to a session is delivered.
+    /// Records that what was sent to a session is delivered. The visit keeps the lock, as a unit mostly follows at once.
     #[tactic(auto, using(crate::proofs::Seats::is_of))]
-    pub fn delivered<R: Wait>(&mut self, rt: &R, session: Session)
+    pub fn delivered<R: Wait>(&mut self, rt: &R, visit: &mut Visit<'_>, session: Session)
         ensures call { Calls (AdmitsOn D.honest) self.old.seat (Delivered session) self.new.seat }
     {
-        let _guard = self.mutex.lock(rt);
+        let guard = visit.enter(rt);
         self.bench.delivered(rt, &mut self.seat, session);
+        visit.keep(guard);
     }
 
     /// Returns the response to a status query of a session.
     #[tactic(auto, using(crate::proofs::Seats::is_of))]
-    pub fn status<R: Wait>(&mut self, rt: &R, session: Session) -> u8
+    pub fn status<R: Wait>(&mut self, rt: &R, visit: &mut Visit<'_>, session: Session) -> u8
         ensures call { Calls (AdmitsOn D.honest) self.old.seat (Queried session result) self.new.seat }
     {
-        let _guard = self.mutex.lock(rt);
+        let _guard = visit.enter(rt);
         self.bench.status(rt, &mut self.seat, session)
     }
 
     /// Fetches the service request of a session, if there is one.
     #[tactic(auto, using(crate::proofs::Seats::is_of))]
-    pub fn requests<R: Wait>(&mut self, rt: &R, session: Session) -> Option<u8>
+    pub fn requests<R: Wait>(
+        &mut self,
+        rt: &R,
+        visit: &mut Visit<'_>,
+        session: Session,
+    ) -> Option<u8>
         ensures call { Calls (AdmitsOn D.honest) self.old.seat (Fetched session result) self.new.seat }
     {
-        let _guard = self.mutex.lock(rt);
+        let _guard = visit.enter(rt);
         self.bench.requests(rt, &mut self.seat, session)
     }
 
@@ -230,6 +250,7 @@ impl<D: Disk + Drop, G: Gate + Drop> Caller<D, G> {
     pub fn lock<R: Wait>(
         &mut self,
         rt: &R,
+        visit: &mut Visit<'_>,
         session: Session,
         kind: Kind,
         now: u64,
@@ -239,7 +260,7 @@ impl<D: Disk + Drop, G: Gate + Drop> Caller<D, G> {
         ensures requesting { result.1.requesting ≡ [] }
         ensures flusher { IsTrue result.1.wakes_flusher ↔ (result.0 ≡ Ok grants.Queued) }
     {
-        let _guard = self.mutex.lock(rt);
+        let _guard = visit.enter(rt);
         let reply = self
             .bench
             .lock(rt, &mut self.seat, session, kind, now, timeout);
@@ -252,12 +273,13 @@ impl<D: Disk + Drop, G: Gate + Drop> Caller<D, G> {
     pub fn release<R: Wait>(
         &mut self,
         rt: &R,
+        visit: &mut Visit<'_>,
         session: Session,
     ) -> Result<(Freed, Granted), LockRefusal>
         ensures call { Calls (AdmitsOn D.honest) self.old.seat (Released session (released_of result)) self.new.seat }
         ensures grant { IfOk result (λ released. released.1.grant ≡ grants.Granted) }
     {
-        let _guard = self.mutex.lock(rt);
+        let _guard = visit.enter(rt);
         match self.bench.release(rt, &mut self.seat, session) {
             Ok((freed, granted)) => Ok((freed, Granted::new(granted, Grant::Granted))),
             Err(refusal) => Err(refusal),
@@ -266,30 +288,30 @@ impl<D: Disk + Drop, G: Gate + Drop> Caller<D, G> {
 
     /// Fails the lock requests whose timeout has expired, and returns their sessions.
     #[tactic(auto, using(crate::proofs::Seats::is_of))]
-    pub fn tick<R: Wait>(&mut self, rt: &R, now: u64) -> Granted
+    pub fn tick<R: Wait>(&mut self, rt: &R, visit: &mut Visit<'_>, now: u64) -> Granted
         ensures call { Calls (AdmitsOn D.honest) self.old.seat (Ticked now result.sessions) self.new.seat }
         ensures grant { result.grant ≡ grants.Failed }
     {
-        let _guard = self.mutex.lock(rt);
+        let _guard = visit.enter(rt);
         let failed = self.bench.tick(rt, &mut self.seat, now);
         Granted::new(failed, Grant::Failed)
     }
 
     /// Returns whether the exclusive lock is held, and how many sessions hold a lock.
     #[tactic(auto, using(crate::proofs::Seats::is_of))]
-    pub fn info<R: Wait>(&mut self, rt: &R) -> Info
+    pub fn info<R: Wait>(&mut self, rt: &R, visit: &mut Visit<'_>) -> Info
         ensures call { Calls (AdmitsOn D.honest) self.old.seat (Informed result) self.new.seat }
     {
-        let _guard = self.mutex.lock(rt);
+        let _guard = visit.enter(rt);
         self.bench.info(rt, &mut self.seat)
     }
 
     /// Returns the earliest time at which a waiting lock request fails.
     #[tactic(auto, using(crate::proofs::Seats::is_of))]
-    pub fn next_deadline<R: Wait>(&mut self, rt: &R) -> Option<u128>
+    pub fn next_deadline<R: Wait>(&mut self, rt: &R, visit: &mut Visit<'_>) -> Option<u128>
         ensures call { Calls (AdmitsOn D.honest) self.old.seat (Due result) self.new.seat }
     {
-        let _guard = self.mutex.lock(rt);
+        let _guard = visit.enter(rt);
         self.bench.next_deadline(rt, &mut self.seat)
     }
 

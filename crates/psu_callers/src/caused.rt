@@ -1,5 +1,5 @@
 // What a call causes for other threads.
-ghost use Rattle.std.specs.Prelude.{◌≡◌, ◌↔◌, IsTrue, false, [], Ok};
+ghost use Rattle.std.specs.Prelude.{◌≡◌, ◌↔◌, IsTrue, [], Ok};
 
 use crate::Others;
 use crate::duty::Duty;
@@ -24,18 +24,6 @@ impl Caused {
         Caused {
             requesting: notifications.requesting,
             wakes_flusher: notifications.has_work,
-            duty: Duty(()),
-        }
-    }
-
-    // Returns that nothing was caused.
-    pub(crate) fn nothing() -> Caused
-        ensures requesting { result.requesting ≡ [] }
-        ensures flusher { result.wakes_flusher ≡ false }
-    {
-        Caused {
-            requesting: Sessions::new(),
-            wakes_flusher: false,
             duty: Duty(()),
         }
     }

@@ -1,5 +1,5 @@
-//! The shared device as its callers see it: its power-on, how a thread calls it, what these calls cause for other
-//! threads, which can't be forgotten, and the device of a session.
+//! The shared device as its callers see it: its power-on, its lock, how a thread calls it, and what these calls cause for
+//! other threads, which can't be forgotten.
 #![tactic(auto)]
 
 mod caller;
@@ -12,6 +12,7 @@ mod others;
 mod power_on_fault;
 mod shared_gate;
 mod starting;
+mod visit;
 
 pub use caller::Caller;
 pub use caused::Caused;
@@ -22,3 +23,4 @@ pub use others::{LockedRegistry, Others};
 pub use power_on_fault::PowerOnFault;
 pub use shared_gate::SharedGate;
 pub use starting::{Served, power_on};
+pub use visit::{DeviceLock, Visit};

@@ -1,5 +1,1 @@
-pub mod Added
-pub mod Called
-pub mod Made
 pub mod Opening
-pub mod Recorded

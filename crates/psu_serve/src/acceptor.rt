@@ -1,13 +1,12 @@
 // The server: it powers on, and gives each connection a thread.
 use crate::connection::Accepted;
-use crate::flushing::Flusher;
 use crate::serve_fault::ServeFault;
-use crate::server::Server;
 use crate::silent::Silent;
 use psu_bench::Gate;
 use psu_callers::{Caller, Condition, power_on};
 use psu_disk::{Disk, FileDisk, OsFiles};
 use psu_session_io::Link;
+use psu_threads::{Flusher, Server};
 use std::alloc::Global;
 use std::fs::File;
 use std::io::{Eprint, Print};
@@ -88,7 +87,7 @@ impl<D: Disk + Drop + Send + 'static, G: Gate + Drop + Send + Sync + 'static> Ac
                 server: &server,
                 caller,
                 errors,
-                told: Condition::Works,
+                reported: Condition::Works,
             };
             flusher.flush(&rt)
         })?;

@@ -1,24 +1,18 @@
 // A connection, from its first byte to its end.
-use crate::executing::{Executing, SyncReader, Worker};
-use crate::opening::{Opening, close, fatal, first_message, open, space};
-use crate::responding::{AsyncReader, Notifier, Responding};
-use crate::server::Server;
-use crate::shared_device::SharedDevice;
+use crate::opening::{Opening, close, fatal, first_message, open};
 use crate::silent::Silent;
 use psu_bench::Gate;
 use psu_callers::Caller;
 use psu_disk::Disk;
 use psu_exec::Session as Number;
 use psu_hislip::{FatalCode, First};
-use psu_session_io::{Connection, Link, ServedSession, run};
+use psu_session_io::{Connection, Link, ServedSession};
+use psu_threads::{Server, SessionThread};
 use std::rt::Clock;
 use std::sync::{Arc, Mutex, Wait};
 use std::thread::{JoinHandle, Threads};
 use std::time::Instant;
 use std::{io, thread};
-
-/// How much is read at once in a session.
-const SPACE: usize = 65_536;
 
 /// A connection that was accepted.
 #[derive(Drop)]
@@ -28,21 +22,6 @@ pub struct Accepted<D: Disk, G: Gate> {
     pub number: u64,
     pub link: Arc<Link>,
     pub caller: Caller<D, G>,
-}
-
-// Returns the device of a session for a thread of it.
-fn device<'s, 'c, 'r, R: Wait, D: Disk, G: Gate>(
-    rt: &'r R,
-    server: &'s Server,
-    session: Number,
-    caller: &'c mut Caller<D, G>,
-) -> SharedDevice<'s, 'c, 'r, R, D, G> {
-    SharedDevice {
-        rt,
-        server,
-        session,
-        caller,
-    }
 }
 
 // Starts the worker of a session, in a thread of its own.
@@ -62,18 +41,12 @@ where
     let first = served.first().ok()?;
     let mut caller = caller.split().ok()?;
     thread::spawn(&rt, move || {
-        let server: &Server = &server;
-        let connection = Connection::new(first, Vec::new(server.alloc));
-        let device = device(&rt, server, served.number, &mut caller);
-        let mut worker = Worker {
-            executing: Executing {
-                server,
-                served: &served,
-                connection,
-                device,
-            },
+        let worker = SessionThread {
+            server: &server,
+            served: &served,
+            caller: &mut caller,
         };
-        run(&rt, &mut worker)
+        worker.work(&rt, first)
     })
     .ok()
 }
@@ -96,18 +69,12 @@ where
     let link = Arc::try_clone(link).ok()?;
     let mut caller = caller.split().ok()?;
     thread::spawn(&rt, move || {
-        let server: &Server = &server;
-        let connection = Connection::new(link, Vec::new(server.alloc));
-        let device = device(&rt, server, served.number, &mut caller);
-        let mut notifier = Notifier {
-            responding: Responding {
-                server,
-                served: &served,
-                connection,
-                device,
-            },
+        let notifier = SessionThread {
+            server: &server,
+            served: &served,
+            caller: &mut caller,
         };
-        run(&rt, &mut notifier)
+        notifier.notify(&rt, link)
     })
     .ok()
 }
@@ -139,24 +106,13 @@ impl<D: Disk + Drop, G: Gate + Drop> Accepted<D, G> {
         opened: Instant,
         after: Vec<u8>,
     ) -> io::Result<()> {
-        let number = served.number;
-        let server: &Server = &self.server;
-        let space = space(server.alloc, SPACE)?;
         let connection = Connection::new(Arc::try_clone(&self.link)?, after);
-        let device = device(rt, server, number, &mut self.caller);
-        let mut reader = SyncReader {
-            space,
-            executing: Executing {
-                server,
-                served,
-                connection,
-                device,
-            },
-            opened,
-            limited: true,
+        let reader = SessionThread {
+            server: &self.server,
+            served,
+            caller: &mut self.caller,
         };
-        run(rt, &mut reader);
-        Ok(())
+        reader.read(rt, connection, opened)
     }
 
     // Returns the session of a number.
@@ -173,22 +129,13 @@ impl<D: Disk + Drop, G: Gate + Drop> Accepted<D, G> {
         opening: Opening,
     ) -> io::Result<()> {
         self.link.wait_at_most(None)?;
-        let number = served.number;
-        let server: &Server = &self.server;
-        let space = space(server.alloc, SPACE)?;
         let connection = Connection::new(Arc::try_clone(&self.link)?, opening.whole()?);
-        let device = device(rt, server, number, &mut self.caller);
-        let mut reader = AsyncReader {
-            space,
-            responding: Responding {
-                server,
-                served,
-                connection,
-                device,
-            },
+        let reader = SessionThread {
+            server: &self.server,
+            served,
+            caller: &mut self.caller,
         };
-        run(rt, &mut reader);
-        Ok(())
+        reader.listen(rt, connection)
     }
 }
 

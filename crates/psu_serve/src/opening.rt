@@ -1,5 +1,5 @@
 // A connection up to its first message, and sessions that open and close.
-ghost use Rattle.std.specs.Prelude.{◌≡◌, [], ◌∷◌, ◌++◌, IfOk, IfSome, IsNone, length};
+ghost use Rattle.std.specs.Prelude.{◌≡◌, [], ◌∷◌, ◌++◌, IfOk, IfSome, IsNone};
 ghost use Rattle.psu_hislip.specs.Channel.{Fed};
 ghost use Rattle.psu_hislip.specs.Faults.{fatal_code};
 ghost use Rattle.psu_hislip.specs.Frame.{header_of};
@@ -7,9 +7,6 @@ ghost use Rattle.psu_hislip.specs.Header.{header_bytes};
 ghost use Rattle.psu_hislip.specs.declared.message_type.MessageType.TheVariants.{FatalError};
 ghost use Rattle.psu_serve.specs.Opening.{IsFirst};
 
-use crate::executing::SILENCE;
-use crate::reporter::Reporter;
-use crate::server::Server;
 use psu_bench::Gate;
 use psu_callers::{Caller, Others};
 use psu_disk::Disk;
@@ -17,6 +14,7 @@ use psu_exec::Session as Number;
 use psu_hislip::{Channel, FatalCode, First, Header, MessageType};
 use psu_session::Session;
 use psu_session_io::{Link, ReadResult, ServedSession};
+use psu_threads::{Reporter, SILENCE, Server, space};
 use std::alloc::Global;
 use std::io::{self, ErrorKind};
 use std::rt::Clock;
@@ -103,15 +101,6 @@ impl FirstMessage {
     }
 }
 
-/// Returns an area of memory to read into.
-pub fn space(alloc: Global, size: usize) -> io::Result<Vec<u8>>
-    ensures { IfOk result (λ space. length space.items ≡ size) }
-{
-    let mut space = Vec::new(alloc);
-    space.resize(size, 0u8)?;
-    Ok(space)
-}
-
 /// Reads the first message of a connection; `None` where the connection ends or takes too long.
 pub fn first_message<R: Clock>(rt: &R, alloc: Global, link: &Link) -> io::Result<Option<Opening>> {
     let start = Instant::now(rt)?;
@@ -167,7 +156,8 @@ pub fn open<R: Wait, D: Disk + Drop, G: Gate + Drop>(
 ) -> io::Result<Option<(Header, Arc<ServedSession>)>> {
     let others = Reporter { rt, server };
     let mut registry = others.lock_registry();
-    let Ok(number) = caller.open_session(rt) else {
+    let mut visit = server.device.visit();
+    let Ok(number) = caller.open_session(rt, &mut visit) else {
         return Ok(None);
     };
     match opened(server.alloc, number, link, message) {
@@ -176,7 +166,9 @@ pub fn open<R: Wait, D: Disk + Drop, G: Gate + Drop>(
             Ok(Some((response, served)))
         }
         Err(error) => {
-            caller.close_session(rt, number).pass_on(&registry);
+            caller
+                .close_session(rt, &mut visit, number)
+                .pass_on(&registry);
             Err(error)
         }
     }
@@ -192,5 +184,7 @@ pub fn close<R: Wait, D: Disk + Drop, G: Gate + Drop>(
     let others = Reporter { rt, server };
     let mut registry = others.lock_registry();
     registry.registry.put(number, None);
-    caller.close_session(rt, number).pass_on(&registry);
+    caller
+        .close_session(rt, &mut server.device.visit(), number)
+        .pass_on(&registry);
 }

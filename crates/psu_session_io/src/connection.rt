@@ -1,5 +1,5 @@
 // A connection of a session: what is read from it and written on it.
-ghost use Rattle.std.specs.Prelude.{◌≡◌, ◌≢◌, ◌≤◌, ◌↔◌, ◌++◌, ℕ, IsTrue, [], length, take};
+ghost use Rattle.std.specs.Prelude.{◌≡◌, ◌≢◌, ◌≤◌, ◌↔◌, ◌++◌, ℕ, IfOk, IsTrue, [], length, take};
 ghost use Rattle.psu_session_io.specs.Reading.{IsFirstOf};
 ghost use Rattle.psu_session_io.specs.declared.link.ReadResult.TheVariants.{Bytes};
 
@@ -113,16 +113,23 @@ impl<S> Connection<S> {
         }
     }
 
-    /// Writes what was taken for it.
+    /// Writes bytes that were taken for it.
     pub fn write(
         &self,
         token: &mut Token<S>,
         outgoing: Outgoing<S>,
-    ) -> Result<Written<S>, Disconnected> {
+    ) -> Result<Written<S>, Disconnected>
+        ensures { IfOk result (λ written. written.after ≡ outgoing.after) }
+    {
         let _ = token;
-        let Outgoing { bytes, duty, side } = outgoing;
+        let Outgoing {
+            bytes,
+            after,
+            duty,
+            side,
+        } = outgoing;
         match self.link.write(bytes.as_slice()) {
-            Ok(()) => Ok(Written { duty, side }),
+            Ok(()) => Ok(Written { after, duty, side }),
             Err(_) => Err(Disconnected { duty }),
         }
     }

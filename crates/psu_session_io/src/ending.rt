@@ -6,7 +6,7 @@ ghost use Rattle.psu_session.specs.Step.{IsReceived};
 ghost use Rattle.psu_session_io.specs.Sharing.{Discards, IsDrained, OnMore};
 
 use crate::linear::{BytesRead, Closing};
-use crate::{ConnectionSide, SharedSession};
+use crate::{ConnectionSide, SharedSession, StepDevice};
 use psu_hislip::Side;
 use psu_messages::Need;
 use psu_session::{Device, Ended, Proceeded};
@@ -25,7 +25,7 @@ pub enum Drained {
 
 impl SharedSession {
     /// Receives bytes that were read from a connection of a session that is over, unless it holds too much.
-    pub fn receive_last<S: ConnectionSide, D: Device>(
+    pub fn receive_last<S: ConnectionSide, D: StepDevice>(
         &mut self,
         now: u64,
         bytes: BytesRead<'_, S>,
@@ -43,6 +43,7 @@ impl SharedSession {
         } = bytes;
         if !self.session.is_full(S::SIDE) {
             let _received = self.session.receive(now, S::SIDE, bytes, device);
+            device.end_step();
         }
         self.over(duty)
     }
@@ -76,10 +77,12 @@ impl SharedSession {
     }
 
     /// Continues the execution of what a session that is over was sent before. Its responses are discarded.
-    pub fn drain<D: Device>(&mut self, device: &mut D) -> Drained
+    pub fn drain<D: StepDevice>(&mut self, device: &mut D) -> Drained
         ensures { OnMore result (IsDrained D.does self.old.session.state device.old self.new.session.state device.new) }
     {
-        match self.execute_last(device) {
+        let executed = self.execute_last(device);
+        device.end_step();
+        match executed {
             Ok(Some(units)) => Drained::More(units),
             Ok(None) | Err(Ended) => Drained::AllDone,
         }

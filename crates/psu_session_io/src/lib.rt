@@ -18,13 +18,16 @@ mod notice;
 mod served;
 mod shared;
 mod side;
+mod step_device;
+mod taking;
 mod thread;
+mod writes;
 
 pub use connection::{Connection, Incoming};
 pub use ending::Drained;
 pub use linear::{
     Arrived, BytesRead, Closed, Closing, Disconnected, Next, Outgoing, Pending, Received,
-    Remainder, Taken, Written,
+    Remainder, Written,
 };
 pub use link::{Link, ReadResult};
 pub use lock::SessionLock;
@@ -33,4 +36,5 @@ pub use notice::Notice;
 pub use served::{NotAwaited, ServedSession};
 pub use shared::SharedSession;
 pub use side::{Asynchronous, ConnectionSide, Synchronous};
+pub use step_device::StepDevice;
 pub use thread::{Body, Token, run};

@@ -1,5 +1,5 @@
 // What must not be forgotten. None of these types but the last is `Drop`.
-use crate::{Notice, Synchronous};
+use crate::Notice;
 use std::marker::PhantomData;
 
 /// A part of each value that must not be forgotten. It can't be dropped, and only this crate makes and ends it.
@@ -52,30 +52,12 @@ pub struct Pending<S> {
     pub(crate) side: PhantomData<S>,
 }
 
-/// What a thread has to do after it has continued a session.
-pub enum Taken<S> {
-    /// Write these bytes.
-    Bytes(Outgoing<S>),
-    /// There is nothing to be written, or another thread writes. The other threads are to be notified.
-    Nothing(Remainder<S>),
-}
-
-/// Bytes that were taken from a session's output. The connection must write them.
-pub struct Outgoing<S> {
-    pub(crate) bytes: Vec<u8>,
-    pub(crate) duty: Duty,
-    pub(crate) side: PhantomData<S>,
-}
-
-/// Bytes that are written. The session must be notified.
-pub struct Written<S> {
-    pub(crate) duty: Duty,
-    pub(crate) side: PhantomData<S>,
-}
-
-/// What a thread leaves to the other threads of its session. The mailbox must notify them.
+/// What is to be done once a thread has continued a session: bytes that were taken are to be written, and the other
+/// threads notified. The mailbox must notify them, and returns what the thread does then.
 pub struct Remainder<S> {
-    /// Whether there is more for this thread to execute.
+    /// The bytes that were taken, if there are any.
+    pub(crate) bytes: Option<Vec<u8>>,
+    /// Whether this thread continues the session, after it has written.
     pub(crate) more: bool,
     /// Whether the next unit waits for room for its changes.
     pub(crate) late: bool,
@@ -91,12 +73,40 @@ pub struct Remainder<S> {
     pub(crate) side: PhantomData<S>,
 }
 
-/// What a thread that executes does after the others are notified.
-pub enum Next {
+/// What a thread does once the others are notified.
+pub enum Next<S> {
+    /// It writes these bytes.
+    Write(Outgoing<S>),
     /// It continues the session.
-    Continue(Pending<Synchronous>),
+    Continue(Pending<S>),
     /// It waits, until this time in milliseconds if there is one, since a release is due then.
     Wait(Option<u64>),
+}
+
+/// What a thread does once it has written.
+#[derive(Clone, Copy, Debug, PartialEq, Eq)]
+pub(crate) struct AfterWrite {
+    /// Whether it continues the session, even if no other thread waits for that.
+    pub more: bool,
+    /// Whether it then tries a unit again that waits.
+    pub again: bool,
+    /// When the first release that waits is due, in milliseconds.
+    pub due: Option<u64>,
+}
+
+/// Bytes that were taken from a session's output. The connection must write them.
+pub struct Outgoing<S> {
+    pub(crate) bytes: Vec<u8>,
+    pub(crate) after: AfterWrite,
+    pub(crate) duty: Duty,
+    pub(crate) side: PhantomData<S>,
+}
+
+/// Bytes that are written. The session's lock must be notified.
+pub struct Written<S> {
+    pub(crate) after: AfterWrite,
+    pub(crate) duty: Duty,
+    pub(crate) side: PhantomData<S>,
 }
 
 /// A notice that arrived. The session must be notified.

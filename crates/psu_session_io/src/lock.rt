@@ -1,31 +1,73 @@
 // The lock of a session.
-use crate::linear::{Closing, Disconnected, Duty};
-use crate::{SharedSession, Token};
+ghost use Rattle.psu_session_io.specs.Leaving.{IsAfter, IsAfterWrite};
+
+use crate::linear::{AfterWrite, Closing, Disconnected, Duty, Next, Pending, Written};
+use crate::writes::Writes;
+use crate::{ConnectionSide, SharedSession, Token};
 use psu_session::Session;
-use std::sync::{Mutex, MutexGuard, Wait};
+use std::alloc::{AllocError, Global};
+use std::sync::{Arc, Mutex, MutexGuard, Wait};
 
 /// The lock of a session. Where another lock is taken too, this is the first.
 #[derive(Drop)]
 pub struct SessionLock {
     session: Mutex<SharedSession>,
+    writes: Arc<Writes>,
 }
 
 impl SessionLock {
     /// Returns the lock of a session that no thread serves yet.
-    pub fn new(session: Session) -> SessionLock {
-        SessionLock {
-            session: Mutex::new(SharedSession::new(session)),
-        }
+    pub fn new(alloc: Global, session: Session) -> Result<SessionLock, AllocError> {
+        let writes = Arc::new(alloc, Writes::new())?;
+        let shared = SharedSession::new(session, Arc::try_clone(&writes)?);
+        Ok(SessionLock {
+            session: Mutex::new(shared),
+            writes,
+        })
     }
 
-    /// Waits until no other thread holds the session, and holds it.
+    /// Waits until no other thread holds the session, and holds it. It knows then which writes are over.
     pub fn lock<'t, R: Wait, S>(
         &'t self,
         rt: &R,
         token: &'t mut Token<S>,
     ) -> MutexGuard<'t, SharedSession> {
         let _ = token;
-        self.session.lock(rt)
+        let mut session = self.session.lock(rt);
+        session.note_writes();
+        session
+    }
+
+    /// Notes the result of a write. Bytes that are written are reported to the session without its lock, and the thread
+    /// continues the session only where it has to, or another thread waits for the end of the write. A connection that
+    /// has ended ends the session.
+    pub fn note_write<R: Wait, S: ConnectionSide>(
+        &self,
+        rt: &R,
+        token: &mut Token<S>,
+        write: Result<Written<S>, Disconnected>,
+    ) -> Result<Next<S>, Closing>
+        ensures { IsAfter write result }
+    {
+        let _ = token;
+        match write {
+            Ok(written) => Ok(self.end_write(written)),
+            Err(disconnected) => Err(self.session.lock(rt).disconnect(disconnected)),
+        }
+    }
+
+    // Ends a write. Returns what its thread does then.
+    fn end_write<S: ConnectionSide>(&self, written: Written<S>) -> Next<S>
+        ensures { IsAfterWrite written.after result }
+    {
+        let Written { after, duty, side } = written;
+        let AfterWrite { more, again, due } = after;
+        let awaited = self.writes.end(S::SIDE);
+        if more || awaited {
+            return Next::Continue(Pending { again, duty, side });
+        }
+        duty.end();
+        Next::Wait(due)
     }
 
     // Ends the session.

@@ -1,6 +1,10 @@
 // The notices to the threads of a session.
+ghost use Rattle.psu_session_io.specs.Leaving.{IsNext};
+
 use crate::line::Line;
-use crate::linear::{Arrived, Closed, Closing, Duty, Next, Pending, Remainder};
+use crate::linear::{
+    AfterWrite, Arrived, Closed, Closing, Duty, Next, Outgoing, Pending, Remainder,
+};
 use crate::{Asynchronous, ConnectionSide, Notice, Synchronous, Token};
 use psu_hislip::Side;
 use psu_locks::Grant;
@@ -83,10 +87,33 @@ impl Mailbox {
         }
     }
 
-    /// Notifies the other threads of what a thread that executes leaves to them. A unit that waits for room is tried
-    /// once more after that is known to the flusher, since there may have been room in the meantime.
-    pub fn notify_others<R: Wait>(&self, rt: &R, remainder: Remainder<Synchronous>) -> Next {
+    // Notifies the threads of the other side: the notifier of output, or the worker of that or of a transmission.
+    fn notify_other_side<R: Wait>(&self, rt: &R, side: Side) {
+        match side {
+            Side::Sync => self.notifier.post(rt, Notice::Output),
+            Side::Async => self.worker.post(rt, Notice::Continue),
+        }
+    }
+
+    // Whether a unit that waits for room is tried once more, since there may have been room in the meantime: where it was
+    // not known yet that it waits. From now on it is.
+    fn tries_again(&self, side: Side, late: bool) -> bool {
+        match side {
+            Side::Sync => late && !self.late.swap(true, Ordering::SeqCst),
+            Side::Async => false,
+        }
+    }
+
+    /// Notifies the other threads of what a thread leaves to them. Returns what the thread does then.
+    pub fn notify_others<R: Wait, S: ConnectionSide>(
+        &self,
+        rt: &R,
+        remainder: Remainder<S>,
+    ) -> Next<S>
+        ensures { IsNext remainder result }
+    {
         let Remainder {
+            bytes,
             more,
             late,
             other,
@@ -98,33 +125,24 @@ impl Mailbox {
         } = remainder;
         self.notify_readers(rt, sync_room, async_room);
         if other {
-            self.notifier.post(rt, Notice::Output);
+            self.notify_other_side(rt, S::SIDE);
         }
-        let again = late && !self.late.swap(true, Ordering::SeqCst);
-        if more || again {
+        let again = self.tries_again(S::SIDE, late);
+        let more = more || again;
+        if let Some(bytes) = bytes {
+            let after = AfterWrite { more, again, due };
+            return Next::Write(Outgoing {
+                bytes,
+                after,
+                duty,
+                side,
+            });
+        }
+        if more {
             return Next::Continue(Pending { again, duty, side });
         }
         duty.end();
         Next::Wait(due)
-    }
-
-    /// Notifies the other threads of what a thread of the asynchronous connection leaves to them.
-    pub fn notify_worker<R: Wait>(&self, rt: &R, remainder: Remainder<Asynchronous>) {
-        let Remainder {
-            more: _,
-            late: _,
-            other,
-            sync_room,
-            async_room,
-            due: _,
-            duty,
-            side: _,
-        } = remainder;
-        self.notify_readers(rt, sync_room, async_room);
-        if other {
-            self.worker.post(rt, Notice::Continue);
-        }
-        duty.end();
     }
 
     // Returns a notice that must be passed to the session.

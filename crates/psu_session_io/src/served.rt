@@ -45,7 +45,7 @@ impl ServedSession {
     ) -> Result<ServedSession, AllocError> {
         Ok(ServedSession {
             number,
-            session: SessionLock::new(session),
+            session: SessionLock::new(alloc, session)?,
             mailbox: Mailbox::new(alloc)?,
             first,
             second: Mutex::new(Second::Awaited),

@@ -1,22 +1,20 @@
 // The value of a session that threads share.
-ghost use Rattle.std.specs.Prelude.{◌≡◌, ◌≢◌, ◌⊎◌, ◌↔◌, true, false, None, [], ◌∷◌, IsTrue, IfOk, OnOk, OnErr};
+ghost use Rattle.std.specs.Prelude.{◌≡◌, ◌⊎◌, ◌↔◌, true, false, None, IsTrue, IfOk, OnOk, OnErr};
 ghost use Rattle.psu_hislip.specs.declared.side.Side.TheVariants.{Sync, Async};
-ghost use Rattle.psu_session.specs.Events.{Wrote};
-ghost use Rattle.psu_session.specs.State.{HasWork};
-ghost use Rattle.psu_session.specs.Step.{IsWritten};
-ghost use Rattle.psu_session_io.specs.Sharing.{Executes, Leaves, MayContinue, MayRequestService, Notifies, Receives, Takes, IsForOthers, IsUnwritten, HasRoom, HasSent, HasSentAll, waits_after};
+ghost use Rattle.psu_session_io.specs.Sharing.{Executes, HasMore, MayContinue, MayRequestService, Notifies, Receives, Responds, waits_after, waits_for};
+ghost use Rattle.psu_session_io.specs.Leaving.{EndsSent};
 
 use crate::linear::{
-    Arrived, BytesRead, Closing, Disconnected, Duty, Outgoing, Pending, Received, Remainder, Taken,
-    Written,
+    Arrived, BytesRead, Closing, Disconnected, Duty, Pending, Received, Remainder,
 };
 use crate::notice::Notice;
-use crate::{Asynchronous, ConnectionSide, Synchronous};
+use crate::writes::Writes;
+use crate::{Asynchronous, ConnectionSide, StepDevice, Synchronous};
 use psu_hislip::Side;
 use psu_locks::Grant;
 use psu_messages::Need;
 use psu_session::{Device, Ended, Proceeded, Session};
-use std::marker::PhantomData;
+use std::sync::Arc;
 
 /// A session as its threads share it: what they bring and take are linear values.
 #[derive(Drop)]
@@ -25,15 +23,27 @@ pub struct SharedSession {
     // A connection has ended, or memory was refused: nothing is received or sent any more.
     lost: bool,
     // What the next unit waits for. It is tried again once that may have come.
-    waits: Option<Need>,
+    pub(crate) waits: Option<Need>,
     // Whether the readers wait for room.
-    sync_reader_waits: bool,
-    async_reader_waits: bool,
+    pub(crate) sync_reader_waits: bool,
+    pub(crate) async_reader_waits: bool,
+    // Which writes are over.
+    pub(crate) writes: Arc<Writes>,
+}
+
+// Returns what the next unit waits for; none where others are only let in.
+fn need_of(proceeded: Proceeded) -> Option<Need>
+    ensures { result ≡ waits_for proceeded }
+{
+    match proceeded {
+        Proceeded::Waits(Need::Turn) | Proceeded::Idle | Proceeded::Completed => None,
+        Proceeded::Waits(need) => Some(need),
+    }
 }
 
 impl SharedSession {
     /// Returns a session that no thread serves yet.
-    pub(crate) fn new(session: Session) -> SharedSession
+    pub(crate) fn new(session: Session, writes: Arc<Writes>) -> SharedSession
         ensures session { result.session ≡ session }
         ensures lost { result.lost ≡ false }
         ensures waits { result.waits ≡ None }
@@ -44,6 +54,7 @@ impl SharedSession {
             waits: None,
             sync_reader_waits: false,
             async_reader_waits: false,
+            writes,
         }
     }
 
@@ -68,7 +79,7 @@ impl SharedSession {
     }
 
     /// Receives bytes that were read from a connection, unless the session holds too much.
-    pub fn receive<'a, S: ConnectionSide, D: Device>(
+    pub fn receive<'a, S: ConnectionSide, D: StepDevice>(
         &mut self,
         now: u64,
         bytes: BytesRead<'a, S>,
@@ -86,7 +97,12 @@ impl SharedSession {
             return Ok(Received::Full(bytes));
         }
         let BytesRead { bytes, duty, side } = bytes;
-        match self.session.receive(now, S::SIDE, bytes, device) {
+        let done = self.session.receive(now, S::SIDE, bytes, device);
+        // A thread of the synchronous side executes in the same step.
+        if S::SIDE == Side::Async || done.is_err() {
+            device.end_step();
+        }
+        match done {
             Ok(()) => Ok(Received::All(Pending {
                 again: false,
                 duty,
@@ -108,7 +124,7 @@ impl SharedSession {
     }
 
     /// Notifies the session of what others have caused, at a time in milliseconds.
-    pub fn notify<S, D: Device>(
+    pub fn notify<S, D: StepDevice>(
         &mut self,
         now: u64,
         arrived: Arrived<S>,
@@ -134,6 +150,7 @@ impl SharedSession {
             Notice::Time => self.session.tick(now),
             Notice::Output | Notice::Room | Notice::End => Ok(()),
         };
+        device.end_step();
         match done {
             Ok(()) => Ok(Pending {
                 again: false,
@@ -144,135 +161,43 @@ impl SharedSession {
         }
     }
 
-    // Continues the execution, unless a unit waits and is not to be tried again. Returns whether there is more to
-    // execute at once.
-    fn proceed<D: Device>(&mut self, again: bool, device: &mut D) -> Result<bool, Ended>
-        ensures continues { IfOk result (λ more. MayContinue D.does again more self.old.waits self.new.waits self.old.session.state device.old self.new.session.state device.new) }
+    // Continues the execution, unless a unit waits and is not to be tried again.
+    fn proceed<D: Device>(&mut self, again: bool, device: &mut D) -> Result<Proceeded, Ended>
+        ensures continues { IfOk result (λ proceeded. MayContinue D.does again proceeded self.old.waits self.new.waits self.old.session.state device.old self.new.session.state device.new) }
+        ensures was { OnOk result (self.old.lost ≡ false) }
         ensures sync { self.new.sync_reader_waits ≡ self.old.sync_reader_waits }
         ensures asynchronous { self.new.async_reader_waits ≡ self.old.async_reader_waits }
     {
+        if self.lost {
+            return Err(Ended);
+        }
         if self.waits.is_some() && !again {
-            return Ok(false);
+            return Ok(Proceeded::Idle);
         }
         self.waits = None;
-        match self.session.proceed(device)? {
-            Proceeded::Idle => Ok(false),
-            Proceeded::Completed => Ok(true),
-            Proceeded::Waits(Need::Turn) => Ok(!self.session.writes(Side::Sync)),
-            Proceeded::Waits(need) => {
-                self.waits = Some(need);
-                Ok(false)
-            }
-        }
+        let proceeded = self.session.proceed(device)?;
+        self.waits = need_of(proceeded);
+        Ok(proceeded)
     }
 
-    // Whether there are bytes to be sent on a connection, and no thread writes there.
-    fn is_unwritten(&self, side: Side) -> bool
-        ensures { IsTrue result ↔ IsUnwritten side self.now.session.state }
+    // Whether this thread executes more at once. Where others are let in, it leaves that to the thread that writes.
+    fn has_more(&self, proceeded: Proceeded) -> bool
+        ensures { IsTrue result ↔ HasMore proceeded self.now.session.state }
     {
-        self.session.has_output(side) && !self.session.writes(side)
-    }
-
-    // Whether something is to be executed, and need not wait.
-    fn is_executable(&self) -> bool
-        ensures { IsTrue result ↔ ((self.now.waits ≡ None) × HasWork self.now.session.state) }
-    {
-        match self.waits {
-            None => self.session.has_work(),
-            Some(_) => false,
-        }
-    }
-
-    // Whether a release waits.
-    fn has_releases(&self) -> bool
-        ensures { IsTrue result ↔ (self.now.session.state.releases ≢ []) }
-    {
-        self.session.next_due().is_some()
-    }
-
-    // Whether there is something for the threads of the other connection.
-    fn is_for_others(&self, side: Side) -> bool
-        ensures { IsTrue result ↔ IsForOthers side self.now.waits self.now.session.state }
-    {
-        match side {
-            Side::Sync => self.is_unwritten(Side::Async),
-            Side::Async => {
-                self.is_unwritten(Side::Sync) || self.is_executable() || self.has_releases()
-            }
-        }
-    }
-
-    // Whether the reader of a connection, which may wait for room, waits and has room.
-    fn has_room(&self, waits: bool, side: Side) -> bool
-        ensures { IsTrue result ↔ HasRoom waits side self.now.session.state }
-    {
-        if !waits || self.session.is_full(side) {
-            return false;
-        }
-        true
-    }
-
-    // Returns what is left to the other threads.
-    fn remainder<S: ConnectionSide>(&mut self, more: bool, duty: Duty) -> Remainder<S>
-        ensures leaves { Leaves S.SIDE more self.old.waits self.old.sync_reader_waits self.old.async_reader_waits result self.old.session.state }
-        ensures session { self.new.session ≡ self.old.session }
-        ensures waits { self.new.waits ≡ self.old.waits }
-    {
-        let sync_room = self.has_room(self.sync_reader_waits, Side::Sync);
-        let async_room = self.has_room(self.async_reader_waits, Side::Async);
-        self.sync_reader_waits = self.sync_reader_waits && !sync_room;
-        self.async_reader_waits = self.async_reader_waits && !async_room;
-        Remainder {
-            more,
-            late: self.waits == Some(Need::Room),
-            other: self.is_for_others(S::SIDE),
-            sync_room,
-            async_room,
-            due: self.session.next_due(),
-            duty,
-            side: PhantomData,
-        }
-    }
-
-    // Whether all output of a connection is written.
-    fn has_sent(&self, side: Side) -> bool
-        ensures { IsTrue result ↔ HasSent side self.now.session.state }
-    {
-        !self.session.has_output(side) && !self.session.writes(side)
-    }
-
-    // Whether the session has failed, and all its output is written.
-    fn has_sent_all(&self) -> bool
-        ensures { IsTrue result ↔ HasSentAll self.now.session.state }
-    {
-        self.session.has_failed() && self.has_sent(Side::Sync) && self.has_sent(Side::Async)
-    }
-
-    // Takes what is to be written on a connection, or returns what is left to the other threads.
-    fn take<S: ConnectionSide>(&mut self, more: bool, duty: Duty) -> Result<Taken<S>, Closing>
-        ensures takes { IfOk result (λ taken. Takes S.SIDE more self.old.waits self.old.sync_reader_waits self.old.async_reader_waits taken self.old.session.state self.new.session.state) }
-        ensures waits { self.new.waits ≡ self.old.waits }
-        ensures ended { OnErr result (self.new.lost ≡ true) }
-        ensures cause { OnErr result ((self.old.session.over ≡ true) ⊎ HasSentAll self.old.session.state) }
-    {
-        match self.session.take_output(S::SIDE) {
-            Ok(Some(bytes)) => Ok(Taken::Bytes(Outgoing {
-                bytes,
-                duty,
-                side: PhantomData,
-            })),
-            Ok(None) if !self.has_sent_all() => Ok(Taken::Nothing(self.remainder(more, duty))),
-            Ok(None) | Err(Ended) => Err(self.over(duty)),
+        match proceeded {
+            Proceeded::Completed => self.session.has_work(),
+            Proceeded::Waits(Need::Turn) => !self.session.writes(Side::Sync),
+            Proceeded::Idle | Proceeded::Waits(_) => false,
         }
     }
 
     /// Continues the execution, and takes what is to be written on the synchronous connection.
-    pub fn execute<D: Device>(
+    pub fn execute<D: StepDevice>(
         &mut self,
         pending: Pending<Synchronous>,
         device: &mut D,
-    ) -> Result<Taken<Synchronous>, Closing>
-        ensures executed { IfOk result (λ taken. Executes D.does pending.again self.old.waits self.old.sync_reader_waits self.old.async_reader_waits taken self.old.session.state device.old self.new.session.state device.new) }
+    ) -> Result<Remainder<Synchronous>, Closing>
+        ensures executed { IfOk result (λ remainder. Executes D.does pending.again self.old.waits self.old.sync_reader_waits self.old.async_reader_waits remainder self.old.session.state device.old self.new.session.state device.new) }
         ensures was { OnOk result (self.old.lost ≡ false) }
         ensures ended { OnErr result (self.new.lost ≡ true) }
     {
@@ -281,13 +206,14 @@ impl SharedSession {
             duty,
             side: _,
         } = pending;
-        if self.lost {
-            return Err(self.over(duty));
-        }
-        match self.proceed(again, device) {
-            Ok(more) => {
-                let taken = self.take(more, duty)?;
-                Ok(taken)
+        let proceeded = self.proceed(again, device);
+        device.end_step();
+        match proceeded {
+            Ok(proceeded) => {
+                self.leave_to_writers();
+                let more = self.has_more(proceeded);
+                let remainder = self.take(more, duty)?;
+                Ok(remainder)
             }
             Err(Ended) => Err(self.over(duty)),
         }
@@ -297,11 +223,11 @@ impl SharedSession {
     pub fn respond(
         &mut self,
         pending: Pending<Asynchronous>,
-    ) -> Result<Taken<Asynchronous>, Closing>
-        ensures responded { IfOk result (λ taken. Takes Async false self.old.waits self.old.sync_reader_waits self.old.async_reader_waits taken self.old.session.state self.new.session.state) }
+    ) -> Result<Remainder<Asynchronous>, Closing>
+        ensures responded { IfOk result (λ remainder. Responds self.old.waits self.old.sync_reader_waits self.old.async_reader_waits remainder self.old.session.state self.new.session.state) }
         ensures was { OnOk result (self.old.lost ≡ false) }
         ensures ended { OnErr result (self.new.lost ≡ true) }
-        ensures cause { OnErr result ((self.old.lost ≡ true) ⊎ (self.old.session.over ≡ true) ⊎ HasSentAll self.old.session.state) }
+        ensures cause { OnErr result ((self.old.lost ≡ true) ⊎ (self.old.session.over ≡ true) ⊎ EndsSent self.old.session.state) }
     {
         let Pending {
             again: _,
@@ -311,34 +237,8 @@ impl SharedSession {
         if self.lost {
             return Err(self.over(duty));
         }
+        self.leave_to_writers();
         self.take(false, duty)
-    }
-
-    // Notes that the bytes that were taken for a connection are written.
-    fn written<S: ConnectionSide>(&mut self, written: Written<S>) -> Pending<S>
-        ensures { self.old.session.over ≡ false → IsWritten S.SIDE self.old.session.state (Wrote S.SIDE ∷ []) self.new.session.state }
-    {
-        let Written { duty, side } = written;
-        self.session.written(S::SIDE);
-        Pending {
-            again: false,
-            duty,
-            side,
-        }
-    }
-
-    /// Notes the result of a write: the bytes that were taken are written, or the connection has ended.
-    pub fn note_write<S: ConnectionSide>(
-        &mut self,
-        write: Result<Written<S>, Disconnected>,
-    ) -> Result<Pending<S>, Closing>
-        ensures written { OnOk result (self.old.session.over ≡ false → IsWritten S.SIDE self.old.session.state (Wrote S.SIDE ∷ []) self.new.session.state) }
-        ensures ended { OnErr result (self.new.lost ≡ true) }
-    {
-        match write {
-            Ok(written) => Ok(self.written(written)),
-            Err(disconnected) => Err(self.disconnect(disconnected)),
-        }
     }
 
     /// Notes that a connection has ended: the session is over.

@@ -1,0 +1,105 @@
+-- The output of a session that threads share: what is to be written, by whom, and what is left to other threads.
+use Rattle.std.specs.Prelude.{◌≡◌, ◌≢◌, ◌⊎◌, ◌↔◌, IsTrue, IfSome, IsNone, is_some, ℕ, Bool, true, false, Option, Some, None, Result, Ok, Err, List, [], ◌∷◌, ⊤}
+use Rattle.psu_hislip.specs.declared.side.Side.{Side}
+use Rattle.psu_hislip.specs.declared.side.Side.TheVariants.{Sync, Async}
+use Rattle.psu_messages.specs.declared.need.Need.{Need}
+use Rattle.psu_messages.specs.declared.need.Need.TheVariants.{Flush, Lock, Room, Turn}
+use Rattle.psu_session.specs.Events.{Took, Wrote}
+use Rattle.psu_session.specs.Holding.{IsFull}
+use Rattle.psu_session.specs.Releasing.{due_at}
+use Rattle.psu_session.specs.State.{State, HasWork, output, writes}
+use Rattle.psu_session.specs.Step.{IsTaken, IsWritten}
+use Rattle.psu_session_io.specs.declared.linear.AfterWrite.{AfterWrite}
+use Rattle.psu_session_io.specs.declared.linear.Closing.{Closing}
+use Rattle.psu_session_io.specs.declared.linear.Disconnected.{Disconnected}
+use Rattle.psu_session_io.specs.declared.linear.Next.{Next}
+use Rattle.psu_session_io.specs.declared.linear.Next.TheVariants.{Write, Continue, Wait}
+use Rattle.psu_session_io.specs.declared.linear.Remainder.{Remainder}
+use Rattle.psu_session_io.specs.declared.linear.Written.{Written}
+
+-- ---- writes that are over
+
+-- The write on a connection, if there is one, may be noted as over.
+abbrev pub MayBeNoted : Side → State → State → Type 0
+MayBeNoted side s t = (t ≡ s) ⊎ ((writes side s ≡ true) × IsWritten side s (Wrote side ∷ []) t)
+
+-- so may be the writes on both
+abbrev pub AreNoted : State → State → Type 0
+AreNoted s t = (mid : State) × MayBeNoted Sync s mid × MayBeNoted Async mid t
+
+-- ---- output
+
+-- there are bytes to be sent on a connection, and no thread writes there
+abbrev pub IsUnwritten : Side → State → Type 0
+IsUnwritten side s = (output side s ≢ []) × (writes side s ≡ false)
+
+-- all output of a connection is written
+abbrev pub HasSent : Side → State → Type 0
+HasSent side s = (output side s ≡ []) × (writes side s ≡ false)
+
+-- The session has failed, and all its output is written: its connections end.
+abbrev pub HasSentAll : State → Type 0
+HasSentAll s = (s.core.failed ≡ true) × HasSent Sync s × HasSent Async s
+
+-- it is so once the writes that are over are noted
+abbrev pub EndsSent : State → Type 0
+EndsSent s = (known : State) × AreNoted s known × HasSentAll known
+
+-- A thread that writes on a connection is to continue the session after that: for output there, to execute, or since the
+-- session ends once all is sent.
+abbrev pub IsAwaited : Side → Option Need → State → Type 0
+IsAwaited side waits s = (s.core.failed ≡ true) ⊎ (output side s ≢ []) ⊎ ((side ≡ Sync) × (waits ≡ None) × HasWork s)
+
+-- What a thread that writes on a connection leaves to the threads of the other one: output; and to the worker what is to
+-- be executed, unless a unit waits, and releases, which it does in time.
+abbrev pub IsForOthers : Side → Option Need → State → Type 0
+IsForOthers Sync waits s = IsUnwritten Async s
+IsForOthers Async waits s = IsUnwritten Sync s ⊎ ((waits ≡ None) × HasWork s) ⊎ (s.releases ≢ [])
+
+abbrev pub waits_for_room : Option Need → Bool
+waits_for_room None = false
+waits_for_room (Some Flush) = false
+waits_for_room (Some Lock) = false
+waits_for_room (Some Room) = true
+waits_for_room (Some Turn) = false
+
+-- a reader waits for room, and there is room
+abbrev pub HasRoom : Bool → Side → State → Type 0
+HasRoom waits side s = IsTrue waits × (IsFull side s → ⊥)
+
+-- The thread itself continues the session where there is more to execute, or once it has written what a session sends
+-- last. The other threads are notified of just this.
+pub record Leaves {S : Type 0} (side : Side) (more : Bool) (waits : Option Need) (sync_waits async_waits : Bool) (remainder : Remainder S) (s : State) : Type 0 where
+  pub more_left : IsTrue remainder.more ↔ (IsTrue more ⊎ ((is_some remainder.bytes ≡ true) × (s.core.failed ≡ true)))
+  pub late : remainder.late ≡ waits_for_room waits
+  pub other : IsTrue remainder.other ↔ IsForOthers side waits s
+  pub sync_room : IsTrue remainder.sync_room ↔ HasRoom sync_waits Sync s
+  pub async_room : IsTrue remainder.async_room ↔ HasRoom async_waits Async s
+  pub due : remainder.due ≡ due_at s.releases
+
+-- The bytes of the output are taken, where there are any and no thread writes, and the rest is left to others.
+pub record Takes {S : Type 0} (side : Side) (more : Bool) (waits : Option Need) (sync_waits async_waits : Bool) (remainder : Remainder S) (s t : State) : Type 0 where
+  pub some : IfSome remainder.bytes (λ bytes. IsTaken side bytes.items s (Took side bytes.items ∷ []) t)
+  pub none : IsNone remainder.bytes → (t ≡ s) × ((writes side s ≡ true) ⊎ (output side s ≡ []))
+  pub leaves : Leaves side more waits sync_waits async_waits remainder t
+
+-- ---- what a thread does then
+
+-- It writes the bytes that were taken, and continues the session after that, or at once, where it has to.
+abbrev pub IsNext : {S : Type 0} → Remainder S → Next S → Type 0
+IsNext remainder (Write outgoing) = (remainder.bytes ≡ Some outgoing.bytes) × (IsTrue remainder.more → IsTrue outgoing.after.more) × (outgoing.after.due ≡ remainder.due)
+IsNext remainder (Continue pending) = remainder.bytes ≡ None
+IsNext remainder (Wait due) = (remainder.bytes ≡ None) × (remainder.more ≡ false) × (due ≡ remainder.due)
+
+-- After a write it continues the session where it has to, or another thread waits for that.
+abbrev pub IsAfterWrite : {S : Type 0} → AfterWrite → Next S → Type 0
+IsAfterWrite after (Write outgoing) = ⊥
+IsAfterWrite after (Continue pending) = pending.again ≡ after.again
+IsAfterWrite after (Wait due) = (after.more ≡ false) × (due ≡ after.due)
+
+-- a connection that has ended ends the session
+abbrev pub IsAfter : {S : Type 0} → Result (Written S) Disconnected → Result (Next S) Closing → Type 0
+IsAfter (Ok written) (Ok next) = IsAfterWrite written.after next
+IsAfter (Ok written) (Err closing) = ⊥
+IsAfter (Err disconnected) (Ok next) = ⊥
+IsAfter (Err disconnected) (Err closing) = ⊤

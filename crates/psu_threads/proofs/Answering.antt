@@ -1,0 +1,92 @@
+-- The responses of a transmission, from the entries of its effects.
+use Rattle.std.proofs.Common.{◌≡◌, ◌⊎◌, ℕ, true, List, [], ◌∷◌, ◌++◌, flat_map, refl, sym, ap, ◌∙◌, subst, inl, inr, append-nil}
+use Rattle.std.specs.List.{AllByRecursion}
+use Rattle.psu_hislip.specs.Answer.{IsAnswerCutAnywhere}
+use Rattle.psu_hislip.specs.declared.origin.Origin.{Origin}
+use Rattle.psu_answers.specs.Response.{are_some, response}
+use Rattle.psu_exec.specs.Calls.{Entry}
+use Rattle.psu_messages.specs.Answers.{answer_in, answers}
+use Rattle.psu_messages.specs.Effects as messages
+use Rattle.psu_messages.specs.Effects.{Effect}
+use Rattle.psu_session.specs.Answered.{AreMessagesAnswered, IsMessageAnswered}
+use Rattle.psu_session.specs.Answered as session
+use Rattle.psu_session.specs.Events.{Event, Did, call_of}
+use Rattle.psu_session.specs.Exchange.{Done, Order, effects, frames}
+use Rattle.psu_session.proofs.Mapped.{none_mapped}
+use Rattle.psu_threads.specs.Called.{AreAllEntries, MayNotify}
+use Rattle.psu_threads.specs.Recorded.{AreEffects, AreSent, IsSent, Recorded, responses, responses_in}
+use Rattle.psu_threads.specs.Recorded.AreSent.{NoMessage, OneMore}
+use Rattle.psu_threads.proofs.Recording.{HasEntries}
+
+-- ---- replies
+
+notified : (entry : Entry) (response : List (List ℕ)) (entries : List Entry) → responses_in entry ≡ response → MayNotify entry entries → flat_map responses_in entries ≡ response
+notified entry response entries is (inl one) = ap (λ (z : List Entry). flat_map responses_in z) one ∙ append-nil (responses_in entry) ∙ is
+notified entry response entries is (inr (requesting, work, two)) = ap (λ (z : List Entry). flat_map responses_in z) two ∙ append-nil (responses_in entry) ∙ is
+
+-- the response in an effect is that in the reply of its entry
+reply_is : (session : ℕ) (effect : Effect) (entries : List Entry) → AreAllEntries session (call_of effect ∷ []) entries → (later : List Effect) → answers (effect ∷ later) ≡ flat_map responses_in entries ++ answers later
+reply_is session (messages.Executed request reply) entries (first, rest, are, is, none) later =
+    ap (λ (z : List (List ℕ)). z ++ answers later)
+    (sym (ap (λ (z : List Entry). flat_map responses_in z) (are ∙ ap (λ (z : List Entry). first ++ z) none ∙ append-nil first) ∙ notified (Entry.Executed session request reply) (answer_in reply) first refl is))
+reply_is session (messages.Settled reply) entries (first, rest, are, is, none) later =
+    ap (λ (z : List (List ℕ)). z ++ answers later)
+    (sym (ap (λ (z : List Entry). flat_map responses_in z) (are ∙ ap (λ (z : List Entry). first ++ z) none ∙ append-nil first) ∙ notified (Entry.Settled session reply) (answer_in reply) first refl is))
+reply_is session (messages.Sent text last) entries (first, rest, are, is, none) later =
+    ap (λ (z : List (List ℕ)). z ++ answers later)
+    (sym (ap (λ (z : List Entry). flat_map responses_in z) (are ∙ ap (λ (z : List Entry). first ++ z) none ∙ append-nil first) ∙ notified (Entry.Sent session) [] first refl is))
+
+module _ (number : ℕ → ℕ) where
+  -- the responses of effects are those in the replies of their entries
+  pub responses_are : (origin : Origin) (events : List Recorded) (done : List Done) → AreEffects origin events done → AllByRecursion (HasEntries number) events → answers (effects done) ≡ responses events
+  responses_are origin [] [] e each = refl
+  responses_are origin [] (d ∷ done) e each = absurd (cc (e))
+  responses_are origin (r ∷ events) [] e each = absurd (cc (e))
+  responses_are origin (r ∷ events) (d ∷ done) e (one, each) =
+      let here : r.made.event ≡ Did origin d.effect d.frames = cc (e) in
+      let rest : AreEffects origin events done = cc (e) in
+      reply_is (number r.made.thread) d.effect r.entries (subst (λ (z : Event). HasEntries number (record { made = record { thread = r.made.thread; event = z }; entries = r.entries })) here one) (effects done)
+      ∙ ap (λ (z : List (List ℕ)). flat_map responses_in r.entries ++ z) (responses_are origin events done rest each)
+
+  -- ---- messages
+
+  record Parted (origin : Origin) (left right : List Done) (events : List Recorded) : Type 0 where
+    first : List Recorded
+    last : List Recorded
+    is : events ≡ first ++ last
+    of_left : AreEffects origin first left
+    of_right : AreEffects origin last right
+    each_first : AllByRecursion (HasEntries number) first
+    each_last : AllByRecursion (HasEntries number) last
+
+  -- one effect more before them
+  parted_more : (origin : Origin) (r : Recorded) (d : Done) (left right : List Done) (events : List Recorded) → r.made.event ≡ Did origin d.effect d.frames → HasEntries number r → Parted origin left right events → Parted origin (d ∷ left) right (r ∷ events)
+  parted_more origin r d left right events here one p = record {
+    first = r ∷ p.first;
+    last = p.last;
+    is = ap (λ (z : List Recorded). r ∷ z) p.is;
+    of_left = cc (here, p.of_left);
+    of_right = p.of_right;
+    each_first = (one, p.each_first);
+    each_last = p.each_last;
+  }
+
+  parted : (origin : Origin) (left right : List Done) (events : List Recorded) → AreEffects origin events (left ++ right) → AllByRecursion (HasEntries number) events → Parted origin left right events
+  parted origin [] right events e each = record { first = []; last = events; is = refl; of_left = refl; of_right = e; each_first = tt; each_last = each }
+  parted origin (d ∷ left) right [] e each = absurd (cc (e))
+  parted origin (d ∷ left) right (r ∷ events) e (one, each) =
+      let here : r.made.event ≡ Did origin d.effect d.frames = cc (e) in
+      let rest : AreEffects origin events (left ++ right) = cc (e) in
+      parted_more origin r d left right events here one (parted origin left right events rest each)
+
+  sent : (greatest id : ℕ) (origin : Origin) (message : List Recorded) (done : List Done) → AreEffects origin message done → AllByRecursion (HasEntries number) message → IsMessageAnswered greatest id done → IsSent greatest id message (frames done)
+  sent greatest id origin message done are each is =
+      subst (λ (z : List (List ℕ)). ((are_some z ≡ true) × IsAnswerCutAnywhere greatest id (response z) (frames done)) ⊎ ((z ≡ []) × (frames done ≡ []))) (responses_are origin message done are each) is
+
+  pub all_sent : (greatest : ℕ) (order : Order) {units : ℕ} {done : List Done} (events : List Recorded) → AreMessagesAnswered greatest order.origin.id order.source units done → AreEffects order.origin events done
+      → AllByRecursion (HasEntries number) events → AreSent greatest order units events
+  all_sent greatest order events session.AreMessagesAnswered.NoMessage e each = subst (λ (z : List Recorded). AreSent greatest order 0 z) (sym (none_mapped (λ (r : Recorded). r.made.event) events e)) NoMessage
+  all_sent greatest order events (session.AreMessagesAnswered.OneMore {done = before} earlier to message is answer) e each =
+      let p = parted order.origin before message events e each in
+      subst (λ (z : List Recorded). AreSent greatest order to z) (sym p.is)
+      (OneMore (all_sent greatest order p.first earlier p.of_left p.each_first) to p.last message p.of_right is (sent greatest order.origin.id order.origin p.last message p.of_right p.each_last answer))

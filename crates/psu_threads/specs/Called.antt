@@ -1,0 +1,52 @@
+-- The calls of a session, as calls of the device under the seat of the thread that makes them.
+use Rattle.std.specs.Prelude.{◌≡◌, ◌⊎◌, ℕ, Bool, List, [], ◌∷◌, ◌++◌}
+use Rattle.psu_turn.specs.Seats.{Sight, Calls}
+use Rattle.psu_exec.specs.Device.{State}
+use Rattle.psu_exec.specs.Calls.{Entry}
+use Rattle.psu_bench.specs.Calls.{AdmitsOn}
+use Rattle.psu_session.specs.Events.{Call, Executed, Settled, Sent, Delivered, Queried, Fetched, Locked, Released, Informed, Cleared}
+use Rattle.psu_threads.specs.Added.{Adds}
+use Rattle.psu_callers.specs.Seen.{Makes, freed_to}
+
+-- The seat has made this call of a session. Its reply is what the one legal history says.
+abbrev pub IsCalled : Type 0 → ℕ → Sight State Entry → Call → Sight State Entry → Type 0
+IsCalled honest session old (Executed request reply) new = Makes honest old (Entry.Executed session request reply) new
+IsCalled honest session old (Settled reply) new = Makes honest old (Entry.Settled session reply) new
+IsCalled honest session old Sent new = Makes honest old (Entry.Sent session) new
+IsCalled honest session old Delivered new = Calls (AdmitsOn honest) old (Entry.Delivered session) new
+IsCalled honest session old (Queried byte) new = Calls (AdmitsOn honest) old (Entry.Queried session byte) new
+IsCalled honest session old (Fetched request) new = Calls (AdmitsOn honest) old (Entry.Fetched session request) new
+IsCalled honest session old (Locked kind timeout reply) new = (now : ℕ) × Calls (AdmitsOn honest) old (Entry.Locked session kind now timeout reply) new
+IsCalled honest session old (Released reply) new = (granted : List ℕ) × Calls (AdmitsOn honest) old (Entry.Released session (freed_to granted reply)) new
+IsCalled honest session old (Informed info) new = Calls (AdmitsOn honest) old (Entry.Informed info) new
+IsCalled honest session old Cleared new = Calls (AdmitsOn honest) old (Entry.Cleared session) new
+
+-- ---- calls, one after another
+
+-- the entry of a call, and perhaps that of the notifications that were taken after it
+abbrev pub MayNotify : Entry → List Entry → Type 0
+MayNotify entry entries = (entries ≡ entry ∷ []) ⊎ ((requesting : List ℕ) × (work : Bool) × (entries ≡ entry ∷ Entry.Notified requesting work ∷ []))
+
+-- the entries of the history for a call of a session, with its reply
+abbrev pub AreEntries : ℕ → Call → List Entry → Type 0
+AreEntries session (Executed request reply) entries = MayNotify (Entry.Executed session request reply) entries
+AreEntries session (Settled reply) entries = MayNotify (Entry.Settled session reply) entries
+AreEntries session Sent entries = MayNotify (Entry.Sent session) entries
+AreEntries session Delivered entries = entries ≡ Entry.Delivered session ∷ []
+AreEntries session (Queried byte) entries = entries ≡ Entry.Queried session byte ∷ []
+AreEntries session (Fetched request) entries = entries ≡ Entry.Fetched session request ∷ []
+AreEntries session (Locked kind timeout reply) entries = (now : ℕ) × (entries ≡ Entry.Locked session kind now timeout reply ∷ [])
+AreEntries session (Released reply) entries = (granted : List ℕ) × (entries ≡ Entry.Released session (freed_to granted reply) ∷ [])
+AreEntries session (Informed info) entries = entries ≡ Entry.Informed info ∷ []
+AreEntries session Cleared entries = entries ≡ Entry.Cleared session ∷ []
+
+-- the entries for calls of a session, in their order, and no others
+abbrev pub AreAllEntries : ℕ → List Call → List Entry → Type 0
+AreAllEntries session [] entries = entries ≡ []
+AreAllEntries session (call ∷ calls) entries = (first : List Entry) × (later : List Entry) × (entries ≡ first ++ later) × AreEntries session call first × AreAllEntries session calls later
+
+-- The seat has made exactly these calls of a session, in their order, with the replies that the one legal history says.
+pub record AreCalls (honest : Type 0) (session : ℕ) (old : Sight State Entry) (calls : List Call) (new : Sight State Entry) : Type 0 where
+  pub entries : List Entry
+  pub are : AreAllEntries session calls entries
+  pub adds : Adds (AdmitsOn honest) old entries new

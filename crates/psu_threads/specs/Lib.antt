@@ -1,0 +1,4 @@
+pub mod Added
+pub mod Called
+pub mod Made
+pub mod Recorded

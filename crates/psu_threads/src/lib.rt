@@ -1,0 +1,25 @@
+//! The threads of a server: those of a session, which read, lock it, pass in what they read, execute, take what is to be
+//! sent, and write; and the flusher. They share the device, and report to each other what their calls of it cause. What
+//! is received, executed and sent is decided by the crates below.
+#![tactic(auto)]
+
+mod bell;
+mod executing;
+mod flushing;
+mod laws;
+mod registry;
+mod reporter;
+mod responding;
+mod server;
+mod session_thread;
+mod shared_device;
+
+pub use bell::Bell;
+pub use executing::SILENCE;
+pub use flushing::Flusher;
+pub use laws::{calls_are_in_the_history, each_response_is_of_the_history};
+pub use registry::Registry;
+pub use reporter::{HeldRegistry, Reporter};
+pub use server::Server;
+pub use session_thread::{SessionThread, space};
+pub use shared_device::SharedDevice;

@@ -1,0 +1,142 @@
+// The shared device as the device of a session.
+ghost use Rattle.std.specs.Prelude.{◌≡◌};
+ghost use Rattle.psu_threads.specs.Called.{IsCalled};
+
+use crate::reporter::Reporter;
+use crate::server::Server;
+use psu_bench::Gate;
+use psu_callers::{Caller, Others, Visit};
+use psu_disk::Disk;
+use psu_exec::{Freed, Grant, Info, Kind, LockRefusal, Outcome, Request, Session};
+use psu_session::Device;
+use psu_session_io::StepDevice;
+use std::alloc::Global;
+use std::rt::Clock;
+use std::sync::Wait;
+
+/// The shared device as the device of a session, in a thread that executes it. Each call of the session is a call of
+/// the device under the seat of the thread's caller, and what it causes is reported to the other threads.
+#[derive(Drop)]
+pub struct SharedDevice<'s, 'c, 'r, R: Wait, D: Disk, G: Gate> {
+    pub rt: &'r R,
+    pub server: &'s Server,
+    pub session: Session,
+    pub caller: &'c mut Caller<D, G>,
+    visit: Visit<'s>,
+}
+
+impl<'s, 'c, 'r, R: Wait, D: Disk, G: Gate> SharedDevice<'s, 'c, 'r, R, D, G> {
+    /// Returns the device of a session for a thread of it.
+    pub fn new(
+        rt: &'r R,
+        server: &'s Server,
+        session: Session,
+        caller: &'c mut Caller<D, G>,
+    ) -> SharedDevice<'s, 'c, 'r, R, D, G> {
+        SharedDevice {
+            rt,
+            server,
+            session,
+            caller,
+            visit: server.device.visit(),
+        }
+    }
+
+    // Returns what reports to the other threads. The lock of the device is released before, since the registry is locked
+    // first where both are.
+    fn others(&mut self) -> Reporter<'s, 'r, R>
+        ensures { self.new ≡ self.old }
+    {
+        self.visit.leave();
+        Reporter {
+            rt: self.rt,
+            server: self.server,
+        }
+    }
+}
+
+impl<'s, 'c, 'r, R: Wait + Clock, D: Disk + Drop, G: Gate + Drop> Device
+    for SharedDevice<'s, 'c, 'r, R, D, G> {
+    ghost does = { λ x call y. (y.caller.ghost_name ≡ x.caller.ghost_name) × (y.session ≡ x.session) × IsCalled D.honest x.session x.caller.now.seat call y.caller.now.seat };
+
+    fn execute(&mut self, request: &Request<'_>) -> Outcome<Global> {
+        let (outcome, caused) =
+            self.caller
+                .execute(self.rt, &mut self.visit, self.session, request);
+        if let Some(caused) = caused {
+            caused.report(&self.others());
+        }
+        outcome
+    }
+
+    fn settle(&mut self) -> Outcome<Global> {
+        let (outcome, caused) = self
+            .caller
+            .settle(self.rt, &mut self.visit, self.session);
+        caused.report(&self.others());
+        outcome
+    }
+
+    fn sent(&mut self) {
+        let caused = self.caller.sent(self.rt, &mut self.visit, self.session);
+        caused.report(&self.others());
+    }
+
+    fn deliver(&mut self) {
+        self.caller
+            .delivered(self.rt, &mut self.visit, self.session);
+    }
+
+    fn query(&mut self) -> u8 {
+        self.caller
+            .status(self.rt, &mut self.visit, self.session)
+    }
+
+    fn fetch(&mut self) -> Option<u8> {
+        self.caller
+            .requests(self.rt, &mut self.visit, self.session)
+    }
+
+    // The registry is locked meanwhile, as it is at a release: the results of other requests have been passed on then.
+    fn lock(&mut self, kind: Kind, timeout: u32) -> Result<Grant, LockRefusal> {
+        let others = self.others();
+        let registry = others.lock_registry();
+        let now = self.server.now(self.rt);
+        let (reply, caused) =
+            self.caller
+                .lock(self.rt, &mut self.visit, self.session, kind, now, timeout);
+        drop(registry);
+        caused.report(&self.others());
+        if let Ok(Grant::Granted) = reply {
+            self.others().wake(self.session);
+        }
+        reply
+    }
+
+    // The registry is locked until the granted locks are passed on: before another lock is requested or released.
+    fn release(&mut self) -> Result<Freed, LockRefusal> {
+        let others = self.others();
+        let registry = others.lock_registry();
+        let (freed, granted) = self
+            .caller
+            .release(self.rt, &mut self.visit, self.session)?;
+        granted.pass_on(&registry);
+        Ok(freed)
+    }
+
+    fn inform(&mut self) -> Info {
+        self.caller.info(self.rt, &mut self.visit)
+    }
+
+    fn clear(&mut self) {
+        self.caller.clear(self.rt, &mut self.visit, self.session);
+        self.others().wake(self.session);
+    }
+}
+
+impl<'s, 'c, 'r, R: Wait + Clock, D: Disk + Drop, G: Gate + Drop> StepDevice
+    for SharedDevice<'s, 'c, 'r, R, D, G> {
+    fn end_step(&mut self) {
+        self.visit.leave();
+    }
+}
