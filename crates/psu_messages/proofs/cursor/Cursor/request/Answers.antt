@@ -9,7 +9,7 @@ pub returns-clause-request : goal.returns-clause-request
 returns-clause-request c =
     let from : c.if-unit.self.path ≡ path_at c.args.self.now.path (part c.args.unit.now)
     = elim c.if-unit.branch [
-      | then-unit w ↦ first_path c.args.self.now.path c.if-unit.self.path (part c.args.unit.now) w.if-unit.true (ap (λ s. s.path) w.self-is ∙ w.root-self.ensures)
+      | then-unit w ↦ first_path c.args.self.now.path c.if-unit.self.path (part c.args.unit.now) w.if-unit.true (ap (λ s. s.path) w.self-is ∙ w.clear.ensures)
       | else-unit w ↦ next_path c.args.self.now.path c.if-unit.self.path (part c.args.unit.now) w.if-unit.false (ap (λ s. s.path) w.self-is)
     ] in
     read_at c.args.inside c.args.self.now.path c.if-unit.self.path c.request.new.path (part c.args.unit.now) c.request.result from c.request.ensures.reading c.request.ensures.moves c.request.ensures.call c.request.ensures.inside
