@@ -1,5 +1,5 @@
 -- What a thread does to a session while it holds it.
-use Rattle.std.specs.Prelude.{◌≡◌, ◌↔◌, IsTrue, ℕ, Bool, true, false, Option, Some, None, List, [], ⊤}
+use Rattle.std.specs.Prelude.{◌≡◌, ◌⊎◌, ◌↔◌, IsTrue, ℕ, Bool, true, false, Option, Some, None, List, [], ⊤}
 use Rattle.psu_hislip.specs.declared.side.Side.{Side}
 use Rattle.psu_hislip.specs.declared.side.Side.TheVariants.{Sync, Async}
 use Rattle.psu_locks.specs.declared.grant.Grant.TheVariants as grant
@@ -10,6 +10,7 @@ use Rattle.psu_session.specs.Proceeding.{Proceeds}
 use Rattle.psu_session.specs.Serving.{Appends, PerformsStep}
 use Rattle.psu_session.specs.State.{State, HasWork, writes}
 use Rattle.psu_session.specs.Holding.{IsFull}
+use Rattle.psu_session.specs.Stopping.{StopsNext}
 use Rattle.psu_session.specs.Step.{IsLockGranted, IsReceived, IsServiceRequested, IsTicked, Steps}
 use Rattle.psu_session.specs.declared.proceeded.Proceeded.{Proceeded}
 use Rattle.psu_session.specs.declared.proceeded.Proceeded.TheVariants.{Idle, Completed, Waits}
@@ -70,6 +71,11 @@ pub record Executes {X S : Type 0} (does : X → Call → X → Type 0) (again :
   pub noted : AreNoted after known
   pub has_more : IsTrue more ↔ HasMore proceeded known
   pub takes : Takes Sync more later sync_waits async_waits remainder known t
+
+-- The session is over, and was not executed; or the execution was not completed; or it was continued, and all is sent
+-- after a FatalError.
+abbrev pub EndsExecuting : {X : Type 0} → (X → Call → X → Type 0) → State → X → X → Type 0
+EndsExecuting does s x y = (y ≡ x) ⊎ StopsNext does s x y ⊎ ((proceeded : Proceeded) × (t : State) × PerformsStep does (Proceeds proceeded) s x t y)
 
 -- What is to be written on the asynchronous connection is taken. Meanwhile writes of other threads may be over.
 abbrev pub Responds : {S : Type 0} → Option Need → Bool → Bool → Remainder S → State → State → Type 0

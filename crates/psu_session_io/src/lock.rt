@@ -52,7 +52,10 @@ impl SessionLock {
         let _ = token;
         match write {
             Ok(written) => Ok(self.end_write(written)),
-            Err(disconnected) => Err(self.session.lock(rt).disconnect(disconnected)),
+            Err(disconnected) => {
+                let mut session = self.session.lock(rt);
+                Err(session.disconnect(disconnected))
+            }
         }
     }
 

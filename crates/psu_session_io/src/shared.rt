@@ -1,7 +1,9 @@
 // The value of a session that threads share.
 ghost use Rattle.std.specs.Prelude.{◌≡◌, ◌⊎◌, ◌↔◌, true, false, None, IsTrue, IfOk, OnOk, OnErr};
 ghost use Rattle.psu_hislip.specs.declared.side.Side.TheVariants.{Sync, Async};
-ghost use Rattle.psu_session_io.specs.Sharing.{Executes, HasMore, MayContinue, MayRequestService, Notifies, Receives, Responds, waits_after, waits_for};
+ghost use Rattle.psu_session.specs.Step.{IsReceived};
+ghost use Rattle.psu_session.specs.Stopping.{StopsIn, StopsNext};
+ghost use Rattle.psu_session_io.specs.Sharing.{EndsExecuting, Executes, HasMore, MayContinue, MayRequestService, Notifies, Receives, Responds, waits_after, waits_for};
 ghost use Rattle.psu_session_io.specs.Leaving.{EndsSent};
 
 use crate::linear::{
@@ -87,6 +89,7 @@ impl SharedSession {
     ) -> Result<Received<'a, S>, Closing>
         ensures received { IfOk result (λ received. Receives D.does now S.SIDE bytes.entry.bytes.now received self.old.session.state device.old self.new.session.state device.new) }
         ensures ended { OnErr result (self.new.lost ≡ true) }
+        ensures stopped { OnErr result ((device.new ≡ device.old) ⊎ StopsIn D.does (IsReceived now S.SIDE bytes.entry.bytes.now) self.old.session.state device.old device.new) }
     {
         if self.session.is_full(S::SIDE) {
             // No room comes any more where the session is over.
@@ -115,6 +118,7 @@ impl SharedSession {
     // Sends the session's service request, if the device has one and the asynchronous connection is there.
     fn request_service<D: Device>(&mut self, device: &mut D) -> Result<(), Ended>
         ensures requested { OnOk result (MayRequestService D.does self.old.session.state.core.joined self.old.session.state device.old self.new.session.state device.new) }
+        ensures uncalled { OnErr result (device.new ≡ device.old) }
         ensures waits { self.new.waits ≡ self.old.waits }
     {
         if !self.session.is_joined() {
@@ -134,6 +138,7 @@ impl SharedSession {
         ensures waits { OnOk result (self.new.waits ≡ waits_after arrived.notice self.old.waits) }
         ensures was { OnOk result (self.old.lost ≡ false) }
         ensures ended { OnErr result (self.new.lost ≡ true) }
+        ensures uncalled { OnErr result (device.new ≡ device.old) }
     {
         let Arrived { notice, duty, side } = arrived;
         if self.lost {
@@ -165,6 +170,7 @@ impl SharedSession {
     fn proceed<D: Device>(&mut self, again: bool, device: &mut D) -> Result<Proceeded, Ended>
         ensures continues { IfOk result (λ proceeded. MayContinue D.does again proceeded self.old.waits self.new.waits self.old.session.state device.old self.new.session.state device.new) }
         ensures was { OnOk result (self.old.lost ≡ false) }
+        ensures stopped { OnErr result ((device.new ≡ device.old) ⊎ StopsNext D.does self.old.session.state device.old device.new) }
         ensures sync { self.new.sync_reader_waits ≡ self.old.sync_reader_waits }
         ensures asynchronous { self.new.async_reader_waits ≡ self.old.async_reader_waits }
     {
@@ -200,6 +206,7 @@ impl SharedSession {
         ensures executed { IfOk result (λ remainder. Executes D.does pending.again self.old.waits self.old.sync_reader_waits self.old.async_reader_waits remainder self.old.session.state device.old self.new.session.state device.new) }
         ensures was { OnOk result (self.old.lost ≡ false) }
         ensures ended { OnErr result (self.new.lost ≡ true) }
+        ensures stopped { OnErr result (EndsExecuting D.does self.old.session.state device.old device.new) }
     {
         let Pending {
             again,
