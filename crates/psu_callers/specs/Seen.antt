@@ -1,5 +1,5 @@
 -- What the seat of a thread has seen once the thread has called the device.
-use Rattle.std.specs.Prelude.{◌≡◌, ◌⊎◌, ℕ, Bool, Option, Some, None, Result, Ok, Err, List}
+use Rattle.std.specs.Prelude.{◌≡◌, ◌⊎◌, ℕ, Bool, Option, Some, None, Result, Ok, Err, List, []}
 use Rattle.std.specs.declared.alloc.Global.{Global}
 use Rattle.psu_disk.specs.declared.disk.Disk.{Ghosts}
 use Rattle.psu_turn.specs.Seats.{Sight, Calls}

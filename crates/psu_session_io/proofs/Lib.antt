@@ -1,2 +1,3 @@
 pub mod Discarding
+pub mod Stopped
 pub mod Reading

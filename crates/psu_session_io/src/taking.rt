@@ -1,5 +1,5 @@
 // The output of a session that threads share: what is to be written, by whom, and what is left to other threads.
-ghost use Rattle.std.specs.Prelude.{◌≡◌, ◌≢◌, ◌⊎◌, ◌×◌, ◌↔◌, true, None, [], IsTrue, IfOk, OnErr};
+ghost use Rattle.std.specs.Prelude.{◌≡◌, ◌≢◌, ◌⊎◌, ◌↔◌, true, None, [], IsTrue, IfOk, OnErr};
 ghost use Rattle.psu_session.specs.State.{HasWork, writes};
 ghost use Rattle.psu_session_io.specs.Leaving.{AreNoted, EndsSent, HasRoom, HasSent, HasSentAll, IsAwaited, IsForOthers, IsUnwritten, Leaves, MayBeNoted, Takes};
 
@@ -18,6 +18,7 @@ impl SharedSession {
         requires { writes side self.old.session.state ≡ true }
         ensures noted { MayBeNoted side self.old.session.state self.new.session.state }
         ensures others { self.new ≡ record self.old { session = self.new.session } }
+        ensures over { self.new.session.over ≡ self.old.session.over }
     {
         self.session.written(side);
     }
@@ -26,6 +27,7 @@ impl SharedSession {
     fn note_write(&mut self, side: Side)
         ensures noted { MayBeNoted side self.old.session.state self.new.session.state }
         ensures others { self.new ≡ record self.old { session = self.new.session } }
+        ensures over { self.new.session.over ≡ self.old.session.over }
     {
         if self.session.writes(side) && self.writes.is_over(side) {
             self.end_write(side);
@@ -36,6 +38,7 @@ impl SharedSession {
     pub(crate) fn note_writes(&mut self)
         ensures noted { AreNoted self.old.session.state self.new.session.state }
         ensures others { self.new ≡ record self.old { session = self.new.session } }
+        ensures over { self.new.session.over ≡ self.old.session.over }
     {
         self.note_write(Side::Sync);
         self.note_write(Side::Async);
@@ -56,6 +59,7 @@ impl SharedSession {
     fn leave_to_writer(&mut self, side: Side)
         ensures noted { MayBeNoted side self.old.session.state self.new.session.state }
         ensures others { self.new ≡ record self.old { session = self.new.session } }
+        ensures over { self.new.session.over ≡ self.old.session.over }
     {
         if self.session.writes(side) && self.is_awaited(side) && !self.writes.leave(side) {
             self.end_write(side);
@@ -66,6 +70,7 @@ impl SharedSession {
     pub(crate) fn leave_to_writers(&mut self)
         ensures noted { AreNoted self.old.session.state self.new.session.state }
         ensures others { self.new ≡ record self.old { session = self.new.session } }
+        ensures over { self.new.session.over ≡ self.old.session.over }
     {
         self.leave_to_writer(Side::Sync);
         self.leave_to_writer(Side::Async);
