@@ -60,9 +60,9 @@ impl<'s, 'c, 'r, R: Wait + Clock, D: Disk + Drop, G: Gate + Drop> Device
     ghost does = { λ x call y. (y.caller.ghost_name ≡ x.caller.ghost_name) × (y.session ≡ x.session) × IsCalled D.honest x.session x.caller.now.seat call y.caller.now.seat };
 
     fn execute(&mut self, request: &Request<'_>) -> Outcome<Global> {
-        let (outcome, caused) =
-            self.caller
-                .execute(self.rt, &mut self.visit, self.session, request);
+        let (outcome, caused) = self
+            .caller
+            .execute(self.rt, &mut self.visit, self.session, request);
         if let Some(caused) = caused {
             caused.report(&self.others());
         }
@@ -70,9 +70,7 @@ impl<'s, 'c, 'r, R: Wait + Clock, D: Disk + Drop, G: Gate + Drop> Device
     }
 
     fn settle(&mut self) -> Outcome<Global> {
-        let (outcome, caused) = self
-            .caller
-            .settle(self.rt, &mut self.visit, self.session);
+        let (outcome, caused) = self.caller.settle(self.rt, &mut self.visit, self.session);
         caused.report(&self.others());
         outcome
     }
@@ -88,13 +86,11 @@ impl<'s, 'c, 'r, R: Wait + Clock, D: Disk + Drop, G: Gate + Drop> Device
     }
 
     fn query(&mut self) -> u8 {
-        self.caller
-            .status(self.rt, &mut self.visit, self.session)
+        self.caller.status(self.rt, &mut self.visit, self.session)
     }
 
     fn fetch(&mut self) -> Option<u8> {
-        self.caller
-            .requests(self.rt, &mut self.visit, self.session)
+        self.caller.requests(self.rt, &mut self.visit, self.session)
     }
 
     // The registry is locked meanwhile, as it is at a release: the results of other requests have been passed on then.
@@ -102,9 +98,9 @@ impl<'s, 'c, 'r, R: Wait + Clock, D: Disk + Drop, G: Gate + Drop> Device
         let others = self.others();
         let registry = others.lock_registry();
         let now = self.server.now(self.rt);
-        let (reply, caused) =
-            self.caller
-                .lock(self.rt, &mut self.visit, self.session, kind, now, timeout);
+        let (reply, caused) = self
+            .caller
+            .lock(self.rt, &mut self.visit, self.session, kind, now, timeout);
         drop(registry);
         caused.report(&self.others());
         if let Ok(Grant::Granted) = reply {
@@ -117,9 +113,7 @@ impl<'s, 'c, 'r, R: Wait + Clock, D: Disk + Drop, G: Gate + Drop> Device
     fn release(&mut self) -> Result<Freed, LockRefusal> {
         let others = self.others();
         let registry = others.lock_registry();
-        let (freed, granted) = self
-            .caller
-            .release(self.rt, &mut self.visit, self.session)?;
+        let (freed, granted) = self.caller.release(self.rt, &mut self.visit, self.session)?;
         granted.pass_on(&registry);
         Ok(freed)
     }
