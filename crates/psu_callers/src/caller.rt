@@ -211,14 +211,13 @@ impl<D: Disk + Drop, G: Gate + Drop> Caller<D, G> {
         Caused::of(notifications)
     }
 
-    /// Records that what was sent to a session is delivered. The visit keeps the lock, as a unit mostly follows at once.
+    /// Records that what was sent to a session is delivered.
     #[tactic(auto, using(crate::proofs::Seats::is_of))]
     pub fn delivered<R: Wait>(&mut self, rt: &R, visit: &mut Visit<'_>, session: Session)
         ensures call { Calls (AdmitsOn D.honest) self.old.seat (Delivered session) self.new.seat }
     {
-        let guard = visit.enter(rt);
+        let _guard = visit.enter(rt);
         self.bench.delivered(rt, &mut self.seat, session);
-        visit.keep(guard);
     }
 
     /// Returns the response to a status query of a session.

@@ -29,8 +29,8 @@ impl DeviceLock {
 }
 
 /// A thread's visit of the device. Each of its calls takes the lock, unless the visit still holds it, and releases it,
-/// unless the next call mostly follows at once: a query is executed after the last response counts as read, and its
-/// response is sent, in one critical section. Contracts see nothing of a visit, since it changes no call.
+/// but for a query that is answered: its response is mostly sent at once, in the same critical section. Contracts see
+/// nothing of a visit, since it changes no call.
 #[derive(Drop)]
 pub struct Visit<'d> {
     lock: &'d DeviceLock,
