@@ -1,5 +1,6 @@
 pub mod Ending
 pub mod Rounds
+pub mod Seats
 pub mod Seen
 pub mod Tries
 pub mod Lives

@@ -1,4 +1,7 @@
 pub mod Calls
+pub mod Callers
+pub mod Condition
+pub mod PowerOn
 pub mod Rounds
 pub mod Seen
 pub mod Tries

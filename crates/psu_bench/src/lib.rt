@@ -1,21 +1,44 @@
-//! The device's state, shared by threads that call it in turns, and the one legal history of their calls.
+//! The device's state, shared by threads that call it in turns, and the one legal history of their calls; and the device
+//! as the callers of a server see it: its power-on, its lock, how a thread calls it, and what these calls cause for other
+//! threads, which can't be forgotten.
 #![tactic(auto)]
 
 mod bench;
 mod call;
+mod caller;
+mod caused;
+mod caused_by_job;
+mod condition;
+mod duty;
 mod flushing;
 mod gate;
 mod gated;
+mod granted;
 mod guarded;
 mod laws;
+mod others;
 mod point;
+mod power_on_fault;
+mod shared_gate;
+mod starting;
+mod visit;
 mod working;
 
 pub use bench::{Bench, Seat};
 pub use call::Call;
+pub use caller::Caller;
+pub use caused::Caused;
+pub use caused_by_job::CausedByJob;
+pub use condition::Condition;
 pub use flushing::flusher;
 pub use gate::{Gate, Open};
 pub use gated::Gated;
+pub use granted::Granted;
 pub use laws::{histories_are_lives, seen_histories_happen, threads_are_events};
+pub use others::{LockedRegistry, Others};
 pub use point::Point;
+pub use power_on_fault::PowerOnFault;
+pub use shared_gate::SharedGate;
+pub use starting::{Served, power_on};
+pub use visit::{DeviceLock, Visit};
 pub use working::session_worker;

@@ -2,8 +2,7 @@
 use crate::connection::Accepted;
 use crate::serve_fault::ServeFault;
 use crate::silent::Silent;
-use psu_bench::Gate;
-use psu_callers::{Caller, Condition, power_on};
+use psu_bench::{Caller, Condition, Gate, power_on};
 use psu_disk::{Disk, FileDisk, OsFiles};
 use psu_session_io::Link;
 use psu_threads::{Flusher, Server};

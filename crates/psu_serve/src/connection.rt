@@ -1,13 +1,12 @@
 // A connection, from its first byte to its end.
 use crate::opening::{Opening, close, fatal, first_message, open};
 use crate::silent::Silent;
-use psu_bench::Gate;
-use psu_callers::Caller;
+use psu_bench::{Caller, Gate};
 use psu_disk::Disk;
 use psu_exec::Session as Number;
 use psu_hislip::{FatalCode, First};
 use psu_session_io::{Connection, Link, ServedSession};
-use psu_threads::{Server, SessionThread};
+use psu_threads::{Role, Server, SessionThread};
 use std::rt::Clock;
 use std::sync::{Arc, Mutex, Wait};
 use std::thread::{JoinHandle, Threads};
@@ -22,61 +21,6 @@ pub struct Accepted<D: Disk, G: Gate> {
     pub number: u64,
     pub link: Arc<Link>,
     pub caller: Caller<D, G>,
-}
-
-// Starts the worker of a session, in a thread of its own.
-fn start_worker<R, D, G>(
-    rt: R,
-    server: &Arc<Server>,
-    served: &Arc<ServedSession>,
-    caller: &mut Caller<D, G>,
-) -> Option<JoinHandle<()>>
-where
-    R: Threads + Wait + Clock + Copy + Send + 'static,
-    D: Disk + Drop + Send + 'static,
-    G: Gate + Drop + Send + Sync + 'static,
-{
-    let server = Arc::try_clone(server).ok()?;
-    let served = Arc::try_clone(served).ok()?;
-    let first = served.first().ok()?;
-    let mut caller = caller.split().ok()?;
-    thread::spawn(&rt, move || {
-        let worker = SessionThread {
-            server: &server,
-            served: &served,
-            caller: &mut caller,
-        };
-        worker.work(&rt, first)
-    })
-    .ok()
-}
-
-// Starts the notifier of a session, in a thread of its own.
-fn start_notifier<R, D, G>(
-    rt: R,
-    server: &Arc<Server>,
-    served: &Arc<ServedSession>,
-    link: &Arc<Link>,
-    caller: &mut Caller<D, G>,
-) -> Option<JoinHandle<()>>
-where
-    R: Threads + Wait + Clock + Copy + Send + 'static,
-    D: Disk + Drop + Send + 'static,
-    G: Gate + Drop + Send + Sync + 'static,
-{
-    let server = Arc::try_clone(server).ok()?;
-    let served = Arc::try_clone(served).ok()?;
-    let link = Arc::try_clone(link).ok()?;
-    let mut caller = caller.split().ok()?;
-    thread::spawn(&rt, move || {
-        let notifier = SessionThread {
-            server: &server,
-            served: &served,
-            caller: &mut caller,
-        };
-        notifier.notify(&rt, link)
-    })
-    .ok()
 }
 
 impl<D: Disk + Drop, G: Gate + Drop> Accepted<D, G> {
@@ -140,32 +84,60 @@ impl<D: Disk + Drop, G: Gate + Drop> Accepted<D, G> {
 }
 
 impl<D: Disk + Drop + Send + 'static, G: Gate + Drop + Send + Sync + 'static> Accepted<D, G> {
-    // Serves the asynchronous connection of a session beside its notifier, until the session is over.
-    fn listen_and_notify<R>(&mut self, rt: R, served: &Arc<ServedSession>, opening: Opening)
+    // Starts a thread that serves a session beside its readers, and writes on this connection of it.
+    fn start_beside<R>(
+        &mut self,
+        rt: R,
+        served: &Arc<ServedSession>,
+        link: Arc<Link>,
+        role: Role,
+    ) -> io::Result<JoinHandle<()>>
     where
         R: Threads + Wait + Clock + Copy + Send + 'static,
     {
-        let Some(notifier) = start_notifier(rt, &self.server, served, &self.link, &mut self.caller)
-        else {
-            return;
-        };
-        // Where no memory is left for it, the session ends.
-        let _ = self.listen(&rt, served, opening);
+        let server = Arc::try_clone(&self.server)?;
+        let served = Arc::try_clone(served)?;
+        let mut caller = self.caller.split()?;
+        let started = thread::spawn(&rt, move || {
+            let thread = SessionThread {
+                server: &server,
+                served: &served,
+                caller: &mut caller,
+            };
+            thread.assist(&rt, link, role)
+        })?;
+        Ok(started)
+    }
+
+    // Serves the asynchronous connection of a session beside its notifier, until the session is over.
+    fn listen_and_notify<R>(
+        &mut self,
+        rt: R,
+        served: &Arc<ServedSession>,
+        opening: Opening,
+    ) -> io::Result<()>
+    where
+        R: Threads + Wait + Clock + Copy + Send + 'static,
+    {
+        let link = Arc::try_clone(&self.link)?;
+        let notifier = self.start_beside(rt, served, link, Role::Notify)?;
+        let listened = self.listen(&rt, served, opening);
         served.abandon(&rt);
         notifier.join(&rt);
+        listened
     }
 
     // Serves a session over its second connection, beside its worker, until the session is over.
-    fn attend<R>(&mut self, rt: R, served: &Arc<ServedSession>, opening: Opening)
+    fn attend<R>(&mut self, rt: R, served: &Arc<ServedSession>, opening: Opening) -> io::Result<()>
     where
         R: Threads + Wait + Clock + Copy + Send + 'static,
     {
-        let Some(worker) = start_worker(rt, &self.server, served, &mut self.caller) else {
-            return;
-        };
-        self.listen_and_notify(rt, served, opening);
+        let first = served.first()?;
+        let worker = self.start_beside(rt, served, first, Role::Work)?;
+        let listened = self.listen_and_notify(rt, served, opening);
         served.abandon(&rt);
         worker.join(&rt);
+        listened
     }
 
     // Joins this connection to a session that waits for its second connection.
@@ -177,10 +149,11 @@ impl<D: Disk + Drop + Send + 'static, G: Gate + Drop + Send + Sync + 'static> Ac
         if served.join(&rt, link).is_err() {
             return self.link.write(&fatal(FatalCode::InvalidInitialization));
         }
-        self.attend(rt, served, opening);
+        // Where memory or a thread for it is refused, the session ends.
+        let attended = self.attend(rt, served, opening);
         served.abandon(&rt);
         served.second_has_ended(&rt);
-        Ok(())
+        attended
     }
 
     // Serves what a connection's first message requests, up to its end.

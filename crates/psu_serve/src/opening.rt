@@ -7,8 +7,7 @@ ghost use Rattle.psu_hislip.specs.Header.{header_bytes};
 ghost use Rattle.psu_hislip.specs.declared.message_type.MessageType.TheVariants.{FatalError};
 ghost use Rattle.psu_serve.specs.Opening.{IsFirst};
 
-use psu_bench::Gate;
-use psu_callers::{Caller, Others};
+use psu_bench::{Caller, Gate, Others};
 use psu_disk::Disk;
 use psu_exec::Session as Number;
 use psu_hislip::{Channel, FatalCode, First, Header, MessageType};

@@ -1,5 +1,5 @@
 // Why a server does not start.
-use psu_callers::PowerOnFault;
+use psu_bench::PowerOnFault;
 use psu_disk::OpenFault;
 use psu_exec::StartCause;
 use thiserror::Error;

@@ -37,10 +37,6 @@ pub record IsNextRelease (s : State) (t : State) : Type 0 where
   pub first : s.waiting ≡ ReleaseLock ∷ later
   pub then : t ≡ with_work s later None
 
--- a release is next
-abbrev pub IsReleaseNext : State → Type 0
-IsReleaseNext s = (s.running ≡ None) × ((later : List Work) × (s.waiting ≡ ReleaseLock ∷ later))
-
 -- a transmission is over or was dropped
 pub record IsCompleted (s : State) (t : State) : Type 0 where
   pub order : Order

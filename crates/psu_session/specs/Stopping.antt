@@ -1,14 +1,14 @@
 -- Which calls of the device a step has made where it is not completed, so that the session is over: memory was refused,
 -- or more would be held than a session may hold. Source: this may happen between two actions of a message and between
--- two effects of a transmission, and a call of the device cannot be undone. Room for the reply to a single call is made
--- before it.
+-- two effects of a transmission, and a call of the device cannot be undone. There is room for the reply to a single call
+-- before it is made.
 use Rattle.std.specs.Prelude.{◌≡◌, List, ◌++◌, map}
 use Rattle.psu_hislip.specs.Core.{IsCurrent}
 use Rattle.psu_messages.specs.Effects.{Effect}
 use Rattle.psu_messages.specs.Executions.{Progress, Reaches}
 use Rattle.psu_session.specs.Events.{Call, Event, call_of, calls}
 use Rattle.psu_session.specs.Exchange.{Order}
-use Rattle.psu_session.specs.Proceeding.{IsNext, IsReleaseNext}
+use Rattle.psu_session.specs.Proceeding.{IsNext}
 use Rattle.psu_session.specs.Serving.{Runs}
 use Rattle.psu_session.specs.State.{Running, State}
 
@@ -31,8 +31,11 @@ pub record CallsAdvancing {X : Type 0} (does : X → Call → X → Type 0) (ord
   pub reaches : (before : List Effect) → Reaches order.source before progress → Reaches order.source (before ++ effects) new
   pub runs : Runs does x (map call_of effects) y
 
--- The execution of what is next was not completed: the device was called for effects of the next transmission, which
--- nothing has ended; or a release is next, and the device was not called.
-pub data StopsNext {X : Type 0} (does : X → Call → X → Type 0) (s : State) (x y : X) : Type 0 where
-  StopsOrder : (next : Running) (t : State) → IsNext s next t → IsCurrent t.core next.order.origin → CallsAdvancing does next.order next.progress x y → StopsNext does s x y
-  NotReleased : IsReleaseNext s → y ≡ x → StopsNext does s x y
+-- The execution of what is next was not completed: it is a transmission, which nothing has ended, and the device was
+-- called for effects of it.
+pub record StopsNext {X : Type 0} (does : X → Call → X → Type 0) (s : State) (x y : X) : Type 0 where
+  pub next : Running
+  pub left : State
+  pub is : IsNext s next left
+  pub current : IsCurrent left.core next.order.origin
+  pub called : CallsAdvancing does next.order next.progress x y

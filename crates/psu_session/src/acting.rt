@@ -8,7 +8,7 @@ ghost use Rattle.psu_session.specs.Locking.{kind_of};
 ghost use Rattle.psu_session.specs.Events.{Put, calls};
 ghost use Rattle.psu_session.specs.Step.{Does, IsInformed, IsLocked, IsQueried, delivers, puts, release_in, works_in};
 ghost use Rattle.psu_session.specs.Serving.{Appends, Runs};
-ghost use Rattle.psu_session.specs.Room.{HasRoom};
+ghost use Rattle.psu_session.specs.Room.{HasReplyRoom, HasRoom};
 ghost use Rattle.psu_session.specs.Shown.{order_of, state_of};
 ghost use Rattle.psu_session.specs.State.{Execute, added};
 
@@ -49,7 +49,7 @@ impl Parts {
 
     // Appends a message without payload to the output of the asynchronous connection.
     pub(crate) fn put_header(&mut self, header: Header)
-        requires { HasRoom self.old }
+        requires { HasReplyRoom self.old }
         ensures { state_of self.new ≡ added (state_of self.old) [] [] (puts header) }
     {
         self.async_output
@@ -86,7 +86,7 @@ impl Parts {
 
     // Answers a status query, after the last response counts as read if the client said so.
     fn answer_status<D: Device>(&mut self, device: &mut D, is_delivered: bool)
-        requires { HasRoom self.old }
+        requires { HasReplyRoom self.old }
         ensures { Appends D.does (IsQueried is_delivered) [] [] (state_of self.old) device.old (state_of self.new) device.new }
     {
         deliver(device, is_delivered);
@@ -96,7 +96,7 @@ impl Parts {
 
     // Requests a lock. A request that waits is answered once it has a result.
     fn ask_for_lock<D: Device>(&mut self, device: &mut D, timeout: u32, kind: Kind)
-        requires { HasRoom self.old }
+        requires { HasReplyRoom self.old }
         ensures { Appends D.does (IsLocked false timeout (Some kind)) [] [] (state_of self.old) device.old (state_of self.new) device.new }
     {
         let reply = device.lock(kind, timeout);
@@ -109,7 +109,7 @@ impl Parts {
     // Requests the lock of a string. A string that no lock has is refused, and so is a request while another one waits:
     // its result could else be taken for that of the first.
     fn answer_lock<D: Device>(&mut self, device: &mut D, timeout: u32, string: &[u8])
-        requires { HasRoom self.old }
+        requires { HasReplyRoom self.old }
         ensures { Appends D.does (IsLocked (state_of self.old).lock_waits timeout (kind_of string.now)) [] [] (state_of self.old) device.old (state_of self.new) device.new }
     {
         if self.lock_waits {
@@ -124,7 +124,7 @@ impl Parts {
 
     // Answers which locks are held.
     fn answer_info<D: Device>(&mut self, device: &mut D)
-        requires { HasRoom self.old }
+        requires { HasReplyRoom self.old }
         ensures { Appends D.does IsInformed [] [] (state_of self.old) device.old (state_of self.new) device.new }
     {
         let info = device.inform();

@@ -1,6 +1,6 @@
 // Notifications of what other sessions cause.
 ghost use Rattle.std.specs.Prelude.{◌≡◌, []};
-ghost use Rattle.psu_session.specs.Room.{HasRoom};
+ghost use Rattle.psu_session.specs.Room.{HasReplyRoom};
 ghost use Rattle.psu_session.specs.Step.{IsServiceRequested, IsLockGranted};
 ghost use Rattle.psu_session.specs.Serving.{Appends};
 ghost use Rattle.psu_session.specs.Shown.{state_of};
@@ -12,7 +12,7 @@ use psu_locks::Grant;
 impl Parts {
     /// Answers the lock request that waits, if there is one, with its result.
     pub fn lock_granted<D: Device>(&mut self, grant: Grant, device: &mut D)
-        requires { HasRoom self.old }
+        requires { HasReplyRoom self.old }
         ensures done { Appends D.does (IsLockGranted (state_of self.old).lock_waits grant) [] [] (state_of self.old) device.old (state_of self.new) device.new }
         ensures uncalled { device.new ≡ device.old }
     {
@@ -27,7 +27,7 @@ impl Parts {
 
     /// Sends the session's service request, if the device has one.
     pub fn service_requested<D: Device>(&mut self, device: &mut D)
-        requires { HasRoom self.old }
+        requires { HasReplyRoom self.old }
         ensures { Appends D.does IsServiceRequested [] [] (state_of self.old) device.old (state_of self.new) device.new }
     {
         if let Some(byte) = device.fetch() {

@@ -1,11 +1,10 @@
 // The execution of what is queued.
-ghost use Rattle.std.specs.Prelude.{◌≡◌, ◌↔◌, IsTrue, [], None, IfOk, IfSome, IsNone, OnOk, OnErr};
-ghost use Rattle.psu_session.specs.Proceeding.{Awaits, Frees, Proceeds, IsNext, IsNextWork, IsReleaseNext};
-ghost use Rattle.psu_session.specs.Room.{HasRoom};
+ghost use Rattle.std.specs.Prelude.{◌≡◌, ◌↔◌, IsTrue, [], None, IfOk, IfSome, IsNone, OnErr};
+ghost use Rattle.psu_session.specs.Proceeding.{Awaits, Frees, Proceeds, IsNext, IsNextWork};
+ghost use Rattle.psu_session.specs.Room.{HasReplyRoom};
 ghost use Rattle.psu_session.specs.Serving.{PerformsStep};
 ghost use Rattle.psu_session.specs.Shown.{one_running, state_of};
 ghost use Rattle.psu_session.specs.Stopping.{StopsNext};
-ghost use Rattle.psu_session.specs.declared.proceeded.Proceeded.TheVariants.{Completed};
 ghost use Rattle.psu_session.specs.State.{HasWork, State};
 
 use crate::execution::advance;
@@ -21,6 +20,7 @@ impl Parts {
     fn next(&mut self) -> Option<Next>
         ensures some { IfSome result (λ next. IsNextWork (state_of self.old) next (state_of self.new)) }
         ensures none { IsNone result → (state_of self.new ≡ state_of self.old) × ((state_of self.old).running ≡ None) × ((state_of self.old).waiting ≡ []) }
+        ensures room { HasReplyRoom self.old → HasReplyRoom self.new }
     {
         if !self.has_work() {
             return None;
@@ -43,32 +43,12 @@ impl Parts {
 
     // Releases a lock.
     fn release_lock<D: Device>(&mut self, device: &mut D)
-        requires { HasRoom self.old }
+        requires { HasReplyRoom self.old }
         ensures { Frees D.does (state_of self.old) device.old (state_of self.new) device.new }
     {
         self.owed.give_back(0);
         let freed = device.release();
         self.put_header(release_response(freed));
-    }
-
-    // Whether a release is next.
-    #[inline(always)]
-    fn is_release_next(&self) -> bool
-        ensures { IsTrue result ↔ IsReleaseNext (state_of self.now) }
-    {
-        self.running.is_none() && matches!(self.waiting.front(), Some(Work::Release))
-    }
-
-    // Does the release that is next. Where there is no room for its response, it is not begun.
-    fn release_next<D: Device>(&mut self, device: &mut D) -> Result<(), Ended>
-        requires { IsReleaseNext (state_of self.old) }
-        ensures done { OnOk result (PerformsStep D.does (Proceeds Completed) (state_of self.old) device.old (state_of self.new) device.new) }
-        ensures uncalled { OnErr result (device.new ≡ device.old) }
-    {
-        self.make_room()?;
-        let _ = self.waiting.pop_front();
-        self.release_lock(device);
-        Ok(())
     }
 
     // Continues a transmission that was taken.
@@ -112,19 +92,18 @@ impl Parts {
     /// Continues the transmission in execution, or takes the first item of the queue, until a unit has to wait or
     /// others are let in. A transmission that a device clear or a FatalError has ended is dropped.
     pub fn proceed<D: Device>(&mut self, device: &mut D) -> Result<Proceeded, Ended>
+        requires { HasReplyRoom self.old }
         ensures waits { IfOk result (λ proceeded. Awaits D.does proceeded device.new) }
         ensures done { IfOk result (λ proceeded. PerformsStep D.does (Proceeds proceeded) (state_of self.old) device.old (state_of self.new) device.new) }
         ensures stopped { OnErr result (StopsNext D.does (state_of self.old) device.old device.new) }
     {
-        if self.is_release_next() {
-            self.release_next(device)?;
-            return Ok(Proceeded::Completed);
-        }
         match self.next() {
             None => Ok(Proceeded::Idle),
             Some(Next::Order(running)) => self.execute(device, running),
-            // A release that is next is done above.
-            Some(Next::Release) => unreachable!(),
+            Some(Next::Release) => {
+                self.release_lock(device);
+                Ok(Proceeded::Completed)
+            }
         }
     }
 }

@@ -1,6 +1,6 @@
-// Room that is made before a step, so that the step itself cannot fail.
-ghost use Rattle.std.specs.Prelude.{◌≡◌, ◌↔◌, IsTrue, OnOk};
-ghost use Rattle.psu_session.specs.Room.{HasRoom};
+// Room that a session has before a step, so that the step itself cannot fail.
+ghost use Rattle.std.specs.Prelude.{◌≡◌, ◌↔◌, IsTrue, true, OnOk};
+ghost use Rattle.psu_session.specs.Room.{HasReplyRoom, HasRoom};
 ghost use Rattle.psu_session.specs.Shown.{state_of};
 
 use crate::{Ended, Parts};
@@ -8,14 +8,25 @@ use crate::{Ended, Parts};
 /// The size of a message without payload, in bytes.
 const FRAME: usize = 16;
 
+/// How much room for such messages is allocated at once, in bytes.
+const FRAMES: usize = 64;
+
 impl Parts {
+    // Whether there is room for a reply.
+    #[inline(always)]
+    fn has_reply_room(&self) -> bool
+        ensures { IsTrue result ↔ HasReplyRoom self.now }
+    {
+        let output = &self.async_output;
+        FRAME <= output.capacity().saturating_sub(output.len())
+    }
+
     // Whether there is room for a reply, a transmission and a release.
     #[inline(always)]
     fn has_room(&self) -> bool
         ensures { IsTrue result ↔ HasRoom self.now }
     {
-        let output = &self.async_output;
-        FRAME <= output.capacity().saturating_sub(output.len())
+        self.has_reply_room()
             && self.waiting.len() < self.waiting.capacity()
             && self.releases.len() < self.releases.capacity()
     }
@@ -25,14 +36,33 @@ impl Parts {
         ensures same { state_of self.new ≡ state_of self.old }
         ensures room { OnOk result (HasRoom self.new) }
     {
-        self.async_output.reserve(FRAME)?;
+        self.async_output.reserve(FRAMES)?;
         self.waiting.reserve(1)?;
         self.releases.reserve(1)?;
         Ok(())
     }
 
-    /// Makes room for one message without payload in the output of the asynchronous connection, for one item of the
-    /// queue and for one release that waits. Nothing is allocated where there is room already.
+    // Allocates the room for replies that is missing.
+    fn reserve_replies(&mut self) -> Result<(), Ended>
+        ensures same { state_of self.new ≡ state_of self.old }
+        ensures room { OnOk result (HasReplyRoom self.new) }
+    {
+        self.async_output.reserve(FRAMES)?;
+        Ok(())
+    }
+
+    /// Makes room for one message without payload in the output of the asynchronous connection. Returns whether there is
+    /// room. Nothing is allocated where there was room already.
+    #[inline(always)]
+    pub fn make_reply_room(&mut self) -> bool
+        ensures same { state_of self.new ≡ state_of self.old }
+        ensures room { result ≡ true → HasReplyRoom self.new }
+    {
+        self.has_reply_room() || self.reserve_replies().is_ok()
+    }
+
+    /// Makes room for such a message, for one item of the queue and for one release that waits. Nothing is allocated where
+    /// there is room already.
     #[inline(always)]
     pub fn make_room(&mut self) -> Result<(), Ended>
         ensures same { state_of self.new ≡ state_of self.old }

@@ -22,9 +22,13 @@ use psu_locks::Grant;
 use std::alloc::Global;
 use std::marker::Model;
 
-/// A session. Contracts see its state. At any time there is a history that leads to this state, unless an allocation
-/// has failed or a connection has ended: then the session is over, and each call returns an error. The first call that
-/// returns an error has called the device for a prefix of what it is to do, and later calls do not call the device.
+/// A session. Contracts see its state. At any time there is a history that leads to this state, unless memory was refused
+/// or a connection has ended: then the session is over, no call changes it or calls the device, and each call that can
+/// return an error does. A call that returns an error where the session was not over has called the device for a prefix
+/// of what it is to do.
+///
+/// A session has room for one reply, so a step that needs no more memory is always completed. A step that was completed
+/// leaves the session over where memory for the next reply is refused.
 #[derive(Drop)]
 pub struct Session {
     parts: Parts,
@@ -37,12 +41,13 @@ impl Model for Session {
 
     ghost Value = { Shown };
 
+    ghost use Rattle.psu_session.specs.Room.{HasReplyRoom};
     ghost use Rattle.psu_session.specs.Step.{IsReachable};
     ghost use Rattle.psu_session.specs.Shown.{state_of};
 
     ghost view = { λ s. record { over = s.over; state = state_of s.parts } };
 
-    ghost invariant = { λ s. s.over ≡ false → IsReachable (state_of s.parts) };
+    ghost invariant = { λ s. s.over ≡ false → IsReachable (state_of s.parts) × HasReplyRoom s.parts };
 }
 
 impl Session {
@@ -53,13 +58,14 @@ impl Session {
             × (opened ≡ record { over = false; state = fresh start })) }
     {
         let channel = opened(alloc, opening)?;
-        Ok(Session {
-            parts: Parts::new(alloc, session, channel),
-            over: false,
-        })
+        let mut parts = Parts::new(alloc, session, channel);
+        if !parts.make_reply_room() {
+            return Err(Ended);
+        }
+        Ok(Session { parts, over: false })
     }
 
-    /// Whether the session is over, since an allocation failed or a connection ended. Until then a history leads to its
+    /// Whether the session is over, since memory was refused or a connection ended. Until then a history leads to its
     /// state, and this history is an exchange of its two streams of bytes.
     pub fn has_ended(&self) -> bool
         ensures is { result ≡ self.now.over }
@@ -93,7 +99,6 @@ impl Session {
         device: &mut D,
     ) -> Result<(), Ended>
         ensures was { OnOk result (self.old.over ≡ false) }
-        ensures continues { OnOk result (self.new.over ≡ false) }
         ensures done { OnOk result (PerformsStep D.does (IsReceived now side received_bytes.now) self.old.state device.old self.new.state device.new) }
         ensures ended { OnErr result (self.new.over ≡ true) }
         ensures stopped { OnErr result ((device.new ≡ device.old) ⊎ StopsIn D.does (IsReceived now side received_bytes.now) self.old.state device.old device.new) }
@@ -103,53 +108,40 @@ impl Session {
             return Err(Ended);
         }
         let done = self.parts.receive_bytes(now, side, received_bytes, device);
-        self.over = done.is_err();
+        self.over = !self.parts.make_reply_room() || done.is_err();
         done
     }
 
-    /// Answers the lock request that waits, if there is one, with its result. Room for the response is made first.
-    pub fn lock_granted<D: Device>(&mut self, grant: Grant, device: &mut D) -> Result<(), Ended>
-        ensures was { OnOk result (self.old.over ≡ false) }
-        ensures continues { OnOk result (self.new.over ≡ false) }
-        ensures done { OnOk result (Appends D.does (IsLockGranted self.old.state.lock_waits grant) [] [] self.old.state device.old self.new.state device.new) }
-        ensures ended { OnErr result (self.new.over ≡ true) }
+    /// Answers the lock request that waits, if there is one, with its result. Where the session is over, nothing is done.
+    pub fn lock_granted<D: Device>(&mut self, grant: Grant, device: &mut D)
+        ensures done { self.old.over ≡ false → Appends D.does (IsLockGranted self.old.state.lock_waits grant) [] [] self.old.state device.old self.new.state device.new }
+        ensures over { self.old.over ≡ true → self.new ≡ self.old }
         ensures uncalled { device.new ≡ device.old }
     {
         if self.over {
-            return Err(Ended);
+            return;
         }
-        let room = self.parts.make_room();
-        self.over = room.is_err();
-        room?;
         self.parts.lock_granted(grant, device);
-        Ok(())
+        self.over = !self.parts.make_reply_room();
     }
 
-    /// Sends the session's service request, if the device has one. Room for it is made first: where memory is refused, the
-    /// device is not called, and still has the request.
-    pub fn service_requested<D: Device>(&mut self, device: &mut D) -> Result<(), Ended>
-        ensures was { OnOk result (self.old.over ≡ false) }
-        ensures continues { OnOk result (self.new.over ≡ false) }
-        ensures done { OnOk result (Appends D.does IsServiceRequested [] [] self.old.state device.old self.new.state device.new) }
-        ensures ended { OnErr result (self.new.over ≡ true) }
-        ensures uncalled { OnErr result (device.new ≡ device.old) }
+    /// Sends the session's service request, if the device has one. Where the session is over, nothing is done.
+    pub fn service_requested<D: Device>(&mut self, device: &mut D)
+        ensures done { self.old.over ≡ false → Appends D.does IsServiceRequested [] [] self.old.state device.old self.new.state device.new }
+        ensures over { self.old.over ≡ true → (self.new ≡ self.old) × (device.new ≡ device.old) }
     {
         if self.over {
-            return Err(Ended);
+            return;
         }
-        let room = self.parts.make_room();
-        self.over = room.is_err();
-        room?;
         self.parts.service_requested(device);
-        Ok(())
+        self.over = !self.parts.make_reply_room();
     }
 
     /// Continues the transmission in execution, or begins the first one in the queue, until a unit has to wait or
     /// others are let in. A transmission that a device clear or a FatalError has ended is dropped. A release that is
-    /// first in the queue is done; where there is no room for its response, it is not begun.
+    /// first in the queue is done.
     pub fn proceed<D: Device>(&mut self, device: &mut D) -> Result<Proceeded, Ended>
         ensures was { OnOk result (self.old.over ≡ false) }
-        ensures continues { OnOk result (self.new.over ≡ false) }
         ensures waits { IfOk result (λ proceeded. Awaits D.does proceeded device.new) }
         ensures done { IfOk result (λ proceeded. PerformsStep D.does (Proceeds proceeded) self.old.state device.old self.new.state device.new) }
         ensures ended { OnErr result (self.new.over ≡ true) }
@@ -160,14 +152,13 @@ impl Session {
             return Err(Ended);
         }
         let done = self.parts.proceed(device);
-        self.over = done.is_err();
+        self.over = !self.parts.make_reply_room() || done.is_err();
         done
     }
 
     /// Queues the releases that have waited long enough at this time in milliseconds.
     pub fn tick(&mut self, now: u64) -> Result<(), Ended>
         ensures was { OnOk result (self.old.over ≡ false) }
-        ensures continues { OnOk result (self.new.over ≡ false) }
         ensures done { OnOk result (IsTicked now self.old.state [] self.new.state) }
         ensures ended { OnErr result (self.new.over ≡ true) }
     {
@@ -175,7 +166,7 @@ impl Session {
             return Err(Ended);
         }
         let done = self.parts.settle(false, now);
-        self.over = done.is_err();
+        self.over = !self.parts.make_reply_room() || done.is_err();
         done
     }
 
@@ -237,7 +228,6 @@ impl Session {
     /// still writes there, until `written` is called, or where nothing is to be sent.
     pub fn take_output(&mut self, side: Side) -> Result<Option<Vec<u8>>, Ended>
         ensures was { OnOk result (self.old.over ≡ false) }
-        ensures continues { OnOk result (self.new.over ≡ false) }
         ensures some { IfOk result (λ taken. IfSome taken (λ bytes. IsTaken side bytes.items self.old.state (Took side bytes.items ∷ []) self.new.state)) }
         ensures none { IfOk result (λ taken. IsNone taken → (self.new.state ≡ self.old.state) × ((writes side self.old.state ≡ true) ⊎ (output side self.old.state ≡ []))) }
         ensures ended { OnErr result ((self.old.over ≡ true) × (self.new ≡ self.old)) }
@@ -245,7 +235,9 @@ impl Session {
         if self.over {
             return Err(Ended);
         }
-        Ok(self.parts.take(side))
+        let taken = self.parts.take(side);
+        self.over = !self.parts.make_reply_room();
+        Ok(taken)
     }
 
     /// The bytes that were taken for a connection are written. Where the session is over, nothing changes.

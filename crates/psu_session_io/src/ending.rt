@@ -25,7 +25,7 @@ pub enum Drained {
 
 impl SharedSession {
     /// Receives bytes that were read from a connection of a session that is over, unless it holds too much.
-    pub fn receive_last<S: ConnectionSide, D: StepDevice>(
+    pub fn receive_last<S: ConnectionSide, D: Device>(
         &mut self,
         now: u64,
         bytes: BytesRead<'_, S>,
@@ -43,7 +43,6 @@ impl SharedSession {
         } = bytes;
         if !self.session.is_full(S::SIDE) {
             let _received = self.session.receive(now, S::SIDE, bytes, device);
-            device.end_step();
         }
         self.over(duty)
     }

@@ -4,7 +4,7 @@ use crossbeam_channel::{Receiver, RecvTimeoutError, Sender, bounded};
 use std::alloc::{AllocError, Global};
 use std::rt::Clock;
 use std::sync::Wait;
-use std::sync::atomic::{AtomicBool, Ordering};
+use std::sync::atomic::{AtomicU8, Ordering};
 use std::time::Duration;
 
 /// A channel of notices to one thread. At most one notice of a kind is on its way, so the channel is never full: to
@@ -13,8 +13,8 @@ use std::time::Duration;
 pub(crate) struct Line {
     sender: Sender<Notice>,
     receiver: Receiver<Notice>,
-    // Whether a notice of each kind is on its way.
-    posted: [AtomicBool; 8],
+    // The kinds of the notices that are on their way, a bit each.
+    posted: AtomicU8,
 }
 
 impl Line {
@@ -24,22 +24,14 @@ impl Line {
         Ok(Line {
             sender,
             receiver,
-            posted: [
-                AtomicBool::new(false),
-                AtomicBool::new(false),
-                AtomicBool::new(false),
-                AtomicBool::new(false),
-                AtomicBool::new(false),
-                AtomicBool::new(false),
-                AtomicBool::new(false),
-                AtomicBool::new(false),
-            ],
+            posted: AtomicU8::new(0),
         })
     }
 
     /// Posts a notice, unless one of its kind is on its way.
     pub fn post<R: Wait>(&self, rt: &R, notice: Notice) {
-        if !self.posted[notice.kind()].swap(true, Ordering::SeqCst) {
+        let bit = notice.bit();
+        if self.posted.fetch_or(bit, Ordering::SeqCst) & bit == 0 {
             // It is sent: the line has both ends.
             let _ = self.sender.send(rt, notice);
         }
@@ -47,7 +39,7 @@ impl Line {
 
     // Marks a notice as arrived. From now on the next one of its kind is sent.
     fn arrived(&self, notice: Notice) -> Notice {
-        self.posted[notice.kind()].store(false, Ordering::SeqCst);
+        self.posted.fetch_and(!notice.bit(), Ordering::SeqCst);
         notice
     }
 

@@ -1,4 +1,4 @@
-// What must not be forgotten. None of these types but the last is `Drop`.
+// What must not be forgotten. These types have no `Drop`, but for `Closed`; `AfterWrite` is only a part of some of them.
 use crate::Notice;
 use std::marker::PhantomData;
 

@@ -1,6 +1,4 @@
 // Notices to the threads of a session.
-ghost use Rattle.std.specs.Prelude.{◌<◌};
-
 /// A notice to a thread of a session.
 #[derive(Clone, Copy, Debug, PartialEq, Eq)]
 pub enum Notice {
@@ -26,19 +24,17 @@ impl Notice {
     /// The number of kinds.
     pub const KINDS: usize = 8;
 
-    /// The number of its kind, below `KINDS`.
-    pub(crate) fn kind(self) -> usize
-        ensures { result < 8 }
-    {
+    /// The bit of its kind.
+    pub(crate) fn bit(self) -> u8 {
         match self {
-            Notice::Continue => 0,
-            Notice::Granted => 1,
-            Notice::Failed => 2,
-            Notice::Service => 3,
-            Notice::Output => 4,
-            Notice::Room => 5,
-            Notice::Time => 6,
-            Notice::End => 7,
+            Notice::Continue => 1,
+            Notice::Granted => 2,
+            Notice::Failed => 4,
+            Notice::Service => 8,
+            Notice::Output => 16,
+            Notice::Room => 32,
+            Notice::Time => 64,
+            Notice::End => 128,
         }
     }
 }

@@ -1,6 +1,7 @@
 // The value of a session that threads share.
 ghost use Rattle.std.specs.Prelude.{◌≡◌, ◌⊎◌, ◌↔◌, true, false, None, IsTrue, IfOk, OnOk, OnErr};
 ghost use Rattle.psu_hislip.specs.declared.side.Side.TheVariants.{Sync, Async};
+ghost use Rattle.psu_session_io.specs.declared.notice.Notice.TheVariants.{Time};
 ghost use Rattle.psu_session.specs.Step.{IsReceived};
 ghost use Rattle.psu_session.specs.Stopping.{StopsIn, StopsNext};
 ghost use Rattle.psu_session_io.specs.Sharing.{EndsExecuting, Executes, HasMore, MayContinue, MayRequestService, Notifies, Receives, Responds, waits_after, waits_for};
@@ -81,7 +82,7 @@ impl SharedSession {
     }
 
     /// Receives bytes that were read from a connection, unless the session holds too much.
-    pub fn receive<'a, S: ConnectionSide, D: StepDevice>(
+    pub fn receive<'a, S: ConnectionSide, D: Device>(
         &mut self,
         now: u64,
         bytes: BytesRead<'a, S>,
@@ -100,12 +101,7 @@ impl SharedSession {
             return Ok(Received::Full(bytes));
         }
         let BytesRead { bytes, duty, side } = bytes;
-        let done = self.session.receive(now, S::SIDE, bytes, device);
-        // A thread of the synchronous side executes in the same step.
-        if S::SIDE == Side::Async || done.is_err() {
-            device.end_step();
-        }
-        match done {
+        match self.session.receive(now, S::SIDE, bytes, device) {
             Ok(()) => Ok(Received::All(Pending {
                 again: false,
                 duty,
@@ -116,19 +112,18 @@ impl SharedSession {
     }
 
     // Sends the session's service request, if the device has one and the asynchronous connection is there.
-    fn request_service<D: Device>(&mut self, device: &mut D) -> Result<(), Ended>
-        ensures requested { OnOk result (MayRequestService D.does self.old.session.state.core.joined self.old.session.state device.old self.new.session.state device.new) }
-        ensures uncalled { OnErr result (device.new ≡ device.old) }
+    fn request_service<D: Device>(&mut self, device: &mut D)
+        requires { self.old.session.over ≡ false }
+        ensures requested { MayRequestService D.does self.old.session.state.core.joined self.old.session.state device.old self.new.session.state device.new }
         ensures waits { self.new.waits ≡ self.old.waits }
     {
-        if !self.session.is_joined() {
-            return Ok(());
+        if self.session.is_joined() {
+            self.session.service_requested(device);
         }
-        self.session.service_requested(device)
     }
 
     /// Notifies the session of what others have caused, at a time in milliseconds.
-    pub fn notify<S, D: StepDevice>(
+    pub fn notify<S, D: Device>(
         &mut self,
         now: u64,
         arrived: Arrived<S>,
@@ -138,32 +133,30 @@ impl SharedSession {
         ensures waits { OnOk result (self.new.waits ≡ waits_after arrived.notice self.old.waits) }
         ensures was { OnOk result (self.old.lost ≡ false) }
         ensures ended { OnErr result (self.new.lost ≡ true) }
+        ensures cause { OnErr result ((self.old.lost ≡ true) ⊎ (self.old.session.over ≡ true) ⊎ (arrived.notice ≡ Time)) }
         ensures uncalled { OnErr result (device.new ≡ device.old) }
     {
         let Arrived { notice, duty, side } = arrived;
-        if self.lost {
+        if self.lost || self.session.has_ended() {
             return Err(self.over(duty));
         }
-        let done = match notice {
-            Notice::Continue => {
-                self.waits = None;
-                Ok(())
-            }
+        match notice {
+            Notice::Continue => self.waits = None,
             Notice::Granted => self.session.lock_granted(Grant::Granted, device),
             Notice::Failed => self.session.lock_granted(Grant::Failed, device),
             Notice::Service => self.request_service(device),
-            Notice::Time => self.session.tick(now),
-            Notice::Output | Notice::Room | Notice::End => Ok(()),
-        };
-        device.end_step();
-        match done {
-            Ok(()) => Ok(Pending {
-                again: false,
-                duty,
-                side,
-            }),
-            Err(Ended) => Err(self.over(duty)),
+            Notice::Time => {
+                if self.session.tick(now).is_err() {
+                    return Err(self.over(duty));
+                }
+            }
+            Notice::Output | Notice::Room | Notice::End => {}
         }
+        Ok(Pending {
+            again: false,
+            duty,
+            side,
+        })
     }
 
     // Continues the execution, unless a unit waits and is not to be tried again.
@@ -219,8 +212,7 @@ impl SharedSession {
             Ok(proceeded) => {
                 self.leave_to_writers();
                 let more = self.has_more(proceeded);
-                let remainder = self.take(more, duty)?;
-                Ok(remainder)
+                self.take(more, duty)
             }
             Err(Ended) => Err(self.over(duty)),
         }

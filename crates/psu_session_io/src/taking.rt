@@ -29,7 +29,7 @@ impl SharedSession {
         ensures others { self.new ≡ record self.old { session = self.new.session } }
         ensures over { self.new.session.over ≡ self.old.session.over }
     {
-        if self.session.writes(side) && self.writes.is_over(side) {
+        if self.session.writes(side) && self.writes.is_complete(side) {
             self.end_write(side);
         }
     }

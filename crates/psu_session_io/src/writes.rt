@@ -23,7 +23,7 @@ impl Write {
 /// The writes of a session, as the threads that write and the thread that holds the session report them to each other. A
 /// thread that has written need not lock the session, unless another one waits for that.
 ///
-/// A thread that waits for the end of a write says so before it looks whether the write is over, and a thread that has
+/// A thread that waits for the end of a write says so before it looks whether the write is complete, and a thread that has
 /// written ends its write before it looks whether another one waits. So one of the two sees the other.
 #[derive(Drop)]
 pub(crate) struct Writes {
@@ -62,8 +62,8 @@ impl Writes {
         write.awaited.swap(false, Ordering::SeqCst)
     }
 
-    /// Whether the last write on a connection is over.
-    pub fn is_over(&self, side: Side) -> bool {
+    /// Whether the last write on a connection is complete.
+    pub fn is_complete(&self, side: Side) -> bool {
         !self.on(side).in_progress.load(Ordering::SeqCst)
     }
 

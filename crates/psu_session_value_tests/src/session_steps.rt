@@ -198,9 +198,16 @@ fn answers(session: &mut Session, alloc: Global, text: &str) -> Option<bool> {
 }
 
 // Whether a lock request that waited has this result, which is passed to the session.
-fn is_told(session: &mut Session, device: &mut MemDevice<'_>, grant: Grant) -> bool {
+fn is_passed_on(session: &mut Session, device: &mut MemDevice<'_>, grant: Grant) -> bool {
     let is_so = grant == Grant::Failed || device.granted.as_slice().contains(&device.session);
-    is_so && session.lock_granted(grant, device).is_ok()
+    session.lock_granted(grant, device);
+    is_so && !session.has_ended()
+}
+
+// Whether a service request, if the device has one, is to be sent.
+fn is_requested(session: &mut Session, device: &mut MemDevice<'_>) -> bool {
+    session.service_requested(device);
+    !session.has_ended()
 }
 
 // Whether a step in which frames are received or are to be sent holds; `None` for any other step.
@@ -231,9 +238,9 @@ fn plain_step(
     word: &str,
 ) -> Option<bool> {
     match word {
-        "granted" => Some(is_told(session, device, Grant::Granted)),
-        "refused" => Some(is_told(session, device, Grant::Failed)),
-        "requested" => Some(session.service_requested(device).is_ok()),
+        "granted" => Some(is_passed_on(session, device, Grant::Granted)),
+        "refused" => Some(is_passed_on(session, device, Grant::Failed)),
+        "requested" => Some(is_requested(session, device)),
         "ticks" => Some(session.tick(now).is_ok()),
         "failed" => Some(session.has_failed()),
         "serves" => Some(!session.has_failed()),

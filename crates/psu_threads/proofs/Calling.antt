@@ -8,7 +8,7 @@ use Rattle.psu_session.specs.Events.{Call, Executed, Settled, Sent, Delivered, Q
 use Rattle.psu_session.specs.Serving.{Runs}
 use Rattle.psu_threads.specs.Added.{Adds}
 use Rattle.psu_threads.specs.Called.{AreCalls, AreEntries, IsCalled, MayNotify}
-use Rattle.psu_callers.specs.Seen.{Makes, freed_to}
+use Rattle.psu_bench.specs.Callers.{Makes, freed_to}
 use Rattle.psu_threads.proofs.Adding.{adds_both, adds_none, adds_one}
 
 module _ {honest : Type 0} where

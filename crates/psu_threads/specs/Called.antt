@@ -6,7 +6,7 @@ use Rattle.psu_exec.specs.Calls.{Entry}
 use Rattle.psu_bench.specs.Calls.{AdmitsOn}
 use Rattle.psu_session.specs.Events.{Call, Executed, Settled, Sent, Delivered, Queried, Fetched, Locked, Released, Informed, Cleared}
 use Rattle.psu_threads.specs.Added.{Adds}
-use Rattle.psu_callers.specs.Seen.{Makes, freed_to}
+use Rattle.psu_bench.specs.Callers.{Makes, freed_to}
 
 -- The seat has made this call of a session. Its reply is what the one legal history says.
 abbrev pub IsCalled : Type 0 → ℕ → Sight State Entry → Call → Sight State Entry → Type 0

@@ -2,12 +2,11 @@
 ghost use Rattle.std.specs.Prelude.{◌≡◌};
 ghost use Rattle.psu_exec.specs.Calls.{JobEnd, Taken};
 ghost use Rattle.psu_bench.specs.Rounds.{IsEndOf};
-ghost use Rattle.psu_callers.specs.Seen.{GivesBack, IsRound};
+ghost use Rattle.psu_bench.specs.Callers.{GivesBack, MakesRound};
 
 use crate::reporter::Reporter;
 use crate::server::Server;
-use psu_bench::Gate;
-use psu_callers::{Caller, Condition, Others};
+use psu_bench::{Caller, Condition, Gate, Others};
 use psu_disk::Disk;
 use psu_exec::{End, Finished, Job, NoJob};
 use std::alloc::Global;
@@ -101,7 +100,7 @@ impl<'a, D: Disk + Drop, G: Gate + Drop, E: Eprint> Flusher<'a, D, G, E> {
 
     // One round: a job is taken and run. Where there is none after the store broke, a reopening has found all stored.
     fn round<R: Wait>(&mut self, rt: &R) -> Round
-        ensures calls { (taken : Taken) × IsRound D.Disk taken self.old.caller.seat self.new.caller.seat }
+        ensures calls { (taken : Taken) × MakesRound D.Disk taken self.old.caller.seat self.new.caller.seat }
     {
         match self.caller.take(rt, &mut self.server.device.visit()) {
             Ok(job) => self.run(rt, job),

@@ -11,6 +11,7 @@ mod registry;
 mod reporter;
 mod responding;
 mod server;
+mod serving;
 mod session_thread;
 mod shared_device;
 
@@ -21,5 +22,5 @@ pub use laws::{calls_are_in_the_history, each_response_is_of_the_history};
 pub use registry::Registry;
 pub use reporter::{HeldRegistry, Reporter};
 pub use server::Server;
-pub use session_thread::{SessionThread, space};
+pub use session_thread::{Role, SessionThread, space};
 pub use shared_device::SharedDevice;

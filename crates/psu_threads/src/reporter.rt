@@ -1,7 +1,7 @@
 // The other threads of the server, for a thread that calls the device.
 use crate::registry::Registry;
 use crate::server::Server;
-use psu_callers::{LockedRegistry, Others};
+use psu_bench::{LockedRegistry, Others};
 use psu_exec::{Grant, Session, Sessions};
 use std::sync::{MutexGuard, Wait};
 

@@ -1,7 +1,7 @@
 // What all threads of a server share.
 use crate::bell::Bell;
 use crate::registry::Registry;
-use psu_callers::DeviceLock;
+use psu_bench::DeviceLock;
 use std::alloc::Global;
 use std::rt::Clock;
 use std::sync::{Mutex, Wait};

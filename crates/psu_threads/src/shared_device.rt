@@ -4,8 +4,7 @@ ghost use Rattle.psu_threads.specs.Called.{IsCalled};
 
 use crate::reporter::Reporter;
 use crate::server::Server;
-use psu_bench::Gate;
-use psu_callers::{Caller, Others, Visit};
+use psu_bench::{Caller, Gate, Others, Visit};
 use psu_disk::Disk;
 use psu_exec::{Freed, Grant, Info, Kind, LockRefusal, Outcome, Request, Session};
 use psu_session::Device;

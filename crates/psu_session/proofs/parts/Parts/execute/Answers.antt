@@ -3,7 +3,6 @@ use Rattle.psu_messages.specs.Units.{size_of}
 use Rattle.psu_session.specs.Credit.{cost, cost_of}
 use Rattle.psu_session.specs.Proceeding.{Proceeds}
 use Rattle.psu_session.specs.Serving.{PerformsStep}
-use Rattle.psu_session.specs.Stopping.StopsNext.{StopsOrder}
 use Rattle.psu_session.specs.Shown.{one_running, state_of}
 use Rattle.psu_session.specs.State.{with_held, with_output}
 use Rattle.psu_session.specs.Exchange.{Order}
@@ -35,4 +34,4 @@ returns-in-Some-clause-done g c = λ s next. waits g.D.Device.does s (one_runnin
 
 pub returns-in_err-need-clause-stopped : goal.returns-in_err-need-clause-stopped
 returns-in_err-need-clause-stopped g c =
-    if_err c.from_residual.result (λ s next. StopsOrder (one_running c.args.running) (state_of c.args.self.now) next (c.if-not-is_current.ensures.0 refl) c.in_err-need.ensures.stopped)
+    if_err c.from_residual.result (λ s next. record { next = one_running c.args.running; left = state_of c.args.self.now; is = next; current = c.if-not-is_current.ensures.0 refl; called = c.in_err-need.ensures.stopped })

@@ -1,6 +1,6 @@
 use Rattle.std.proofs.Common.{refl, subst}
 use Rattle.psu_exec.specs.Jobs.{finished_of}
-use Rattle.psu_callers.specs.Seen.{GivesBack}
+use Rattle.psu_bench.specs.Callers.{GivesBack}
 use Rattle.psu_threads.proofs.flushing.Flusher.run.Goals as goal
 
 pub returns : goal.returns

@@ -4,8 +4,8 @@ use Rattle.psu_disk.specs.declared.disk.Disk.{Ghosts}
 use Rattle.psu_items.specs.declared.commit.UnstartedCause.TheVariants as unstarted
 use Rattle.psu_exec.specs.declared.finished.End.{End}
 use Rattle.psu_exec.specs.declared.finished.End.TheVariants as finished
-use Rattle.psu_callers.specs.declared.condition.Condition.{Condition}
-use Rattle.psu_callers.specs.declared.condition.Condition.TheVariants.{Works, Broken, Worn}
+use Rattle.psu_bench.specs.declared.condition.Condition.{Condition}
+use Rattle.psu_bench.specs.declared.condition.Condition.TheVariants.{Works, Broken, Worn}
 
 -- The condition that the end of a job shows. A reopening shows none: a disk without room can be read and synced, but stores
 -- nothing.

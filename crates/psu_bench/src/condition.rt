@@ -1,6 +1,6 @@
 // What is reported to an operator about the store.
 ghost use Rattle.std.specs.Prelude.{◌≡◌};
-ghost use Rattle.psu_callers.specs.Condition.{shown};
+ghost use Rattle.psu_bench.specs.Condition.{shown};
 
 use psu_disk::Disk;
 use psu_exec::End;

@@ -1,5 +1,5 @@
 // One gate for all threads.
-use psu_bench::{Gate, Point};
+use crate::{Gate, Point};
 use std::alloc::AllocError;
 use std::sync::Arc;
 

@@ -1,11 +1,11 @@
 // The power-on of a served device.
 ghost use Rattle.std.specs.Prelude.{IfOk};
-ghost use Rattle.psu_callers.specs.PowerOn.{BeginsWith};
+ghost use Rattle.psu_bench.specs.PowerOn.{BeginsWith};
 
 use crate::caller::Caller;
 use crate::power_on_fault::PowerOnFault;
 use crate::shared_gate::SharedGate;
-use psu_bench::{Gate, Gated};
+use crate::{Gate, Gated};
 use psu_disk::Disk;
 use psu_exec::Exec;
 use psu_items::Store;

@@ -6,10 +6,9 @@ ghost use Rattle.psu_exec.specs.Calls.Entry.{Executed, Settled, Took, Opened, Cl
 ghost use Rattle.psu_exec.specs.Shown.{outcome_of, over_of};
 ghost use Rattle.psu_locks.specs.declared.grant.Grant.TheVariants as grants;
 ghost use Rattle.psu_bench.specs.Calls.{AdmitsOn, session_of};
-ghost use Rattle.psu_callers.specs.Seen.{Causes, GivesBack, HasEnded, IsNotified, Makes, Notifies, over_sessions, released_of};
+ghost use Rattle.psu_bench.specs.Callers.{Causes, GivesBack, HasEnded, IsNotified, Makes, Notifies, over_sessions, released_of};
 
-use crate::{Caused, CausedByJob, Granted, SharedGate, Visit};
-use psu_bench::{Bench, Gate, Point, Seat};
+use crate::{Bench, Caused, CausedByJob, Gate, Granted, Point, Seat, SharedGate, Visit};
 use psu_disk::Disk;
 use psu_exec::{
     Crowded, Exec, Finished, Freed, Grant, Info, Job, Kind, LockRefusal, NoJob, Outcome, Request,

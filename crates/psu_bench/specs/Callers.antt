@@ -12,9 +12,9 @@ use Rattle.psu_exec.specs.Jobs.{job_data}
 use Rattle.psu_exec.specs.declared.job.Job.{Job as AnyJob}
 use Rattle.psu_bench.specs.Calls.{AdmitsOn}
 use Rattle.psu_bench.specs.Rounds.{IsEndOf}
-use Rattle.psu_callers.specs.declared.caused.Caused.{Caused}
-use Rattle.psu_callers.specs.declared.caused_by_job.CausedByJob.{CausedByJob}
-use Rattle.psu_callers.specs.declared.granted.Granted.{Granted}
+use Rattle.psu_bench.specs.declared.caused.Caused.{Caused}
+use Rattle.psu_bench.specs.declared.caused_by_job.CausedByJob.{CausedByJob}
+use Rattle.psu_bench.specs.declared.granted.Granted.{Granted}
 
 -- The seat made this call, and perhaps took the notifications after it. What it has seen then is one legal history, which begins with all that it had seen
 -- and ends with what it called.
@@ -27,10 +27,10 @@ abbrev pub GivesBack : Type 0 → JobEnd → Sight State Entry → Sight State E
 GivesBack honest end old new = (over : Option (List ℕ)) × Makes honest old (GaveBack end over) new
 
 -- A round of the flusher is a take. Where it gave a job, that very job is run, its result is given back, and nothing else is called.
-abbrev pub IsRound : {D : Type 0} (G : Ghosts D) → Taken → Sight State Entry → Sight State Entry → Type 0
-IsRound {D} G (Job d) old new =
+abbrev pub MakesRound : {D : Type 0} (G : Ghosts D) → Taken → Sight State Entry → Sight State Entry → Type 0
+MakesRound {D} G (Job d) old new =
     (job : AnyJob D Global G) × (mid : Sight State Entry) × (d ≡ job_data job) × Calls (AdmitsOn (Ghosts.honest G)) old (Took (Job d)) mid × ((end : JobEnd) × IsEndOf job end × GivesBack (Ghosts.honest G) end mid new)
-IsRound G taken old new = Calls (AdmitsOn (Ghosts.honest G)) old (Took taken) new
+MakesRound G taken old new = Calls (AdmitsOn (Ghosts.honest G)) old (Took taken) new
 
 -- ---- what calls cause for other threads
 

@@ -1,3 +1,0 @@
-pub mod Condition
-pub mod PowerOn
-pub mod Seen

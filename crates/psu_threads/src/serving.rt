@@ -1,0 +1,114 @@
+// What a thread of a session does on its connection.
+use crate::server::Server;
+use psu_session_io::{
+    Arrived, BytesRead, Closing, Connection, ConnectionSide, Disconnected, Incoming, Next,
+    Received, Remainder, ServedSession, StepDevice, Token,
+};
+use std::rt::Clock;
+use std::sync::Wait;
+
+/// What a thread of a session works with. On the synchronous connection it executes, and writes the responses; on the
+/// asynchronous one it leaves the execution to the worker.
+#[derive(Drop)]
+pub struct Serving<'s, 'v, S, D> {
+    pub server: &'s Server,
+    pub served: &'v ServedSession,
+    pub connection: Connection<S>,
+    pub device: D,
+}
+
+impl<'s, 'v, S: ConnectionSide, D: StepDevice> Serving<'s, 'v, S, D> {
+    // Receives bytes, once there is room for them, and continues the session.
+    fn receive<R: Wait + Clock>(
+        &mut self,
+        rt: &R,
+        token: &mut Token<S>,
+        read: BytesRead<'_, S>,
+    ) -> Result<Remainder<S>, Closing> {
+        let mut bytes = read;
+        for _ in rt.forever() {
+            let now = self.server.now(rt);
+            let mut session = self.served.session.lock(rt, token);
+            match session.receive(now, bytes, &mut self.device)? {
+                Received::All(pending) => return S::proceed(
+                    &mut session,
+                    pending,
+                    &mut self.device,
+                ),
+                Received::Full(again) => bytes = again,
+            }
+            drop(session);
+            self.served.mailbox.wait_for_room(rt, token);
+        }
+        unreachable!()
+    }
+
+    // Notifies the other threads, writes what was taken, and continues the session until it waits. Returns when the
+    // first release that waits is due.
+    fn finish<R: Wait>(
+        &mut self,
+        rt: &R,
+        token: &mut Token<S>,
+        remainder: Remainder<S>,
+    ) -> Result<Option<u64>, Closing> {
+        let mut next = self.served.mailbox.notify_others(rt, remainder);
+        for _ in rt.forever() {
+            next = match next {
+                Next::Write(outgoing) => {
+                    let written = self.connection.write(token, outgoing);
+                    self.served.session.note_write(rt, token, written)?
+                }
+                Next::Continue(pending) => {
+                    let mut session = self.served.session.lock(rt, token);
+                    let remainder = S::proceed(&mut session, pending, &mut self.device)?;
+                    drop(session);
+                    self.served.mailbox.notify_others(rt, remainder)
+                }
+                Next::Wait(due) => return Ok(due),
+            };
+        }
+        unreachable!()
+    }
+
+    /// Reads what comes next on the connection, passes it to the session, and serves it. Its end ends the session.
+    pub fn read<R: Wait + Clock>(
+        &mut self,
+        rt: &R,
+        token: &mut Token<S>,
+        space: &mut [u8],
+    ) -> Result<(), Closing> {
+        let remainder = match self.connection.read(token, space) {
+            Incoming::Bytes(bytes) => self.receive(rt, token, bytes)?,
+            Incoming::Nothing => return Ok(()),
+            Incoming::End(ended) => return Err(self.end(rt, token, ended)),
+        };
+        let _due = self.finish(rt, token, remainder)?;
+        Ok(())
+    }
+
+    /// Passes a notice to the session, and serves it. Returns when the first release that waits is due.
+    pub fn notify<R: Wait + Clock>(
+        &mut self,
+        rt: &R,
+        token: &mut Token<S>,
+        arrived: Arrived<S>,
+    ) -> Result<Option<u64>, Closing> {
+        let now = self.server.now(rt);
+        let mut session = self.served.session.lock(rt, token);
+        let pending = session.notify(now, arrived, &mut self.device)?;
+        let remainder = S::proceed(&mut session, pending, &mut self.device)?;
+        drop(session);
+        self.finish(rt, token, remainder)
+    }
+
+    /// Ends the session, since a connection has ended.
+    pub fn end<R: Wait>(
+        &mut self,
+        rt: &R,
+        token: &mut Token<S>,
+        disconnected: Disconnected,
+    ) -> Closing {
+        let mut session = self.served.session.lock(rt, token);
+        session.disconnect(disconnected)
+    }
+}
