@@ -24,18 +24,6 @@ pub struct BytesRead<'a, S> {
     pub(crate) side: PhantomData<S>,
 }
 
-impl<'a, S> BytesRead<'a, S> {
-    // Ends in the duty of a session that is over.
-    pub(crate) fn into_duty(self) -> Duty {
-        let BytesRead {
-            bytes: _,
-            duty,
-            side: _,
-        } = self;
-        duty
-    }
-}
-
 /// The result of a session's receiving of bytes.
 pub enum Received<'a, S> {
     /// They are received.

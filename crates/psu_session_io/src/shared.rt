@@ -93,12 +93,17 @@ impl SharedSession {
         ensures stopped { OnErr result ((device.new ≡ device.old) ⊎ StopsIn D.does (IsReceived now S.SIDE bytes.entry.bytes.now) self.old.session.state device.old device.new) }
     {
         if self.session.is_full(S::SIDE) {
-            // No room comes any more where the session is over.
-            if self.lost {
-                return Err(self.over(bytes.into_duty()));
+            if !self.lost {
+                self.wait_for_room(S::SIDE);
+                return Ok(Received::Full(bytes));
             }
-            self.wait_for_room(S::SIDE);
-            return Ok(Received::Full(bytes));
+            // No room comes any more.
+            let BytesRead {
+                bytes: _,
+                duty,
+                side: _,
+            } = bytes;
+            return Err(self.over(duty));
         }
         let BytesRead { bytes, duty, side } = bytes;
         match self.session.receive(now, S::SIDE, bytes, device) {

@@ -1,77 +1,59 @@
 // Whether the bytes that were taken are written.
 use psu_hislip::Side;
-use std::sync::atomic::{AtomicBool, Ordering};
+use std::sync::atomic::{AtomicU8, Ordering};
 
-/// A write on a connection.
-#[derive(Drop)]
-struct Write {
-    // Whether it is in progress.
-    in_progress: AtomicBool,
-    // Whether the thread that writes is to continue the session after it.
-    awaited: AtomicBool,
-}
+/// The flag of a write that is in progress.
+const IN_PROGRESS: u8 = 1;
 
-impl Write {
-    fn new() -> Write {
-        Write {
-            in_progress: AtomicBool::new(false),
-            awaited: AtomicBool::new(false),
-        }
-    }
-}
+/// The flag of a write after which its thread is to continue the session.
+const AWAITED: u8 = 2;
 
 /// The writes of a session, as the threads that write and the thread that holds the session report them to each other. A
 /// thread that has written need not lock the session, unless another one waits for that.
 ///
-/// A thread that waits for the end of a write says so before it looks whether the write is complete, and a thread that has
-/// written ends its write before it looks whether another one waits. So one of the two sees the other.
+/// The two flags of a connection are in one word, and each call is one step on it. So a thread that waits for the end of
+/// a write either finds it complete, or the thread that writes finds that it is awaited.
 #[derive(Drop)]
 pub(crate) struct Writes {
-    sync: Write,
-    asynchronous: Write,
+    sync: AtomicU8,
+    asynchronous: AtomicU8,
 }
 
 impl Writes {
     /// Returns that no thread writes.
     pub fn new() -> Writes {
         Writes {
-            sync: Write::new(),
-            asynchronous: Write::new(),
+            sync: AtomicU8::new(0),
+            asynchronous: AtomicU8::new(0),
         }
     }
 
-    // Returns the write on a connection.
-    fn on(&self, side: Side) -> &Write {
+    // Returns the flags of a connection.
+    fn on(&self, side: Side) -> &AtomicU8 {
         match side {
             Side::Sync => &self.sync,
             Side::Async => &self.asynchronous,
         }
     }
 
-    /// Begins the write of bytes that were taken. The session is held.
+    /// Begins the write of bytes that were taken. The session is held, and no write is in progress.
     pub fn begin(&self, side: Side) {
-        let write = self.on(side);
-        write.awaited.store(false, Ordering::SeqCst);
-        write.in_progress.store(true, Ordering::SeqCst);
+        self.on(side).store(IN_PROGRESS, Ordering::SeqCst);
     }
 
     /// Ends a write. Returns whether another thread waits for that: then the one that wrote continues the session.
     pub fn end(&self, side: Side) -> bool {
-        let write = self.on(side);
-        write.in_progress.store(false, Ordering::SeqCst);
-        write.awaited.swap(false, Ordering::SeqCst)
+        self.on(side).swap(0, Ordering::SeqCst) & AWAITED != 0
     }
 
     /// Whether the last write on a connection is complete.
     pub fn is_complete(&self, side: Side) -> bool {
-        !self.on(side).in_progress.load(Ordering::SeqCst)
+        self.on(side).load(Ordering::SeqCst) & IN_PROGRESS == 0
     }
 
     /// Leaves the session to the thread that writes on a connection. Returns whether that thread still writes; else the
     /// session is not left to it. The session is held.
     pub fn leave(&self, side: Side) -> bool {
-        let write = self.on(side);
-        write.awaited.store(true, Ordering::SeqCst);
-        write.in_progress.load(Ordering::SeqCst)
+        self.on(side).fetch_or(AWAITED, Ordering::SeqCst) & IN_PROGRESS != 0
     }
 }

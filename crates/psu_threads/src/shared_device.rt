@@ -31,7 +31,10 @@ impl<'s, 'c, 'r, R: Wait, D: Disk, G: Gate> SharedDevice<'s, 'c, 'r, R, D, G> {
         server: &'s Server,
         session: Session,
         caller: &'c mut Caller<D, G>,
-    ) -> SharedDevice<'s, 'c, 'r, R, D, G> {
+    ) -> SharedDevice<'s, 'c, 'r, R, D, G>
+        ensures session { result.session ≡ session }
+        ensures caller { result.caller ≡ caller.entry }
+    {
         SharedDevice {
             rt,
             server,
