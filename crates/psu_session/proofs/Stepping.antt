@@ -149,6 +149,11 @@ pub reached_on_ok : {T E P : Type 0} {s t : State} (r : Result T E) → (P → (
 reached_on_ok {T} {E} {P} {s} {t} (Ok x) to_steps e p reached = reached_by reached (to_steps p).1
 reached_on_ok {T} {E} {P} {s} {t} (Err x) to_steps e p reached = absurd (cc (e))
 
+-- what holds of a value, if there is one
+pub holds_on_ok : {T E P : Type 0} (r : Result T E) → is_err r ≡ false → OnOk r P → P
+holds_on_ok (Ok x) e p = p
+holds_on_ok (Err x) e p = absurd (cc (e))
+
 pub reached_if_ok : {T E : Type 0} {P : T → Type 0} {s t : State} (r : Result T E) → ((x : T) → P x → (done : List Event) × Steps s done t) → is_err r ≡ false → IfOk r P → IsReachable s → IsReachable t
 reached_if_ok {T} {E} {P} {s} {t} (Ok x) to_steps e p reached = reached_by reached (to_steps x p).1
 reached_if_ok {T} {E} {P} {s} {t} (Err x) to_steps e p reached = absurd (cc (e))

@@ -1,5 +1,5 @@
 // Room that a session has before a step, so that the step itself cannot fail.
-ghost use Rattle.std.specs.Prelude.{◌≡◌, ◌↔◌, IsTrue, true, OnOk};
+ghost use Rattle.std.specs.Prelude.{◌≡◌, ◌↔◌, IsTrue, true, false, OnOk, is_err};
 ghost use Rattle.psu_session.specs.Room.{HasReplyRoom, HasRoom};
 ghost use Rattle.psu_session.specs.Shown.{state_of};
 
@@ -42,23 +42,28 @@ impl Parts {
         Ok(())
     }
 
-    // Allocates the room for replies that is missing.
-    fn reserve_replies(&mut self) -> Result<(), Ended>
+    /// Makes room for one message without payload in the output of the asynchronous connection. Nothing is allocated where
+    /// there is room already.
+    #[inline(always)]
+    pub fn make_reply_room(&mut self) -> Result<(), Ended>
         ensures same { state_of self.new ≡ state_of self.old }
         ensures room { OnOk result (HasReplyRoom self.new) }
     {
-        self.async_output.reserve(FRAMES)?;
+        if !self.has_reply_room() {
+            self.async_output.reserve(FRAMES)?;
+        }
         Ok(())
     }
 
-    /// Makes room for one message without payload in the output of the asynchronous connection. Returns whether there is
-    /// room. Nothing is allocated where there was room already.
+    /// Makes room for the next reply after a step with this result. Returns whether the session is over then: the step was
+    /// not completed, or memory is refused.
     #[inline(always)]
-    pub fn make_reply_room(&mut self) -> bool
+    pub fn end_step<T>(&mut self, done: &Result<T, Ended>) -> bool
         ensures same { state_of self.new ≡ state_of self.old }
-        ensures room { result ≡ true → HasReplyRoom self.new }
+        ensures continues { result ≡ false → (is_err done.now ≡ false) × HasReplyRoom self.new }
+        ensures over { is_err done.now ≡ true → result ≡ true }
     {
-        self.has_reply_room() || self.reserve_replies().is_ok()
+        done.is_err() || self.make_reply_room().is_err()
     }
 
     /// Makes room for such a message, for one item of the queue and for one release that waits. Nothing is allocated where

@@ -59,9 +59,7 @@ impl Session {
     {
         let channel = opened(alloc, opening)?;
         let mut parts = Parts::new(alloc, session, channel);
-        if !parts.make_reply_room() {
-            return Err(Ended);
-        }
+        parts.make_reply_room()?;
         Ok(Session { parts, over: false })
     }
 
@@ -108,7 +106,7 @@ impl Session {
             return Err(Ended);
         }
         let done = self.parts.receive_bytes(now, side, received_bytes, device);
-        self.over = !self.parts.make_reply_room() || done.is_err();
+        self.over = self.parts.end_step(&done);
         done
     }
 
@@ -122,7 +120,7 @@ impl Session {
             return;
         }
         self.parts.lock_granted(grant, device);
-        self.over = !self.parts.make_reply_room();
+        self.over = self.parts.make_reply_room().is_err();
     }
 
     /// Sends the session's service request, if the device has one. Where the session is over, nothing is done.
@@ -134,7 +132,7 @@ impl Session {
             return;
         }
         self.parts.service_requested(device);
-        self.over = !self.parts.make_reply_room();
+        self.over = self.parts.make_reply_room().is_err();
     }
 
     /// Continues the transmission in execution, or begins the first one in the queue, until a unit has to wait or
@@ -152,7 +150,7 @@ impl Session {
             return Err(Ended);
         }
         let done = self.parts.proceed(device);
-        self.over = !self.parts.make_reply_room() || done.is_err();
+        self.over = self.parts.end_step(&done);
         done
     }
 
@@ -166,7 +164,7 @@ impl Session {
             return Err(Ended);
         }
         let done = self.parts.settle(false, now);
-        self.over = !self.parts.make_reply_room() || done.is_err();
+        self.over = self.parts.end_step(&done);
         done
     }
 
@@ -236,7 +234,7 @@ impl Session {
             return Err(Ended);
         }
         let taken = self.parts.take(side);
-        self.over = !self.parts.make_reply_room();
+        self.over = self.parts.make_reply_room().is_err();
         Ok(taken)
     }
 

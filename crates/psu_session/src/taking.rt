@@ -1,6 +1,7 @@
 // The output, and who writes it.
 ghost use Rattle.std.specs.Prelude.{◌≡◌, ◌⊎◌, ◌↔◌, true, false, [], ◌∷◌, IfSome, IsNone};
 ghost use Rattle.psu_session.specs.Events.{Took, Wrote};
+ghost use Rattle.psu_session.specs.Room.{HasReplyRoom};
 ghost use Rattle.psu_session.specs.Step.{IsTaken, IsWritten};
 ghost use Rattle.psu_session.specs.Shown.{state_of};
 ghost use Rattle.psu_session.specs.State.{output, with_output, with_writes, writes};
@@ -22,7 +23,8 @@ impl Parts {
 
     // Sets whether a thread writes on a connection.
     fn set_writing(&mut self, side: Side, writing: bool)
-        ensures { state_of self.new ≡ with_writes side (state_of self.old) writing }
+        ensures set { state_of self.new ≡ with_writes side (state_of self.old) writing }
+        ensures room { HasReplyRoom self.old → HasReplyRoom self.new }
     {
         match side {
             Side::Sync => self.sync_writes = writing,
@@ -67,7 +69,8 @@ impl Parts {
 
     /// The bytes that were taken for a connection are written.
     pub fn written(&mut self, side: Side)
-        ensures { IsWritten side (state_of self.old) (Wrote side ∷ []) (state_of self.new) }
+        ensures done { IsWritten side (state_of self.old) (Wrote side ∷ []) (state_of self.new) }
+        ensures room { HasReplyRoom self.old → HasReplyRoom self.new }
     {
         self.set_writing(side, false);
     }

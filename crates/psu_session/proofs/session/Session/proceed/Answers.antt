@@ -1,12 +1,18 @@
-use Rattle.std.proofs.Common.{◌∙◌, subst, sym}
+use Rattle.std.proofs.Common.{subst, sym}
 use Rattle.psu_session.specs.State.{Shown}
+use Rattle.psu_session.specs.Step.{IsReachable}
 use Rattle.psu_session.specs.Stopping.{StopsNext}
 use Rattle.psu_session.proofs.Stepping.{reached_if_ok}
 use Rattle.psu_session.proofs.Stopping.{on_err}
 use Rattle.psu_session.proofs.session.Session.proceed.Goals as goal
 
 pub invariant_of-self : goal.invariant_of-self
-invariant_of-self g c = λ e. reached_if_ok c.proceed-done.result (λ x m. (m.done, m.is.steps)) (sym c.is_err-self-inside.ensures.value ∙ e) c.proceed-done.ensures.done (c.self.invariant c.if-self.false)
+invariant_of-self g c = λ e.
+    let next = c.end_step.ensures.continues e in (
+      subst IsReachable (sym c.end_step.ensures.same)
+          (reached_if_ok c.proceed-done.result (λ x m. (m.done, m.is.steps)) next.0 c.proceed-done.ensures.done (c.self.invariant c.if-self.false).0),
+      next.1,
+    )
 
 pub returns-clause-stopped : goal.returns-clause-stopped
 returns-clause-stopped g c =

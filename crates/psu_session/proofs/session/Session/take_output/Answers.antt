@@ -1,6 +1,11 @@
+use Rattle.std.proofs.Common.{subst, sym, ◌∙◌}
+use Rattle.psu_session.specs.Step.{IsReachable}
 use Rattle.psu_session.specs.Step.Step.{Takes}
-use Rattle.psu_session.proofs.Stepping.{one_step, reached_if_some}
+use Rattle.psu_session.proofs.Stepping.{holds_on_ok, one_step, reached_if_some}
 use Rattle.psu_session.proofs.session.Session.take_output.Goals as goal
 
 pub invariant_of-self : goal.invariant_of-self
-invariant_of-self c = λ e. reached_if_some c.take.result (λ x m. (_, one_step (Takes _ _ m))) c.take.ensures.some c.take.ensures.none (c.self.invariant e)
+invariant_of-self c = λ e. (
+  subst IsReachable (sym c.make_reply_room.ensures.same) (reached_if_some c.take-taken.result (λ x m. (_, one_step (Takes _ _ m))) c.take-taken.ensures.some c.take-taken.ensures.none (c.self.invariant c.if-self.false).0),
+  holds_on_ok c.make_reply_room.result (sym c.is_err-self-inside.ensures.value ∙ e) c.make_reply_room.ensures.room,
+)
