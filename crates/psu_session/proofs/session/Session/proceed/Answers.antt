@@ -8,8 +8,8 @@ use Rattle.psu_session.proofs.session.Session.proceed.Goals as goal
 
 pub invariant_of-self : goal.invariant_of-self
 invariant_of-self g c = λ e.
-    let next = c.end_step.ensures.continues e in (
-      subst IsReachable (sym c.end_step.ensures.same)
+    let next = c.end_step-self-inside.ensures.continues e in (
+      subst IsReachable (sym c.end_step-self-inside.ensures.same)
           (reached_if_ok c.proceed-done.result (λ x m. (m.done, m.is.steps)) next.0 c.proceed-done.ensures.done (c.self.invariant c.if-self.false).0),
       next.1,
     )

@@ -6,8 +6,8 @@ use Rattle.psu_session.proofs.session.Session.tick.Goals as goal
 
 pub invariant_of-self : goal.invariant_of-self
 invariant_of-self c = λ e.
-    let next = c.end_step.ensures.continues e in (
-      subst IsReachable (sym c.end_step.ensures.same)
+    let next = c.end_step-self-inside.ensures.continues e in (
+      subst IsReachable (sym c.end_step-self-inside.ensures.same)
           (reached_on_ok c.settle-done.result (λ m. ([], one_step (Ticks _ (record { are = refl; then = m })))) next.0 c.settle-done.ensures (c.self.invariant c.if-self.false).0),
       next.1,
     )
