@@ -2,7 +2,7 @@
 -- or more would be held than a session may hold. Source: this may happen between two actions of a message and between
 -- two effects of a transmission, and a call of the device cannot be undone. There is room for the reply to a single call
 -- before it is made.
-use Rattle.std.specs.Prelude.{◌≡◌, List, ◌++◌, map}
+use Rattle.std.specs.Prelude.{List, ◌++◌, map}
 use Rattle.psu_hislip.specs.Core.{IsCurrent}
 use Rattle.psu_messages.specs.Effects.{Effect}
 use Rattle.psu_messages.specs.Executions.{Progress, Reaches}
