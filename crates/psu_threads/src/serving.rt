@@ -1,14 +1,46 @@
 // What a thread of a session does on its connection.
 use crate::server::Server;
 use psu_session_io::{
-    Arrived, BytesRead, Closing, Connection, ConnectionSide, Disconnected, Incoming, Next,
-    Received, Remainder, ServedSession, StepDevice, Token,
+    Arrived, Asynchronous, BytesRead, Closing, Connection, ConnectionSide, Disconnected, Incoming,
+    Next, Pending, Received, Remainder, ServedSession, SharedSession, StepDevice, Synchronous,
+    Token,
 };
 use std::rt::Clock;
 use std::sync::Wait;
 
-/// What a thread of a session works with. On the synchronous connection it executes, and writes the responses; on the
-/// asynchronous one it leaves the execution to the worker.
+/// How a thread that writes on a connection continues a session.
+pub trait Continue: ConnectionSide + Sized {
+    /// Continues a session, and takes what is to be written on the connection.
+    fn proceed<D: StepDevice>(
+        session: &mut SharedSession,
+        pending: Pending<Self>,
+        device: &mut D,
+    ) -> Result<Remainder<Self>, Closing>;
+}
+
+impl Continue for Synchronous {
+    fn proceed<D: StepDevice>(
+        session: &mut SharedSession,
+        pending: Pending<Synchronous>,
+        device: &mut D,
+    ) -> Result<Remainder<Synchronous>, Closing> {
+        session.execute(pending, device)
+    }
+}
+
+impl Continue for Asynchronous {
+    // The execution is left to the worker.
+    fn proceed<D: StepDevice>(
+        session: &mut SharedSession,
+        pending: Pending<Asynchronous>,
+        device: &mut D,
+    ) -> Result<Remainder<Asynchronous>, Closing> {
+        let _ = device;
+        session.respond(pending)
+    }
+}
+
+/// What a thread of a session works with.
 #[derive(Drop)]
 pub struct Serving<'s, 'v, S, D> {
     pub server: &'s Server,
@@ -17,7 +49,7 @@ pub struct Serving<'s, 'v, S, D> {
     pub device: D,
 }
 
-impl<'s, 'v, S: ConnectionSide, D: StepDevice> Serving<'s, 'v, S, D> {
+impl<'s, 'v, S: Continue, D: StepDevice> Serving<'s, 'v, S, D> {
     // Receives bytes, once there is room for them, and continues the session.
     fn receive<R: Wait + Clock>(
         &mut self,
