@@ -6,7 +6,7 @@ use psu_disk::Disk;
 use psu_exec::Session as Number;
 use psu_hislip::{FatalCode, First};
 use psu_session_io::{Connection, Link, ServedSession};
-use psu_threads::{Role, Server, SessionThread};
+use psu_threads::{Role, Server, serve_session};
 use std::rt::Clock;
 use std::sync::{Arc, Mutex, Wait};
 use std::thread::{JoinHandle, Threads};
@@ -51,12 +51,8 @@ impl<D: Disk + Drop, G: Gate + Drop> Accepted<D, G> {
         after: Vec<u8>,
     ) -> io::Result<()> {
         let connection = Connection::new(Arc::try_clone(&self.link)?, after);
-        let reader = SessionThread {
-            server: &self.server,
-            served,
-            caller: &mut self.caller,
-        };
-        reader.read(rt, connection, opened)
+        let role = Role::Read(connection, opened);
+        serve_session(rt, &self.server, served, &mut self.caller, role)
     }
 
     // Returns the session of a number.
@@ -74,22 +70,17 @@ impl<D: Disk + Drop, G: Gate + Drop> Accepted<D, G> {
     ) -> io::Result<()> {
         self.link.wait_at_most(None)?;
         let connection = Connection::new(Arc::try_clone(&self.link)?, opening.whole()?);
-        let reader = SessionThread {
-            server: &self.server,
-            served,
-            caller: &mut self.caller,
-        };
-        reader.listen(rt, connection)
+        let role = Role::Listen(connection);
+        serve_session(rt, &self.server, served, &mut self.caller, role)
     }
 }
 
 impl<D: Disk + Drop + Send + 'static, G: Gate + Drop + Send + Sync + 'static> Accepted<D, G> {
-    // Starts a thread that serves a session beside its readers, and writes on this connection of it.
+    // Starts a thread that serves a session beside its readers.
     fn start_beside<R>(
         &mut self,
         rt: R,
         served: &Arc<ServedSession>,
-        link: Arc<Link>,
         role: Role,
     ) -> io::Result<JoinHandle<()>>
     where
@@ -99,12 +90,8 @@ impl<D: Disk + Drop + Send + 'static, G: Gate + Drop + Send + Sync + 'static> Ac
         let served = Arc::try_clone(served)?;
         let mut caller = self.caller.split()?;
         let started = thread::spawn(&rt, move || {
-            let thread = SessionThread {
-                server: &server,
-                served: &served,
-                caller: &mut caller,
-            };
-            thread.assist(&rt, link, role)
+            // It needs no memory of its own.
+            let _ = serve_session(&rt, &server, &served, &mut caller, role);
         })?;
         Ok(started)
     }
@@ -119,8 +106,8 @@ impl<D: Disk + Drop + Send + 'static, G: Gate + Drop + Send + Sync + 'static> Ac
     where
         R: Threads + Wait + Clock + Copy + Send + 'static,
     {
-        let link = Arc::try_clone(&self.link)?;
-        let notifier = self.start_beside(rt, served, link, Role::Notify)?;
+        let role = Role::Notify(Arc::try_clone(&self.link)?);
+        let notifier = self.start_beside(rt, served, role)?;
         let listened = self.listen(&rt, served, opening);
         served.abandon(&rt);
         notifier.join(&rt);
@@ -132,8 +119,8 @@ impl<D: Disk + Drop + Send + 'static, G: Gate + Drop + Send + Sync + 'static> Ac
     where
         R: Threads + Wait + Clock + Copy + Send + 'static,
     {
-        let first = served.first()?;
-        let worker = self.start_beside(rt, served, first, Role::Work)?;
+        let role = Role::Work(served.first()?);
+        let worker = self.start_beside(rt, served, role)?;
         let listened = self.listen_and_notify(rt, served, opening);
         served.abandon(&rt);
         worker.join(&rt);

@@ -72,16 +72,21 @@ impl<'s, 'v, D: StepDevice> SyncReader<'s, 'v, D> {
         }
     }
 
+    // Executes a part of what the session was sent before its end.
+    fn drain_once<R: Wait>(&mut self, rt: &R, token: &mut Token<Synchronous>) -> Drained {
+        let mut session = self.serving.served.session.lock(rt, token);
+        session.drain(&mut self.serving.device)
+    }
+
     // Executes what the session was sent before its end, as far as nothing of it has to wait.
     fn drain<R: Wait>(&mut self, rt: &R, token: &mut Token<Synchronous>) {
-        let mut tried = 0u32;
+        let mut left = LAST_UNITS;
         for _ in 0..LAST_UNITS {
-            let mut session = self.serving.served.session.lock(rt, token);
-            match session.drain(&mut self.serving.device) {
-                Drained::More(units) => tried = tried.saturating_add(units),
+            match self.drain_once(rt, token) {
+                Drained::More(units) => left = left.saturating_sub(units),
                 Drained::AllDone => return,
             }
-            if tried >= LAST_UNITS {
+            if left == 0 {
                 return;
             }
         }

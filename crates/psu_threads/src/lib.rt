@@ -22,5 +22,5 @@ pub use laws::{calls_are_in_the_history, each_response_is_of_the_history};
 pub use registry::Registry;
 pub use reporter::{HeldRegistry, Reporter};
 pub use server::Server;
-pub use session_thread::{Role, SessionThread, space};
+pub use session_thread::{Role, serve_session, space};
 pub use shared_device::SharedDevice;

@@ -8,7 +8,7 @@ use crate::serving::Serving;
 use crate::shared_device::SharedDevice;
 use psu_bench::{Caller, Gate};
 use psu_disk::Disk;
-use psu_session_io::{Asynchronous, Connection, Link, ServedSession, Synchronous, run};
+use psu_session_io::{Asynchronous, Connection, Link, ServedSession, StepDevice, Synchronous, run};
 use std::alloc::Global;
 use std::io;
 use std::rt::Clock;
@@ -27,37 +27,36 @@ pub fn space(alloc: Global, size: usize) -> io::Result<Vec<u8>>
     Ok(space)
 }
 
-/// What a thread does that serves a session beside its readers.
-#[derive(Clone, Copy, Debug, PartialEq, Eq)]
-pub enum Role {
-    /// It continues the execution once what a unit waits for may have come, and while the reader waits. Its responses are
-    /// written on the synchronous connection.
-    Work,
-    /// It sends on the asynchronous connection what other sessions cause.
-    Notify,
-}
-
-/// A thread of a session: what it works with. Each of its public methods runs until the session is over.
+/// What a thread does for a session.
 #[derive(Drop)]
-pub struct SessionThread<'s, 'v, 'c, D: Disk, G: Gate> {
-    pub server: &'s Server,
-    pub served: &'v ServedSession,
-    pub caller: &'c mut Caller<D, G>,
+pub enum Role {
+    /// It reads the synchronous connection of a session that was opened at this time, and executes what is sent there.
+    Read(Connection<Synchronous>, Instant),
+    /// It continues the execution once what a unit waits for may have come, and while the reader waits. Its responses are
+    /// written on the synchronous connection, which this is.
+    Work(Arc<Link>),
+    /// It reads the asynchronous connection, and answers what is requested there.
+    Listen(Connection<Asynchronous>),
+    /// It sends on the asynchronous connection, which this is, what other sessions cause.
+    Notify(Arc<Link>),
 }
 
-impl<'s, 'v, 'c, D: Disk + Drop, G: Gate + Drop> SessionThread<'s, 'v, 'c, D, G> {
+// What a thread of a session works with.
+#[derive(Drop)]
+struct SessionThread<'s, 'v, D> {
+    server: &'s Server,
+    served: &'v ServedSession,
+    device: D,
+}
+
+impl<'s, 'v, D: StepDevice + Drop> SessionThread<'s, 'v, D> {
     // Returns what the thread works with on a connection.
-    fn on<'r, R: Wait + Clock, S>(
-        self,
-        rt: &'r R,
-        connection: Connection<S>,
-    ) -> Serving<'s, 'v, S, SharedDevice<'s, 'c, 'r, R, D, G>> {
+    fn on<S>(self, connection: Connection<S>) -> Serving<'s, 'v, S, D> {
         let SessionThread {
             server,
             served,
-            caller,
+            device,
         } = self;
-        let device = SharedDevice::new(rt, server, served.number, caller);
         Serving {
             server,
             served,
@@ -66,16 +65,15 @@ impl<'s, 'v, 'c, D: Disk + Drop, G: Gate + Drop> SessionThread<'s, 'v, 'c, D, G>
         }
     }
 
-    /// Reads the synchronous connection of a session that was opened at this time, and executes what is sent there. An
-    /// error where memory for it is refused.
-    pub fn read<R: Wait + Clock>(
+    // Reads the synchronous connection.
+    fn read<R: Wait + Clock>(
         self,
         rt: &R,
         connection: Connection<Synchronous>,
         opened: Instant,
     ) -> io::Result<()> {
         let space = space(self.server.alloc, SPACE)?;
-        let serving = self.on(rt, connection);
+        let serving = self.on(connection);
         let mut reader = SyncReader {
             serving,
             opened,
@@ -86,37 +84,57 @@ impl<'s, 'v, 'c, D: Disk + Drop, G: Gate + Drop> SessionThread<'s, 'v, 'c, D, G>
         Ok(())
     }
 
-    /// Reads the asynchronous connection, and answers what is requested there. An error where memory for it is refused.
-    pub fn listen<R: Wait + Clock>(
+    // Works on the synchronous connection.
+    fn work<R: Wait + Clock>(self, rt: &R, link: Arc<Link>) {
+        let connection = Connection::new(link, Vec::new(self.server.alloc));
+        let serving = self.on(connection);
+        run(rt, &mut Worker { serving });
+    }
+
+    // Reads the asynchronous connection.
+    fn listen<R: Wait + Clock>(
         self,
         rt: &R,
         connection: Connection<Asynchronous>,
     ) -> io::Result<()> {
         let space = space(self.server.alloc, SPACE)?;
-        let serving = self.on(rt, connection);
+        let serving = self.on(connection);
         run(rt, &mut AsyncReader { serving, space });
         Ok(())
-    }
-
-    // Works on the synchronous connection.
-    fn work<R: Wait + Clock>(self, rt: &R, link: Arc<Link>) {
-        let connection = Connection::new(link, Vec::new(self.server.alloc));
-        let serving = self.on(rt, connection);
-        run(rt, &mut Worker { serving });
     }
 
     // Notifies on the asynchronous connection.
     fn notify<R: Wait + Clock>(self, rt: &R, link: Arc<Link>) {
         let connection = Connection::new(link, Vec::new(self.server.alloc));
-        let serving = self.on(rt, connection);
+        let serving = self.on(connection);
         run(rt, &mut Notifier { serving });
     }
 
-    /// Serves the session beside its readers, and writes on this connection of it.
-    pub fn assist<R: Wait + Clock>(self, rt: &R, link: Arc<Link>, role: Role) {
+    // Does what its role is, until the session is over.
+    fn run_as<R: Wait + Clock>(self, rt: &R, role: Role) -> io::Result<()> {
         match role {
-            Role::Work => self.work(rt, link),
-            Role::Notify => self.notify(rt, link),
+            Role::Read(connection, opened) => self.read(rt, connection, opened)?,
+            Role::Work(link) => self.work(rt, link),
+            Role::Listen(connection) => self.listen(rt, connection)?,
+            Role::Notify(link) => self.notify(rt, link),
         }
+        Ok(())
     }
+}
+
+/// Serves a session in this thread until the session is over. An error where memory for it is refused.
+pub fn serve_session<R: Wait + Clock, D: Disk + Drop, G: Gate + Drop>(
+    rt: &R,
+    server: &Server,
+    served: &ServedSession,
+    caller: &mut Caller<D, G>,
+    role: Role,
+) -> io::Result<()> {
+    let device = SharedDevice::new(rt, server, served.number, caller);
+    let thread = SessionThread {
+        server,
+        served,
+        device,
+    };
+    thread.run_as(rt, role)
 }
