@@ -2,7 +2,7 @@
 use Rattle.std.specs.Prelude.{◌≡◌, ℕ, ◌<◌, ◌≤◌, ⊤, List, [], ◌∷◌, ◌++◌, length, Option, Some, None}
 use Rattle.psu_hislip.specs.Header.{header_bytes, Fits}
 use Rattle.psu_hislip.specs.Stream.{Received, received}
-use Rattle.psu_hislip.specs.Channel.{Awaited, Moves}
+use Rattle.psu_hislip.specs.Channel.{Awaited, Moves, Fed}
 use Rattle.psu_hislip.specs.Channel.Awaited.{Partial, Passing, Ended}
 use Rattle.psu_hislip.specs.declared.message.Message.{Message}
 use Rattle.psu_hislip.specs.declared.rest.Rest.{Rest}
@@ -38,3 +38,9 @@ all_received (message ∷ messages) = received message ∷ all_received messages
 abbrev pub IsCutOf : {A : Type 0} → List (Message A) → Awaited → List ℕ → List (Message A) → Awaited → Type 0
 IsCutOf {A} before old piece after new =
     (more : List (Message A)) × (after ≡ before ++ more) × Moves old piece (all_received more) new
+
+-- A channel was fed a piece: what it awaits changed from old to new, and the messages that end in the piece were
+-- appended to these.
+abbrev pub IsFedBy : {A : Type 0} → Awaited → List ℕ → Awaited → List (Message A) → List (Message A) → Type 0
+IsFedBy {A} old piece new before after = (more : List (Message A)) × (after ≡ before ++ more)
+    × ((stream : List ℕ) (given : List Received) → Fed old stream given → Fed new (stream ++ piece) (given ++ all_received more))

@@ -25,6 +25,7 @@ mod session_laws;
 mod side;
 mod step;
 mod transmission;
+mod whole;
 
 pub use action::{Action, Actions, SENT_MOST};
 pub use channel::Channel;

@@ -1,5 +1,6 @@
 // The received part of an incomplete message.
-ghost use Rattle.std.specs.Prelude.{◌≡◌, IfSome, IsNone};
+ghost use Rattle.std.specs.Prelude.{◌≡◌, [], IsTrue, IfSome, IsNone};
+ghost use Rattle.psu_hislip.specs.Channel.Awaited.{Partial};
 ghost use Rattle.psu_hislip.specs.Rest.{awaited, IsRest, IsBegun};
 
 use arrayvec::ArrayVec;
@@ -19,6 +20,16 @@ pub enum Rest<A: Allocator + Copy> {
 }
 
 impl<A: Allocator + Copy> Rest<A> {
+    /// Returns whether no byte has been received.
+    pub fn is_empty(&self) -> bool
+        ensures { IsTrue result → awaited self.now ≡ Partial [] }
+    {
+        match self {
+            Rest::Header(head) => head.is_empty(),
+            _ => false,
+        }
+    }
+
     /// Returns a copy without allocating, or `None` where a payload has begun.
     pub fn copied(&self) -> Option<Rest<A>>
         requires { IsRest self.now }

@@ -1,5 +1,5 @@
 // One step through a stream.
-ghost use Rattle.std.specs.Prelude.{◌≡◌, ℕ, ◌<◌, ◌≤◌, [], ◌++◌, List, length, take, IfOk};
+ghost use Rattle.std.specs.Prelude.{◌≡◌, ℕ, ◌+◌, ◌-◌, ◌^◌, ◌<◌, ◌≤◌, [], ◌++◌, List, length, take, IfOk};
 ghost use Rattle.psu_hislip.specs.Channel.{Moves};
 ghost use Rattle.psu_hislip.specs.Channel.Awaited.{Partial, Passing};
 ghost use Rattle.psu_hislip.specs.Header.{header_bytes, Fits};
@@ -11,7 +11,7 @@ use arrayvec::ArrayVec;
 use std::alloc::{AllocError, Allocator};
 
 /// The maximum size of a payload that is kept, in bytes.
-const MOST: u64 = 65_536;
+pub const MOST: u64 = 65_536;
 
 /// One step through a stream, up to the end of a message or of a piece.
 #[derive(Drop)]
@@ -24,15 +24,18 @@ pub struct Step<A: Allocator + Copy> {
     pub rest: Rest<A>,
 }
 
-// Decodes a complete header.
+// Decodes a complete header. `used` bytes of the piece complete it and `after` follows them: where that contains the whole
+// payload, the frame is complete too.
 fn headed<A: Allocator + Copy>(
     alloc: A,
     bytes: &[u8; 16],
     used: usize,
+    after: &[u8],
 ) -> Result<Step<A>, AllocError>
-    ensures used { IfOk result (λ step. step.used ≡ used) }
+    requires { used + length after.now < 2 ^ 64 }
+    ensures used { IfOk result (λ step. (used ≤ step.used) × (step.used ≤ used + length after.now)) }
     ensures rest { IfOk result (λ step. IsRest step.rest) }
-    ensures moves { IfOk result (λ step. Moves (Partial bytes.now) [] (given step.message) (awaited step.rest)) }
+    ensures moves { IfOk result (λ step. Moves (Partial bytes.now) (take (step.used - used) after.now) (given step.message) (awaited step.rest)) }
 {
     let Some(header) = Header::read(bytes) else {
         return Ok(Step {
@@ -48,22 +51,22 @@ fn headed<A: Allocator + Copy>(
             rest: Rest::Passing(header.length),
         });
     }
-    if header.length == 0 {
+    let wanted = header.length as usize;
+    if after.len() < wanted {
         return Ok(Step {
             used,
-            message: Some(Message::Frame(header, Vec::new(alloc))),
-            rest: Rest::Header(ArrayVec::new()),
+            message: None,
+            rest: Rest::Payload(header, Vec::with_capacity(alloc, wanted)?),
         });
     }
-    let payload = Vec::with_capacity(alloc, header.length as usize)?;
     Ok(Step {
-        used,
-        message: None,
-        rest: Rest::Payload(header, payload),
+        used: used + wanted,
+        message: Some(Message::Frame(header, Vec::from_slice(alloc, &after[..wanted])?)),
+        rest: Rest::Header(ArrayVec::new()),
     })
 }
 
-// Takes bytes of a header.
+// Takes bytes of a header, and its payload where the piece contains the whole of it.
 fn header<A: Allocator + Copy>(
     alloc: A,
     head: ArrayVec<u8, 16>,
@@ -77,9 +80,10 @@ fn header<A: Allocator + Copy>(
 {
     let mut head = head;
     let used = piece.len().min(16 - head.len());
-    head.try_extend_from_slice(&piece[..used]).unwrap();
+    let (part, after) = piece.split_at(used);
+    head.try_extend_from_slice(part).unwrap();
     match head.into_inner() {
-        Ok(bytes) => headed(alloc, &bytes, used),
+        Ok(bytes) => headed(alloc, &bytes, used, after),
         Err(head) => Ok(Step {
             used,
             message: None,

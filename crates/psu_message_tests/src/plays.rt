@@ -4,6 +4,7 @@ use crate::holds::holds;
 use crate::log::{Log, Turn};
 use crate::probe::{Probe, Stopped};
 use crate::spelled::{input, spelled};
+use psu_answers::ResponseBuffer;
 use psu_exec::Session;
 use psu_messages::{Input, Need, Transmission};
 use psu_tables::row;
@@ -39,7 +40,7 @@ fn runs_to_end(
     log: &mut Log,
     input: Input<Global>,
 ) -> bool {
-    let mut transmission = Transmission::new(alloc, input);
+    let mut transmission = Transmission::new(alloc, input, ResponseBuffer::new(alloc));
     for _ in 0..WAITS {
         match goes(alloc, exec, session, log, &mut transmission) {
             Ok(None) => return true,

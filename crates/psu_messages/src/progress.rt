@@ -21,15 +21,18 @@ pub struct Progress<A: Allocator + Copy> {
 }
 
 impl<A: Allocator + Copy> Progress<A> {
-    /// The progress before anything is done.
-    pub fn new(alloc: A) -> Progress<A>
+    /// The progress before anything is done. The response buffer may be that of another transmission: it is emptied,
+    /// and keeps its allocation.
+    pub fn new(buffer: ResponseBuffer<A>) -> Progress<A>
         ensures { progress_of result ≡ beginning }
     {
+        let mut gathered = buffer;
+        gathered.restart();
         Progress {
             units: 0,
             expansion: None,
             parked: false,
-            gathered: ResponseBuffer::new(alloc),
+            gathered,
         }
     }
 }

@@ -7,6 +7,7 @@ ghost use Rattle.psu_messages.specs.Units.{source_of};
 use crate::cursor::Place;
 use crate::messages::{execute_fault, execute_rest};
 use crate::{Executor, Input, Need, Progress};
+use psu_answers::ResponseBuffer;
 use std::alloc::Allocator;
 use std::marker::Model;
 
@@ -33,8 +34,9 @@ impl<A: Allocator + Copy> Model for Transmission<A> {
 }
 
 impl<A: Allocator + Copy> Transmission<A> {
-    /// Returns a transmission of which nothing is done.
-    pub fn new(alloc: A, input: Input<A>) -> Transmission<A>
+    /// Returns a transmission of which nothing is done. Its response buffer may be that of another one, whose allocation it
+    /// takes over.
+    pub fn new(alloc: A, input: Input<A>, buffer: ResponseBuffer<A>) -> Transmission<A>
         ensures source { result.source ≡ source_of input }
         ensures progress { result.progress ≡ beginning }
     {
@@ -42,8 +44,14 @@ impl<A: Allocator + Copy> Transmission<A> {
         Transmission {
             input,
             place: Place::start(alloc, size),
-            progress: Progress::new(alloc),
+            progress: Progress::new(buffer),
         }
+    }
+
+    /// Ends the transmission, and returns its response buffer for another one.
+    pub fn into_buffer(self) -> ResponseBuffer<A> {
+        let progress = self.progress;
+        progress.gathered
     }
 
     /// Returns what is executed.

@@ -15,6 +15,7 @@ use psu_session::Session;
 use psu_session_io::{Link, ReadResult, ServedSession};
 use psu_threads::{Reporter, SILENCE, Server, space};
 use std::alloc::Global;
+use std::collections::VecDeque;
 use std::io::{self, ErrorKind};
 use std::rt::Clock;
 use std::sync::{Arc, Wait};
@@ -65,15 +66,16 @@ struct FirstMessage {
 
 impl FirstMessage {
     // Adds a byte. Returns what the first message requests once it is whole.
-    fn push(&mut self, byte: u8) -> io::Result<Option<First>>
+    fn push(&mut self, alloc: Global, byte: u8) -> io::Result<Option<First>>
         ensures bytes { IfOk result (λ _. self.new.bytes.items ≡ self.old.bytes.items ++ byte ∷ []) }
         ensures whole { Fed self.old.channel self.old.bytes.items [] → IfOk result (λ some. IfSome some (λ first. IsFirst first self.new.bytes.items)) }
         ensures fed { Fed self.old.channel self.old.bytes.items [] → IfOk result (λ some. IsNone some → Fed self.new.channel self.new.bytes.items []) }
     {
         self.bytes.push(byte)?;
-        let messages = self.channel.feed(&[byte])?;
-        match messages.first() {
-            Some(message) => Ok(Some(First::of(message))),
+        let mut messages = VecDeque::new(alloc);
+        self.channel.feed(&[byte], &mut messages)?;
+        match messages.pop_front() {
+            Some(message) => Ok(Some(First::of(&message))),
             None => Ok(None),
         }
     }
@@ -87,7 +89,7 @@ impl FirstMessage {
         ensures fed { Fed self.old.channel self.old.bytes.items [] → IfOk result (λ some. IsNone some → Fed self.new.channel self.new.bytes.items []) }
     {
         for place in 0..bytes.len() {
-            if let Some(first) = self.push(bytes[place])? {
+            if let Some(first) = self.push(alloc, bytes[place])? {
                 let after = bytes[place + 1..].to_vec(alloc)?;
                 return Ok(Some(Opening {
                     first,

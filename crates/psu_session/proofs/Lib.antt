@@ -26,3 +26,4 @@ pub mod Ordering
 pub mod SomeExchange
 pub mod Stopping
 pub mod Interrupting
+pub mod Rooms

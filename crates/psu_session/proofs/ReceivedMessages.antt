@@ -6,13 +6,13 @@ use Rattle.std.proofs.lemmas.List.{append-nil}
 use Rattle.std.specs.List.{list_any}
 use Rattle.psu_hislip.specs.Action.{Act, act, acts}
 use Rattle.psu_hislip.specs.Channel.{Awaited, Fed}
-use Rattle.psu_hislip.specs.Rest.{all_received}
+use Rattle.psu_hislip.specs.Rest.{IsFedBy, all_received}
 use Rattle.psu_hislip.specs.Stream.{Received, received}
 use Rattle.psu_hislip.specs.declared.action.Action.{Action}
 use Rattle.psu_hislip.specs.declared.message.Message.{Message}
 use Rattle.psu_hislip.specs.declared.side.Side.{Side}
 use Rattle.psu_session.specs.Events.{Call, Event, calls}
-use Rattle.psu_session.specs.Step.{EachReceived, IsMessageReceived}
+use Rattle.psu_session.specs.Step.{EachReceived, Feeds, IsMessageReceived}
 use Rattle.psu_session.specs.Serving.{PerformsStep, Runs}
 use Rattle.psu_session.specs.State.{State}
 use Rattle.psu_session.proofs.Serving.{runs_after}
@@ -61,3 +61,15 @@ pub only_one : {A : Type 0} (messages : List (Message A)) (channel : Awaited) (s
 only_one [] channel stream one fed = absurd (omega (arith, one))
 only_one (message ∷ []) channel stream one fed = (received message, fed)
 only_one (message ∷ next ∷ messages) channel stream one fed = absurd (omega (arith, one))
+
+-- the messages that a channel appends to an empty list
+pub fed_all : {A : Type 0} (old new : Awaited) (bytes : List ℕ) (before after : List (Message A)) → before ≡ [] → IsFedBy old bytes new before after → Feeds old bytes (map received after) new
+fed_all old new bytes before after none fed stream given f =
+    let are : map received after ≡ map received fed.0 = ap (map received) (fed.1 ∙ ap (λ (z : List (Message _)). z ++ fed.0) none) in
+    subst (λ (z : List Received). Fed new (stream ++ bytes) (given ++ z)) (are_received fed.0 ∙ sym are) (fed.2 stream given f)
+
+-- a new channel of which a feed completes one message
+pub one_fed : {A : Type 0} (old new : Awaited) (bytes : List ℕ) (before after : List (Message A)) → before ≡ [] → IsFedBy old bytes new before after → Fed old [] [] → length after ≡ 1
+    → (first : Received) × Fed new bytes (first ∷ [])
+one_fed old new bytes before after none fed start one =
+    only_one after new bytes one (subst (λ (z : List (Message _)). Fed new bytes (all_received z)) (sym (fed.1 ∙ ap (λ (z : List (Message _)). z ++ fed.0) none)) (fed.2 [] [] start))

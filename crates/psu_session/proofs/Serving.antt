@@ -1,5 +1,5 @@
 -- The effects of calls, one after another.
-use Rattle.std.proofs.Common.{◌≡◌, ℕ, Bool, true, false, Option, Some, None, List, [], ◌∷◌, ◌++◌, refl, sym, ap, ◌∙◌, subst, append_assoc, ◌+◌, Result, Ok, Err, OnOk}
+use Rattle.std.proofs.Common.{◌≡◌, ℕ, Bool, true, false, Option, Some, None, List, [], ◌∷◌, ◌++◌, refl, sym, ap, ◌∙◌, subst, append_assoc, ◌+◌, Result, Ok, Err, IfOk, OnOk}
 use Rattle.std.specs.Prelude.{flat_map}
 use Rattle.std.proofs.lemmas.List.{append-nil}
 use Rattle.std.proofs.lemmas.List.Concat.{flat_map-append}
@@ -17,6 +17,10 @@ use Rattle.psu_session.specs.State.{Release, State, Work, added, order_of_work, 
 pub on_ok : {T E P Q : Type 0} (r : Result T E) → (P → Q) → OnOk r P → OnOk r Q
 on_ok (Ok x) f p = f p
 on_ok (Err e) f p = tt
+
+pub on_if_ok : {T E : Type 0} {P Q : T → Type 0} (r : Result T E) → ((x : T) → P x → Q x) → IfOk r P → IfOk r Q
+on_if_ok (Ok x) f p = f x p
+on_if_ok (Err e) f p = tt
 
 pub put-append : (side : Side) (xs ys : List Event) → put side (xs ++ ys) ≡ put side xs ++ put side ys
 put-append side xs ys = flat_map-append (put_by side) xs ys

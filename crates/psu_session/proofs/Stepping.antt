@@ -1,18 +1,18 @@
 -- Steps of a session, one after another.
-use Rattle.std.proofs.Common.{◌≡◌, ℕ, ◌-◌, Option, Some, None, List, [], ◌∷◌, ◌++◌, refl, sym, ap, ◌∙◌, subst, append_assoc, inl, inr, false, Result, Ok, Err, is_err, OnOk, IfOk, IfSome, IsNone}
+use Rattle.std.proofs.Common.{◌≡◌, ℕ, ◌-◌, true, Option, Some, None, is_some, List, [], ◌∷◌, ◌++◌, refl, sym, ap, ◌∙◌, subst, append_assoc, inl, inr, false, Result, Ok, Err, is_err, OnOk, IfOk, IfSome, IsNone}
 use Rattle.std.proofs.lemmas.List.{append-nil}
-use Rattle.psu_hislip.specs.Answer.{answer_size}
 use Rattle.psu_hislip.specs.Core.{IsCurrent}
-use Rattle.psu_messages.specs.Units.{Source}
 use Rattle.psu_messages.specs.Executions.{Progress, IsOver, beginning}
-use Rattle.psu_session.specs.Exchange.{Order, frames}
+use Rattle.psu_session.specs.Exchange.{Order}
 use Rattle.psu_session.specs.Credit.{cost, cost_of}
 use Rattle.psu_session.specs.Events.{Call, Event, LockReleased}
-use Rattle.psu_session.specs.Step.{AreFramed, IsReachable, Step, Steps, running, happened}
+use Rattle.psu_session.specs.Step.{IsReachable, Step, Steps, running, happened}
 use Rattle.psu_session.specs.Step.Step.{Begins, Works, Ends, ReleasesLock}
 use Rattle.psu_session.specs.Step.Steps.{Still, Then}
 use Rattle.psu_session.specs.Proceeding.{Frees, Proceeds, IsNext, IsNextRelease}
 use Rattle.psu_session.specs.Serving.{AdvancesOrder, PerformsStep}
+use Rattle.psu_session.specs.Shown.{one_running, running_of}
+use Rattle.psu_session.specs.declared.running.Running as declared
 use Rattle.psu_session.specs.State.{Running, State, Work, Execute, added, with_held, with_owed, with_work, with_output}
 use Rattle.psu_session.specs.declared.proceeded.Proceeded.TheVariants.{Idle, Completed, Waits}
 use Rattle.psu_messages.specs.declared.need.Need.{Need}
@@ -31,98 +31,108 @@ steps_then {s} {xs} {t} {u} p m = subst (λ (z : List Event). Steps s z u) (appe
 
 -- ---- the next transmission
 
-pub next_running : (s : State) (next : Running) (t : State) → s.running ≡ Some next → t ≡ with_work s s.waiting None → IsNext s next t
-next_running s next t is then = record {
+-- it is in execution
+pub next_running : (s : State) (next : Running) (t : State) → s.running ≡ Some next → t ≡ s → IsNext s next t
+next_running s next t is same = record {
   later = s.waiting;
   first = inl (next.progress, is, refl);
-  then = then;
-  steps = subst (λ (z : Option Running). Steps s [] (with_work s s.waiting z)) is Still;
+  then = same ∙ ap (λ (z : Option Running). with_work s s.waiting z) is;
+  steps = subst (λ (z : State). Steps s [] z) (sym same) Still;
 }
 
--- the same transmission, by its origin and what is executed
-pub next_same : (s t : State) (order : Order) (source : Source) (progress : Progress) → source ≡ order.source → IsNext s (running order progress) t → IsNext s (running (record { origin = order.origin; source = source }) progress) t
-next_same s t order source progress same next = subst (λ (z : Source). IsNext s (running (record { origin = order.origin; source = z }) progress) t) (sym same) next
-
-pub next_begins : (s : State) (order : Order) (progress : Progress) (later : List Work) (t : State) → progress ≡ beginning → s.running ≡ None → s.waiting ≡ Execute order ∷ later → t ≡ with_work s later None → IsNext s (running order progress) t
-next_begins s order progress later t new none is then = record {
+-- it has begun
+pub next_begins : (s : State) (order : Order) (later : List Work) (t : State) → s.running ≡ None → s.waiting ≡ Execute order ∷ later → t ≡ with_work s later (Some (running order beginning)) → IsNext s (running order beginning) t
+next_begins s order later t none is then = record {
   later = later;
   first = inr (none, is);
   then = then;
-  steps = subst (λ (z : Progress). Steps s [] (with_work s later (Some (running order z)))) (sym new)
-      (one_step (Begins (record { order = order; later = later; none = none; first = is; are = refl; then = refl })));
+  steps = subst (λ (z : State). Steps s [] z) (sym then) (one_step (Begins (record { order = order; later = later; none = none; first = is; are = refl; then = refl })));
 }
+
+-- whether one is in execution
+pub some_running : (r : Option declared.Running) → is_some r ≡ true → (first : Running) × (running_of r ≡ Some first)
+some_running (Some r) e = (one_running r, refl)
+some_running None e = absurd (cc (e))
+
+pub none_running : (r : Option declared.Running) → is_some r ≡ false → running_of r ≡ None
+none_running (Some r) e = absurd (cc (e))
+none_running None e = refl
+
+-- the one in execution is next
+pub next_is : (r : Option declared.Running) (one : declared.Running) (s : State) (next : Running) (t : State) → r ≡ Some one → running_of r ≡ t.running → IsNext s next t → one_running one ≡ next
+next_is r one s next t is shown n = let e : Some (one_running one) ≡ Some next = sym (ap running_of is) ∙ shown ∙ ap (λ (z : State). z.running) n.then in cc (e)
+
+-- no transmission is next where none is in execution
+pub none_next : (s : State) (next : Running) (t : State) → t.running ≡ None → IsNext s next t → ⊥
+none_next s next t none n = let e = sym none ∙ ap (λ (z : State). z.running) n.then in absurd (cc (e))
 
 -- ---- the result of a call
 
-module _ {X : Type 0} (does : X → Call → X → Type 0) where
-  pub dropped : (s : State) (next : Running) (t : State) (x : X) → IsNext s next t → (IsCurrent t.core next.order.origin → ⊥) → PerformsStep does (Proceeds Completed) s x (with_held t (t.held - cost_of next.order)) x
-  dropped s next t x n gone = record {
+module _ {X : Type 0} (does : X → Call → X → Type 0) (s : State) (next : Running) (t : State) (x : X) (n : IsNext s next t) where
+  in_execution : t.running ≡ Some next
+  in_execution = ap (λ (z : State). z.running) n.then
+
+  -- the state once the transmission has ended
+  abbrev ended : State → State
+  ended u = with_held (with_work u u.waiting None) (u.held - cost_of next.order)
+
+  pub dropped : (IsCurrent t.core next.order.origin → ⊥) → PerformsStep does (Proceeds Completed) s x (ended t) x
+  dropped gone = record {
     done = [];
     is = record {
-      steps = subst (λ (z : State). Steps s [] (with_held z (z.held - cost_of next.order))) (sym n.then)
-          (steps_then n.steps
-          (Ends (record {
-            order = next.order;
-            progress = next.progress;
-            is = refl;
-            ended = inr (subst (λ (z : State). IsCurrent z.core next.order.origin → ⊥) n.then gone);
-            are = refl;
-            then = refl;
-          })));
-      ends = inl (record { order = next.order; later = n.later; first = n.first; none = ap (λ (z : State). z.running) n.then; left = ap (λ (z : State). z.waiting) n.then });
+      steps = steps_then n.steps (Ends (record { order = next.order; progress = next.progress; is = in_execution; ended = inr gone; are = refl; then = refl }));
+      ends = inl (record { order = next.order; later = n.later; first = n.first; none = refl; left = ap (λ (z : State). z.waiting) n.then });
     };
     runs = refl;
   }
 
+  -- the transmission has got so far
+  abbrev reached : Progress → List ℕ → State
+  reached new output = with_output Sync (with_work t t.waiting (Some (running next.order new))) output
+
   -- effects of the next transmission
-  worked : (s : State) (order : Order) (progress : Progress) (later : List Work) (t : State) (x : X) (new : Progress) (output : List ℕ) (y : X) → Steps s [] (with_work s later (Some (running order progress))) → t ≡ with_work s later None → IsCurrent t.core order.origin
-      → (a : AdvancesOrder does t.core order progress t.sync x new output y) → Steps s (happened order.origin (a.effects_done)) (with_output Sync (with_work s later (Some (running order new))) output)
-  worked s order progress later t x new output y steps is current a =
-      steps_on steps
+  worked : (new : Progress) (output : List ℕ) (y : X) → IsCurrent t.core next.order.origin → (a : AdvancesOrder does t.core next.order next.progress t.sync x new output y)
+      → Steps s (happened next.order.origin (a.effects_done)) (reached new output)
+  worked new output y current a =
+      steps_on n.steps
       (one_step (Works (record {
-        order = order;
-        progress = progress;
+        order = next.order;
+        progress = next.progress;
         new = new;
         effects_done = a.effects_done;
-        is = refl;
-        current = subst (λ (z : State). IsCurrent z.core order.origin) is current;
+        is = in_execution;
+        current = current;
         reaches = a.reaches;
-        framed = subst (λ (z : State). AreFramed (answer_size z.core.size) order.origin.id a.effects_done) is a.framed;
+        framed = a.framed;
         are = refl;
-        then = ap (λ (z : List ℕ). with_output Sync (with_work s later (Some (running order new))) z) (a.output ∙ ap (λ (z : State). z.sync ++ frames a.effects_done) is);
+        then = ap (λ (z : List ℕ). reached new z) a.output;
       })))
 
   -- the transmission waits
-  pub waits : (s : State) (next : Running) (t : State) (x : X) (new : Progress) (output : List ℕ) (y : X) (same : Order) (need : Need) → IsNext s next t → IsCurrent t.core next.order.origin
-      → AdvancesOrder does t.core next.order next.progress t.sync x new output y → same ≡ next.order → PerformsStep does (Proceeds (Waits need)) s x (with_output Sync (with_work t t.waiting (Some (running same new))) output) y
-  waits s next t x new output y same need n current a are =
-      let is : with_output Sync (with_work t t.waiting (Some (running same new))) output ≡ with_output Sync (with_work s n.later (Some (running next.order new))) output
-      = ap (λ (z : State). with_output Sync (with_work z z.waiting (Some (running same new))) output) n.then ∙ ap (λ (z : Order). with_output Sync (with_work s n.later (Some (running z new))) output) are in
-      record {
-        done = happened next.order.origin a.effects_done;
-        is = record {
-          steps = subst (λ (z : State). Steps s (happened next.order.origin a.effects_done) z) (sym is) (worked s next.order next.progress n.later t x new output y n.steps n.then current a);
-          ends = record { order = next.order; later = n.later; first = n.first; progress = new; same = ap (λ (z : State). z.running) is; left = ap (λ (z : State). z.waiting) is };
-        };
-        runs = a.runs;
-      }
+  pub waits : (new : Progress) (output : List ℕ) (y : X) (need : Need) → IsCurrent t.core next.order.origin
+      → AdvancesOrder does t.core next.order next.progress t.sync x new output y → PerformsStep does (Proceeds (Waits need)) s x (reached new output) y
+  waits new output y need current a = record {
+    done = happened next.order.origin a.effects_done;
+    is = record {
+      steps = worked new output y current a;
+      ends = record { order = next.order; later = n.later; first = n.first; progress = new; same = refl; left = ap (λ (z : State). z.waiting) n.then };
+    };
+    runs = a.runs;
+  }
 
   -- it is over
-  pub over : (s : State) (next : Running) (t : State) (x : X) (new : Progress) (output : List ℕ) (y : X) → IsNext s next t → IsCurrent t.core next.order.origin
-      → AdvancesOrder does t.core next.order next.progress t.sync x new output y → IsOver next.order.source new → PerformsStep does (Proceeds Completed) s x (with_held (with_output Sync t output) (t.held - cost_of next.order)) y
-  over s next t x new output y n current a ended =
-      let is : with_held (with_output Sync t output) (t.held - cost_of next.order) ≡ with_held (with_output Sync (with_work s n.later None) output) (s.held - cost_of next.order)
-      = ap (λ (z : State). with_held (with_output Sync z output) (z.held - cost_of next.order)) n.then in
-      record {
-        done = happened next.order.origin a.effects_done;
-        is = record {
-          steps = subst (λ (z : State). Steps s (happened next.order.origin a.effects_done) z) (sym is)
-              (steps_then (worked s next.order next.progress n.later t x new output y n.steps n.then current a) (Ends (record { order = next.order; progress = new; is = refl; ended = inl ended; are = refl; then = refl })));
-          ends = inl (record { order = next.order; later = n.later; first = n.first; none = ap (λ (z : State). z.running) is; left = ap (λ (z : State). z.waiting) is });
-        };
-        runs = a.runs;
-      }
+  pub over : (new : Progress) (output : List ℕ) (y : X) → IsCurrent t.core next.order.origin
+      → AdvancesOrder does t.core next.order next.progress t.sync x new output y → IsOver next.order.source new → PerformsStep does (Proceeds Completed) s x (ended (reached new output)) y
+  over new output y current a is_over = record {
+    done = happened next.order.origin a.effects_done;
+    is = record {
+      steps = steps_then (worked new output y current a) (Ends (record { order = next.order; progress = new; is = refl; ended = inl is_over; are = refl; then = refl }));
+      ends = inl (record { order = next.order; later = n.later; first = n.first; none = refl; left = ap (λ (z : State). z.waiting) n.then });
+    };
+    runs = a.runs;
+  }
 
+module _ {X : Type 0} (does : X → Call → X → Type 0) where
   -- a lock is released
   pub freed : (s t u : State) (x y : X) → IsNextRelease s t → Frees does t x u y → PerformsStep does (Proceeds Completed) s x u y
   freed s t u x y n f =

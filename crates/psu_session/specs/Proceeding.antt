@@ -13,7 +13,6 @@ use Rattle.psu_session.specs.Credit.{cost}
 use Rattle.psu_session.specs.Events.{Call, Event, LockReleased, Released, call_of}
 use Rattle.psu_session.specs.Step.{Steps, running}
 use Rattle.psu_session.specs.State.{Running, State, Work, Execute, ReleaseLock, added, with_owed, with_work}
-use Rattle.psu_session.specs.Shown.{one_running}
 use Rattle.psu_session.specs.declared.next.Next.{Next}
 use Rattle.psu_session.specs.declared.next.Next.TheVariants as next
 use Rattle.psu_session.specs.declared.proceeded.Proceeded.{Proceeded}
@@ -23,12 +22,12 @@ use Rattle.psu_session.specs.declared.proceeded.Proceeded.TheVariants.{Idle, Com
 abbrev pub IsFirst : State → Order → List Work → Type 0
 IsFirst s order later = ((progress : Progress) × (s.running ≡ Some (running order progress)) × (s.waiting ≡ later)) ⊎ ((s.running ≡ None) × (s.waiting ≡ Execute order ∷ later))
 
--- the next transmission was taken, with its progress
+-- the next transmission is in execution, with its progress: it was, or it has begun
 pub record IsNext (s : State) (next : Running) (t : State) : Type 0 where
   pub later : List Work
   pub first : IsFirst s next.order later
-  pub then : t ≡ with_work s later None
-  pub steps : Steps s [] (with_work s later (Some next))
+  pub then : t ≡ with_work s later (Some next)
+  pub steps : Steps s [] t
 
 -- the next item of the queue is a release, which was taken
 pub record IsNextRelease (s : State) (t : State) : Type 0 where
@@ -83,9 +82,10 @@ pub record Proceeds (proceeded : Proceeded) (s : State) (done : List Event) (t :
   pub steps : Steps s done t
   pub ends : Ends proceeded s t
 
--- this was taken
+-- this is executed next
 abbrev pub IsNextWork : State → Next → State → Type 0
-IsNextWork s (next.Order running) t = IsNext s (one_running running) t
+IsNextWork s next.Nothing t = (t ≡ s) × (s.running ≡ None) × (s.waiting ≡ [])
+IsNextWork s next.Transmission t = (first : Running) × IsNext s first t
 IsNextWork s next.Release t = IsNextRelease s t
 
 -- the device releases a lock, and the response to its reply is appended to the output

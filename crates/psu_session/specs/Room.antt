@@ -14,3 +14,7 @@ HasRoom parts =
     HasReplyRoom parts
     × (deque_len parts.waiting < deque_capacity parts.waiting)
     × (deque_len parts.releases < deque_capacity parts.releases)
+
+-- The output of the asynchronous connection has at least the capacity that it had.
+abbrev pub KeepsCapacity : Parts → Parts → Type 0
+KeepsCapacity old new = vec_capacity old.async_output ≤ vec_capacity new.async_output

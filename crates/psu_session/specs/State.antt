@@ -1,5 +1,5 @@
 -- The state of a session between its calls.
-use Rattle.std.specs.Prelude.{◌≢◌, ◌⊎◌, ℕ, ◌+◌, ◌-◌, ◌||◌, not, nat_le, Bool, false, Option, Some, None, List, [], ◌∷◌, ◌++◌, flat_map, if◌then◌else◌}
+use Rattle.std.specs.Prelude.{◌≡◌, ◌≢◌, ◌⊎◌, ℕ, ◌+◌, ◌-◌, ◌||◌, not, nat_le, Bool, false, Option, Some, None, List, [], ◌∷◌, ◌++◌, flat_map, if◌then◌else◌}
 use Rattle.psu_hislip.specs.Channel.{Awaited}
 use Rattle.psu_hislip.specs.Core.{Core}
 use Rattle.psu_hislip.specs.Runs.{started}
@@ -171,3 +171,8 @@ settled all now s = with_releases s (s.waiting ++ due all now s.last s.releases)
 pub record Shown : Type 0 where
   pub over : Bool
   pub state : State
+
+-- A step that was completed has left the session over only where the output of the asynchronous connection has changed,
+-- so that room for the next reply had to be made.
+abbrev pub Continues : Shown → Shown → Type 0
+Continues old new = new.state.async ≡ old.state.async → new.over ≡ false

@@ -8,7 +8,7 @@ ghost use Rattle.psu_session.specs.Locking.{kind_of};
 ghost use Rattle.psu_session.specs.Events.{Put, calls};
 ghost use Rattle.psu_session.specs.Step.{Does, IsInformed, IsLocked, IsQueried, delivers, puts, release_in, works_in};
 ghost use Rattle.psu_session.specs.Serving.{Appends, Runs};
-ghost use Rattle.psu_session.specs.Room.{HasReplyRoom, HasRoom};
+ghost use Rattle.psu_session.specs.Room.{HasReplyRoom, HasRoom, KeepsCapacity};
 ghost use Rattle.psu_session.specs.Shown.{order_of, state_of};
 ghost use Rattle.psu_session.specs.State.{Execute, added};
 
@@ -34,7 +34,8 @@ fn deliver<D: Device>(device: &mut D, is_delivered: bool)
 impl Parts {
     // Appends frames to the output of a connection.
     pub(crate) fn put(&mut self, side: Side, frames: &[u8]) -> Result<(), Ended>
-        ensures { OnOk result (state_of self.new ≡ added (state_of self.old) [] [] (Put side frames.now ∷ [])) }
+        ensures done { OnOk result (state_of self.new ≡ added (state_of self.old) [] [] (Put side frames.now ∷ [])) }
+        ensures capacity { KeepsCapacity self.old self.new }
     {
         match side {
             Side::Sync => {
@@ -50,7 +51,8 @@ impl Parts {
     // Appends a message without payload to the output of the asynchronous connection.
     pub(crate) fn put_header(&mut self, header: Header)
         requires { HasReplyRoom self.old }
-        ensures { state_of self.new ≡ added (state_of self.old) [] [] (puts header) }
+        ensures done { state_of self.new ≡ added (state_of self.old) [] [] (puts header) }
+        ensures capacity { KeepsCapacity self.old self.new }
     {
         self.async_output
             .extend_from_slice(&header.bytes())
@@ -63,6 +65,7 @@ impl Parts {
         requires { HasRoom self.old }
         ensures done { OnOk result (state_of self.new ≡ added (state_of self.old) (Execute (order_of (record { origin = origin; input = input })) ∷ []) [] []) }
         ensures refused { OnErr result (4194304 < (state_of self.old).held + cost_of (order_of (record { origin = origin; input = input }))) }
+        ensures capacity { KeepsCapacity self.old self.new }
     {
         self.held.take(input.size())?;
         self.waiting
@@ -75,6 +78,7 @@ impl Parts {
         requires { HasRoom self.old }
         ensures done { OnOk result (state_of self.new ≡ added (state_of self.old) [] (record { number = number; requested_at = now } ∷ []) []) }
         ensures refused { OnErr result (4194304 < (state_of self.old).owed + cost 0) }
+        ensures capacity { KeepsCapacity self.old self.new }
     {
         self.owed.take(0)?;
         self.releases.push_back_reserved(Release {
@@ -87,7 +91,8 @@ impl Parts {
     // Answers a status query, after the last response counts as read if the client said so.
     fn answer_status<D: Device>(&mut self, device: &mut D, is_delivered: bool)
         requires { HasReplyRoom self.old }
-        ensures { Appends D.does (IsQueried is_delivered) [] [] (state_of self.old) device.old (state_of self.new) device.new }
+        ensures done { Appends D.does (IsQueried is_delivered) [] [] (state_of self.old) device.old (state_of self.new) device.new }
+        ensures capacity { KeepsCapacity self.old self.new }
     {
         deliver(device, is_delivered);
         let byte = device.query();
@@ -97,7 +102,8 @@ impl Parts {
     // Requests a lock. A request that waits is answered once it has a result.
     fn ask_for_lock<D: Device>(&mut self, device: &mut D, timeout: u32, kind: Kind)
         requires { HasReplyRoom self.old }
-        ensures { Appends D.does (IsLocked false timeout (Some kind)) [] [] (state_of self.old) device.old (state_of self.new) device.new }
+        ensures done { Appends D.does (IsLocked false timeout (Some kind)) [] [] (state_of self.old) device.old (state_of self.new) device.new }
+        ensures capacity { KeepsCapacity self.old self.new }
     {
         let reply = device.lock(kind, timeout);
         match lock_response(reply) {
@@ -110,7 +116,8 @@ impl Parts {
     // its result could else be taken for that of the first.
     fn answer_lock<D: Device>(&mut self, device: &mut D, timeout: u32, string: &[u8])
         requires { HasReplyRoom self.old }
-        ensures { Appends D.does (IsLocked (state_of self.old).lock_waits timeout (kind_of string.now)) [] [] (state_of self.old) device.old (state_of self.new) device.new }
+        ensures done { Appends D.does (IsLocked (state_of self.old).lock_waits timeout (kind_of string.now)) [] [] (state_of self.old) device.old (state_of self.new) device.new }
+        ensures capacity { KeepsCapacity self.old self.new }
     {
         if self.lock_waits {
             self.put_header(LockResponse::Error.header());
@@ -125,7 +132,8 @@ impl Parts {
     // Answers which locks are held.
     fn answer_info<D: Device>(&mut self, device: &mut D)
         requires { HasReplyRoom self.old }
-        ensures { Appends D.does IsInformed [] [] (state_of self.old) device.old (state_of self.new) device.new }
+        ensures done { Appends D.does IsInformed [] [] (state_of self.old) device.old (state_of self.new) device.new }
+        ensures capacity { KeepsCapacity self.old self.new }
     {
         let info = device.inform();
         self.put_header(lock_info_response(info));
@@ -143,6 +151,7 @@ impl Parts {
         requires { HasRoom self.old }
         ensures done { OnOk result (Appends D.does (Does (state_of self.old).lock_waits (act action)) (works_in (act action)) (release_in now number (act action)) (state_of self.old) device.old (state_of self.new) device.new) }
         ensures uncalled { OnErr result (device.new ≡ device.old) }
+        ensures capacity { KeepsCapacity self.old self.new }
     {
         match action {
             Action::Send(side, frames) => self.put(side, frames.as_slice()),

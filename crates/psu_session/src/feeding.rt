@@ -1,8 +1,8 @@
 // The bytes of a channel.
-ghost use Rattle.std.specs.Prelude.{◌≡◌, ◌⊎◌, IfOk, OnOk, OnErr, map};
+ghost use Rattle.std.specs.Prelude.{◌≡◌, ◌⊎◌, List, OnOk, OnErr, [], ◌++◌, map};
 ghost use Rattle.psu_hislip.specs.Stream.{received};
-ghost use Rattle.psu_hislip.specs.Channel.{Awaited};
 ghost use Rattle.psu_session.specs.Feeding.{IsFed};
+ghost use Rattle.psu_session.specs.Room.{KeepsCapacity};
 ghost use Rattle.psu_session.specs.Step.{EachReceived, IsReceived};
 ghost use Rattle.psu_session.specs.Serving.{PerformsStep};
 ghost use Rattle.psu_session.specs.Stopping.{StopsIn};
@@ -11,38 +11,42 @@ ghost use Rattle.psu_session.specs.Shown.{state_of};
 use crate::{Device, Ended, Parts};
 use psu_hislip::{Message, Side};
 use std::alloc::Global;
+use std::collections::VecDeque;
+use std::mem;
 
 impl Parts {
-    // Returns the messages that these next bytes of a channel's stream complete.
+    // Appends to an empty list the messages that these next bytes of a channel's stream complete.
     #[inline(always)]
-    fn feed(&mut self, side: Side, received_bytes: &[u8]) -> Result<Vec<Message<Global>>, Ended>
-        ensures { IfOk result (λ messages. IsFed side received_bytes.now (map received messages.items) (state_of self.old) (state_of self.new)) }
+    fn feed(
+        &mut self,
+        side: Side,
+        received_bytes: &[u8],
+        messages: &mut VecDeque<Message<Global>>,
+    ) -> Result<(), Ended>
+        requires { messages.old.items ≡ [] }
+        ensures fed { OnOk result (IsFed side received_bytes.now (map received messages.new.items) (state_of self.old) (state_of self.new)) }
+        ensures capacity { KeepsCapacity self.old self.new }
     {
         match side {
-            Side::Sync => {
-                let messages = self.sync_channel.feed(received_bytes)?;
-                Ok(messages)
-            }
-            Side::Async => {
-                let messages = self.async_channel.feed(received_bytes)?;
-                Ok(messages)
-            }
+            Side::Sync => self.sync_channel.feed(received_bytes, messages)?,
+            Side::Async => self.async_channel.feed(received_bytes, messages)?,
         }
+        Ok(())
     }
 
-    // Receives messages, one after another.
+    // Receives the messages of a list, one after another.
     fn receive_messages<D: Device>(
         &mut self,
         now: u64,
         side: Side,
-        messages: Vec<Message<Global>>,
+        messages: &mut VecDeque<Message<Global>>,
         device: &mut D,
     ) -> Result<(), Ended>
-        ensures done { OnOk result (PerformsStep D.does (EachReceived now side (map received messages.items)) (state_of self.old) device.old (state_of self.new) device.new) }
-        ensures stopped { OnErr result (StopsIn D.does (EachReceived now side (map received messages.items)) (state_of self.old) device.old device.new) }
+        ensures done { OnOk result (PerformsStep D.does (EachReceived now side (map received messages.old.items)) (state_of self.old) device.old (state_of self.new) device.new) }
+        ensures stopped { OnErr result (StopsIn D.does (EachReceived now side (map received messages.old.items)) (state_of self.old) device.old device.new) }
+        ensures capacity { KeepsCapacity self.old self.new }
     {
-        let mut rest = messages.into_iter();
-        while let Some(message) = rest.next() {
+        while let Some(message) = messages.pop_front() {
             self.receive_message(now, side, message, device)?;
         }
         Ok(())
@@ -59,8 +63,13 @@ impl Parts {
     ) -> Result<(), Ended>
         ensures done { OnOk result (PerformsStep D.does (IsReceived now side received_bytes.now) (state_of self.old) device.old (state_of self.new) device.new) }
         ensures stopped { OnErr result ((device.new ≡ device.old) ⊎ StopsIn D.does (IsReceived now side received_bytes.now) (state_of self.old) device.old device.new) }
+        ensures capacity { KeepsCapacity self.old self.new }
     {
-        let messages = self.feed(side, received_bytes)?;
-        self.receive_messages(now, side, messages, device)
+        let mut messages = mem::replace(&mut self.messages, VecDeque::new(self.alloc));
+        messages.clear();
+        self.feed(side, received_bytes, &mut messages)?;
+        self.receive_messages(now, side, &mut messages, device)?;
+        self.messages = messages;
+        Ok(())
     }
 }

@@ -1,12 +1,12 @@
 // What is executed next.
 
-use crate::Running;
-
 /// What is executed next.
-#[derive(Drop)]
+#[derive(Clone, Copy, Debug, PartialEq, Eq)]
 pub(crate) enum Next {
-    /// A transmission.
-    Order(Running),
+    /// Nothing.
+    Nothing,
+    /// The transmission in execution.
+    Transmission,
     /// The release of a lock.
     Release,
 }

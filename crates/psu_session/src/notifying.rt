@@ -1,6 +1,6 @@
 // Notifications of what other sessions cause.
 ghost use Rattle.std.specs.Prelude.{◌≡◌, []};
-ghost use Rattle.psu_session.specs.Room.{HasReplyRoom};
+ghost use Rattle.psu_session.specs.Room.{HasReplyRoom, KeepsCapacity};
 ghost use Rattle.psu_session.specs.Step.{IsServiceRequested, IsLockGranted};
 ghost use Rattle.psu_session.specs.Serving.{Appends};
 ghost use Rattle.psu_session.specs.Shown.{state_of};
@@ -15,6 +15,7 @@ impl Parts {
         requires { HasReplyRoom self.old }
         ensures done { Appends D.does (IsLockGranted (state_of self.old).lock_waits grant) [] [] (state_of self.old) device.old (state_of self.new) device.new }
         ensures uncalled { device.new ≡ device.old }
+        ensures capacity { KeepsCapacity self.old self.new }
     {
         if !self.lock_waits {
             return;
@@ -28,7 +29,8 @@ impl Parts {
     /// Sends the session's service request, if the device has one.
     pub fn service_requested<D: Device>(&mut self, device: &mut D)
         requires { HasReplyRoom self.old }
-        ensures { Appends D.does IsServiceRequested [] [] (state_of self.old) device.old (state_of self.new) device.new }
+        ensures done { Appends D.does IsServiceRequested [] [] (state_of self.old) device.old (state_of self.new) device.new }
+        ensures capacity { KeepsCapacity self.old self.new }
     {
         if let Some(byte) = device.fetch() {
             self.put_header(Header::new(MessageType::AsyncServiceRequest, byte, 0, 0));

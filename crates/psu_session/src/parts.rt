@@ -6,7 +6,8 @@ ghost use Rattle.psu_session.specs.State.{fresh};
 
 use crate::numbers::BEFORE_FIRST;
 use crate::{Credit, Release, Running, Work};
-use psu_hislip::{Channel, SessionCore};
+use psu_answers::ResponseBuffer;
+use psu_hislip::{Channel, Message, SessionCore};
 use std::alloc::Global;
 use std::collections::VecDeque;
 
@@ -41,6 +42,11 @@ pub struct Parts {
     pub held: Credit,
     /// How much the releases that are queued or wait count as.
     pub owed: Credit,
+    // Kept from one call to the next for their allocations:
+    /// The messages of a call that receives bytes; none between calls.
+    pub messages: VecDeque<Message<Global>>,
+    /// The response buffer for the next transmission, which was that of the one before.
+    pub buffer: ResponseBuffer<Global>,
 }
 
 impl Parts {
@@ -64,6 +70,8 @@ impl Parts {
             async_writes: false,
             held: Credit::new(),
             owed: Credit::new(),
+            messages: VecDeque::new(alloc),
+            buffer: ResponseBuffer::new(alloc),
         }
     }
 }

@@ -1,66 +1,99 @@
 // The execution of what is queued.
-ghost use Rattle.std.specs.Prelude.{◌≡◌, ◌↔◌, IsTrue, [], None, IfOk, IfSome, IsNone, OnErr};
+ghost use Rattle.std.specs.Prelude.{◌≡◌, ◌↔◌, ◌-◌, IsTrue, Some, None, IfOk, OnOk, OnErr};
+ghost use Rattle.psu_messages.specs.Executions.{beginning};
+ghost use Rattle.psu_session.specs.Credit.{cost_of};
 ghost use Rattle.psu_session.specs.Proceeding.{Awaits, Frees, Proceeds, IsNext, IsNextWork};
-ghost use Rattle.psu_session.specs.Room.{HasReplyRoom};
+ghost use Rattle.psu_session.specs.Room.{HasReplyRoom, KeepsCapacity};
 ghost use Rattle.psu_session.specs.Serving.{PerformsStep};
-ghost use Rattle.psu_session.specs.Shown.{one_running, state_of};
+ghost use Rattle.psu_session.specs.Shown.{order_of, state_of};
 ghost use Rattle.psu_session.specs.Stopping.{StopsNext};
-ghost use Rattle.psu_session.specs.State.{HasWork, State};
+ghost use Rattle.psu_session.specs.State as state;
+ghost use Rattle.psu_session.specs.State.{HasWork, State, with_held, with_work};
+ghost use Rattle.psu_session.specs.Step.{running};
 
 use crate::execution::advance;
 use crate::next::Next;
 use crate::{Device, Ended, Order, Parts, Proceeded, Running, Work};
+use psu_answers::ResponseBuffer;
 use psu_hislip::release_response;
 use psu_messages::Transmission;
 use std::mem;
 
 impl Parts {
-    // Takes the transmission in execution, or else the first item of the queue.
+    // Begins the execution of a transmission.
     #[inline(always)]
-    fn next(&mut self) -> Option<Next>
-        ensures some { IfSome result (λ next. IsNextWork (state_of self.old) next (state_of self.new)) }
-        ensures none { IsNone result → (state_of self.new ≡ state_of self.old) × ((state_of self.old).running ≡ None) × ((state_of self.old).waiting ≡ []) }
-        ensures room { HasReplyRoom self.old → HasReplyRoom self.new }
+    fn begin(&mut self, order: Order)
+        ensures begun { state_of self.new ≡ with_work (state_of self.old) (state_of self.old).waiting (Some (running (order_of order) beginning)) }
+        ensures capacity { KeepsCapacity self.old self.new }
     {
-        if !self.has_work() {
-            return None;
+        let Order { origin, input } = order;
+        let buffer = mem::replace(&mut self.buffer, ResponseBuffer::new(self.alloc));
+        self.running = Some(Running {
+            origin,
+            transmission: Transmission::new(self.alloc, input, buffer),
+        });
+    }
+
+    // Returns what is executed next. Where nothing is in execution, it is the first item of the queue, which is taken.
+    #[inline(always)]
+    fn begin_next(&mut self) -> Next
+        ensures next { IsNextWork (state_of self.old) result (state_of self.new) }
+        ensures room { HasReplyRoom self.old → HasReplyRoom self.new }
+        ensures capacity { KeepsCapacity self.old self.new }
+    {
+        if self.running.is_some() {
+            return Next::Transmission;
         }
-        if let Some(running) = mem::replace(&mut self.running, None) {
-            return Some(Next::Order(running));
-        }
-        match self.waiting.pop_front()? {
-            Work::Execute(order) => {
-                let Order { origin, input } = order;
-                let transmission = Transmission::new(self.alloc, input);
-                Some(Next::Order(Running {
-                    origin,
-                    transmission,
-                }))
+        match self.waiting.pop_front() {
+            None => Next::Nothing,
+            Some(Work::Execute(order)) => {
+                self.begin(order);
+                Next::Transmission
             }
-            Work::Release => Some(Next::Release),
+            Some(Work::Release) => Next::Release,
         }
     }
 
     // Releases a lock.
     fn release_lock<D: Device>(&mut self, device: &mut D)
         requires { HasReplyRoom self.old }
-        ensures { Frees D.does (state_of self.old) device.old (state_of self.new) device.new }
+        ensures frees { Frees D.does (state_of self.old) device.old (state_of self.new) device.new }
+        ensures capacity { KeepsCapacity self.old self.new }
     {
         self.owed.give_back(0);
         let freed = device.release();
         self.put_header(release_response(freed));
     }
 
-    // Continues a transmission that was taken.
-    #[inline(always)]
-    fn execute<D: Device>(&mut self, device: &mut D, running: Running) -> Result<Proceeded, Ended>
-        ensures waits { IfOk result (λ proceeded. Awaits D.does proceeded device.new) }
-        ensures done { IfOk result (λ proceeded. (s : State) → IsNext s (one_running running) (state_of self.old) → PerformsStep D.does (Proceeds proceeded) s device.old (state_of self.new) device.new) }
-        ensures stopped { OnErr result ((s : State) → IsNext s (one_running running) (state_of self.old) → StopsNext D.does s device.old device.new) }
+    // Ends the execution of the transmission: it is over, or a device clear or a FatalError has ended it.
+    fn end_transmission(&mut self)
+        ensures ended { (one : state.Running) → (state_of self.old).running ≡ Some one
+            → state_of self.new ≡ with_held (with_work (state_of self.old) (state_of self.old).waiting None) ((state_of self.old).held - cost_of one.order) }
+        ensures capacity { KeepsCapacity self.old self.new }
     {
-        let mut running = running;
+        if let Some(running) = mem::replace(&mut self.running, None) {
+            let Running {
+                origin: _,
+                transmission,
+            } = running;
+            self.held.give_back(transmission.input().size());
+            self.buffer = transmission.into_buffer();
+        }
+    }
+
+    // Continues the transmission in execution, if there is one.
+    #[inline(always)]
+    fn execute<D: Device>(&mut self, device: &mut D) -> Result<Proceeded, Ended>
+        ensures waits { IfOk result (λ proceeded. Awaits D.does proceeded device.new) }
+        ensures done { IfOk result (λ proceeded. (s : State) (next : state.Running) → IsNext s next (state_of self.old) → PerformsStep D.does (Proceeds proceeded) s device.old (state_of self.new) device.new) }
+        ensures stopped { OnErr result ((s : State) (next : state.Running) → IsNext s next (state_of self.old) → StopsNext D.does s device.old device.new) }
+        ensures capacity { KeepsCapacity self.old self.new }
+    {
+        let Some(running) = &mut self.running else {
+            return Ok(Proceeded::Idle);
+        };
         if !self.core.is_current(running.origin) {
-            self.held.give_back(running.transmission.input().size());
+            self.end_transmission();
             return Ok(Proceeded::Completed);
         }
         let need = advance(
@@ -68,17 +101,14 @@ impl Parts {
             &self.core,
             &mut self.sync_output,
             device,
-            &mut running,
+            running,
         )?;
         match need {
             None => {
-                self.held.give_back(running.transmission.input().size());
+                self.end_transmission();
                 Ok(Proceeded::Completed)
             }
-            Some(need) => {
-                self.running = Some(running);
-                Ok(Proceeded::Waits(need))
-            }
+            Some(need) => Ok(Proceeded::Waits(need)),
         }
     }
 
@@ -89,18 +119,19 @@ impl Parts {
         self.running.is_some() || !self.waiting.is_empty()
     }
 
-    /// Continues the transmission in execution, or takes the first item of the queue, until a unit has to wait or
+    /// Continues the transmission in execution, or begins the first item of the queue, until a unit has to wait or
     /// others are let in. A transmission that a device clear or a FatalError has ended is dropped.
     pub fn proceed<D: Device>(&mut self, device: &mut D) -> Result<Proceeded, Ended>
         requires { HasReplyRoom self.old }
         ensures waits { IfOk result (λ proceeded. Awaits D.does proceeded device.new) }
         ensures done { IfOk result (λ proceeded. PerformsStep D.does (Proceeds proceeded) (state_of self.old) device.old (state_of self.new) device.new) }
         ensures stopped { OnErr result (StopsNext D.does (state_of self.old) device.old device.new) }
+        ensures capacity { KeepsCapacity self.old self.new }
     {
-        match self.next() {
-            None => Ok(Proceeded::Idle),
-            Some(Next::Order(running)) => self.execute(device, running),
-            Some(Next::Release) => {
+        match self.begin_next() {
+            Next::Nothing => Ok(Proceeded::Idle),
+            Next::Transmission => self.execute(device),
+            Next::Release => {
                 self.release_lock(device);
                 Ok(Proceeded::Completed)
             }

@@ -2,6 +2,7 @@
 ghost use Rattle.std.specs.Prelude.{◌≡◌, OnOk, OnErr, flat_map};
 ghost use Rattle.psu_hislip.specs.Action.{acts};
 ghost use Rattle.psu_hislip.specs.Stream.{received};
+ghost use Rattle.psu_session.specs.Room.{KeepsCapacity};
 ghost use Rattle.psu_session.specs.Step.{Each, IsMessageReceived, release_in, works_in};
 ghost use Rattle.psu_session.specs.Serving.{Appends, PerformsStep};
 ghost use Rattle.psu_session.specs.Stopping.{CallsPrefix, StopsIn};
@@ -26,6 +27,7 @@ impl Parts {
         ensures done { OnOk result (Appends D.does (Each (state_of self.old).lock_waits (acts actions.items)) (flat_map works_in (acts actions.items)) (flat_map (release_in now number) (acts actions.items)) (state_of self.old) device.old
             (state_of self.new) device.new) }
         ensures stopped { OnErr result (CallsPrefix D.does (Each (state_of self.old).lock_waits (acts actions.items)) device.old device.new) }
+        ensures capacity { KeepsCapacity self.old self.new }
     {
         let mut rest = actions.into_iter();
         while let Some(action) = rest.next() {
@@ -37,7 +39,8 @@ impl Parts {
 
     // Counts the message of a number as received.
     fn count(&mut self, number: Option<u32>)
-        ensures { state_of self.new ≡ numbered (state_of self.old) number }
+        ensures done { state_of self.new ≡ numbered (state_of self.old) number }
+        ensures capacity { KeepsCapacity self.old self.new }
     {
         if let Some(number) = number {
             self.last = number;
@@ -55,6 +58,7 @@ impl Parts {
     ) -> Result<(), Ended>
         ensures done { OnOk result (PerformsStep D.does (IsMessageReceived now side (received message)) (state_of self.old) device.old (state_of self.new) device.new) }
         ensures stopped { OnErr result (StopsIn D.does (IsMessageReceived now side (received message)) (state_of self.old) device.old device.new) }
+        ensures capacity { KeepsCapacity self.old self.new }
     {
         let number = number_on(side, &message);
         let id = parameter(&message);

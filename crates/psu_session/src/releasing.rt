@@ -1,6 +1,7 @@
 // Releases of locks, each after the message that its client sent last.
 ghost use Rattle.std.specs.Prelude.{◌≡◌, OnOk};
 ghost use Rattle.psu_session.specs.Releasing.{due_at, is_first_due};
+ghost use Rattle.psu_session.specs.Room.{KeepsCapacity};
 ghost use Rattle.psu_session.specs.Shown.{release_of, releases_of, state_of};
 ghost use Rattle.psu_session.specs.State.{is_due, settled};
 
@@ -40,7 +41,8 @@ impl Parts {
 
     /// Queues the releases whose wait is over.
     pub(crate) fn settle(&mut self, all: bool, now: u64) -> Result<(), Ended>
-        ensures { OnOk result (state_of self.new ≡ settled all now (state_of self.old)) }
+        ensures done { OnOk result (state_of self.new ≡ settled all now (state_of self.old)) }
+        ensures capacity { KeepsCapacity self.old self.new }
     {
         while self.is_first_due(all, now) {
             if self.waiting.push_back(Work::Release).is_err() {

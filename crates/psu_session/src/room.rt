@@ -1,6 +1,6 @@
 // Room that a session has before a step, so that the step itself cannot fail.
-ghost use Rattle.std.specs.Prelude.{◌≡◌, ◌↔◌, IsTrue, true, false, OnOk, is_err};
-ghost use Rattle.psu_session.specs.Room.{HasReplyRoom, HasRoom};
+ghost use Rattle.std.specs.Prelude.{◌≡◌, ◌↔◌, IsTrue, true, false, OnOk, OnErr, is_err};
+ghost use Rattle.psu_session.specs.Room.{HasReplyRoom, HasRoom, KeepsCapacity};
 ghost use Rattle.psu_session.specs.Shown.{state_of};
 
 use crate::{Ended, Parts};
@@ -35,6 +35,7 @@ impl Parts {
     fn reserve(&mut self) -> Result<(), Ended>
         ensures same { state_of self.new ≡ state_of self.old }
         ensures room { OnOk result (HasRoom self.new) }
+        ensures capacity { KeepsCapacity self.old self.new }
     {
         self.async_output.reserve(FRAMES)?;
         self.waiting.reserve(1)?;
@@ -42,12 +43,13 @@ impl Parts {
         Ok(())
     }
 
-    /// Makes room for one message without payload in the output of the asynchronous connection. Nothing is allocated where
-    /// there is room already.
+    /// Makes room for one message without payload in the output of the asynchronous connection. Nothing is allocated, so
+    /// nothing can fail, where there is room already.
     #[inline(always)]
     pub fn make_reply_room(&mut self) -> Result<(), Ended>
         ensures same { state_of self.new ≡ state_of self.old }
         ensures room { OnOk result (HasReplyRoom self.new) }
+        ensures needed { OnErr result (HasReplyRoom self.old → ⊥) }
     {
         if !self.has_reply_room() {
             self.async_output.reserve(FRAMES)?;
@@ -62,6 +64,7 @@ impl Parts {
         ensures same { state_of self.new ≡ state_of self.old }
         ensures continues { result ≡ false → (is_err done.now ≡ false) × HasReplyRoom self.new }
         ensures over { is_err done.now ≡ true → result ≡ true }
+        ensures needed { result ≡ true → is_err done.now ≡ false → HasReplyRoom self.old → ⊥ }
     {
         done.is_err() || self.make_reply_room().is_err()
     }
@@ -72,6 +75,7 @@ impl Parts {
     pub fn make_room(&mut self) -> Result<(), Ended>
         ensures same { state_of self.new ≡ state_of self.old }
         ensures room { OnOk result (HasRoom self.new) }
+        ensures capacity { KeepsCapacity self.old self.new }
     {
         if self.has_room() {
             return Ok(());

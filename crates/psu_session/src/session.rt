@@ -12,7 +12,7 @@ ghost use Rattle.psu_session.specs.Step.{IsReceived, IsServiceRequested, IsTaken
 ghost use Rattle.psu_session.specs.Proceeding.{Awaits, Proceeds};
 ghost use Rattle.psu_session.specs.Serving.{Appends, PerformsStep};
 ghost use Rattle.psu_session.specs.Stopping.{StopsIn, StopsNext};
-ghost use Rattle.psu_session.specs.State.{HasWork, Start, fresh, output, writes};
+ghost use Rattle.psu_session.specs.State.{Continues, HasWork, Start, fresh, output, writes};
 
 use crate::laws::histories_are_exchanges;
 use crate::opening::opened;
@@ -28,7 +28,8 @@ use std::marker::Model;
 /// of what it is to do.
 ///
 /// A session has room for one reply, so a step that needs no more memory is always completed. A step that was completed
-/// leaves the session over where memory for the next reply is refused.
+/// leaves the session over only where it has changed the output of the asynchronous connection and memory for the next
+/// reply is refused.
 #[derive(Drop)]
 pub struct Session {
     parts: Parts,
@@ -98,6 +99,7 @@ impl Session {
     ) -> Result<(), Ended>
         ensures was { OnOk result (self.old.over ≡ false) }
         ensures done { OnOk result (PerformsStep D.does (IsReceived now side received_bytes.now) self.old.state device.old self.new.state device.new) }
+        ensures continues { OnOk result (Continues self.old self.new) }
         ensures ended { OnErr result (self.new.over ≡ true) }
         ensures stopped { OnErr result ((device.new ≡ device.old) ⊎ StopsIn D.does (IsReceived now side received_bytes.now) self.old.state device.old device.new) }
         ensures over { self.old.over ≡ true → device.new ≡ device.old }
@@ -113,6 +115,7 @@ impl Session {
     /// Answers the lock request that waits, if there is one, with its result. Where the session is over, nothing is done.
     pub fn lock_granted<D: Device>(&mut self, grant: Grant, device: &mut D)
         ensures done { self.old.over ≡ false → Appends D.does (IsLockGranted self.old.state.lock_waits grant) [] [] self.old.state device.old self.new.state device.new }
+        ensures continues { self.old.over ≡ false → Continues self.old self.new }
         ensures over { self.old.over ≡ true → self.new ≡ self.old }
         ensures uncalled { device.new ≡ device.old }
     {
@@ -126,6 +129,7 @@ impl Session {
     /// Sends the session's service request, if the device has one. Where the session is over, nothing is done.
     pub fn service_requested<D: Device>(&mut self, device: &mut D)
         ensures done { self.old.over ≡ false → Appends D.does IsServiceRequested [] [] self.old.state device.old self.new.state device.new }
+        ensures continues { self.old.over ≡ false → Continues self.old self.new }
         ensures over { self.old.over ≡ true → (self.new ≡ self.old) × (device.new ≡ device.old) }
     {
         if self.over {
@@ -142,6 +146,7 @@ impl Session {
         ensures was { OnOk result (self.old.over ≡ false) }
         ensures waits { IfOk result (λ proceeded. Awaits D.does proceeded device.new) }
         ensures done { IfOk result (λ proceeded. PerformsStep D.does (Proceeds proceeded) self.old.state device.old self.new.state device.new) }
+        ensures continues { OnOk result (Continues self.old self.new) }
         ensures ended { OnErr result (self.new.over ≡ true) }
         ensures stopped { OnErr result (self.old.over ≡ false → StopsNext D.does self.old.state device.old device.new) }
         ensures over { self.old.over ≡ true → device.new ≡ device.old }
@@ -158,6 +163,7 @@ impl Session {
     pub fn tick(&mut self, now: u64) -> Result<(), Ended>
         ensures was { OnOk result (self.old.over ≡ false) }
         ensures done { OnOk result (IsTicked now self.old.state [] self.new.state) }
+        ensures continues { OnOk result (self.new.over ≡ false) }
         ensures ended { OnErr result (self.new.over ≡ true) }
     {
         if self.over {
@@ -228,6 +234,7 @@ impl Session {
         ensures was { OnOk result (self.old.over ≡ false) }
         ensures some { IfOk result (λ taken. IfSome taken (λ bytes. IsTaken side bytes.items self.old.state (Took side bytes.items ∷ []) self.new.state)) }
         ensures none { IfOk result (λ taken. IsNone taken → (self.new.state ≡ self.old.state) × ((writes side self.old.state ≡ true) ⊎ (output side self.old.state ≡ []))) }
+        ensures continues { OnOk result (Continues self.old self.new) }
         ensures ended { OnErr result ((self.old.over ≡ true) × (self.new ≡ self.old)) }
     {
         if self.over {

@@ -1,7 +1,8 @@
 // The output, and who writes it.
 ghost use Rattle.std.specs.Prelude.{◌≡◌, ◌⊎◌, ◌↔◌, true, false, [], ◌∷◌, IfSome, IsNone};
 ghost use Rattle.psu_session.specs.Events.{Took, Wrote};
-ghost use Rattle.psu_session.specs.Room.{HasReplyRoom};
+ghost use Rattle.psu_hislip.specs.declared.side.Side.TheVariants.{Sync, Async};
+ghost use Rattle.psu_session.specs.Room.{HasReplyRoom, KeepsCapacity};
 ghost use Rattle.psu_session.specs.Step.{IsTaken, IsWritten};
 ghost use Rattle.psu_session.specs.Shown.{state_of};
 ghost use Rattle.psu_session.specs.State.{output, with_output, with_writes, writes};
@@ -25,6 +26,7 @@ impl Parts {
     fn set_writing(&mut self, side: Side, writing: bool)
         ensures set { state_of self.new ≡ with_writes side (state_of self.old) writing }
         ensures room { HasReplyRoom self.old → HasReplyRoom self.new }
+        ensures capacity { KeepsCapacity self.old self.new }
     {
         match side {
             Side::Sync => self.sync_writes = writing,
@@ -46,6 +48,7 @@ impl Parts {
     fn empty_output(&mut self, side: Side) -> Vec<u8>
         ensures all { output side (state_of self.old) ≡ result.items }
         ensures after { state_of self.new ≡ with_output side (state_of self.old) [] }
+        ensures capacity { side ≡ Sync → KeepsCapacity self.old self.new }
     {
         let none = Vec::new(self.alloc);
         match side {
@@ -58,6 +61,7 @@ impl Parts {
     pub fn take(&mut self, side: Side) -> Option<Vec<u8>>
         ensures some { IfSome result (λ bytes. IsTaken side bytes.items (state_of self.old) (Took side bytes.items ∷ []) (state_of self.new)) }
         ensures none { IsNone result → (state_of self.new ≡ state_of self.old) × ((writes side (state_of self.old) ≡ true) ⊎ (output side (state_of self.old) ≡ [])) }
+        ensures capacity { output Async (state_of self.new) ≡ output Async (state_of self.old) → KeepsCapacity self.old self.new }
     {
         if self.is_writing(side) || !self.has_output(side) {
             return None;

@@ -3,10 +3,27 @@ use std::rt::Clock;
 use std::sync::{Condvar, Mutex, Wait};
 use std::time::Duration;
 
+// Whether the bell is rung, and whether the flusher sleeps and nobody wakes it yet.
+#[derive(Clone, Copy, Debug, PartialEq, Eq)]
+struct State {
+    rung: bool,
+    sleeps: bool,
+}
+
+impl State {
+    // The bell is not rung, and the flusher is awake.
+    fn quiet() -> State {
+        State {
+            rung: false,
+            sleeps: false,
+        }
+    }
+}
+
 /// What the flusher waits on. To ring it does not allocate.
 #[derive(Drop)]
 pub struct Bell {
-    rung: Mutex<bool>,
+    state: Mutex<State>,
     changed: Condvar,
 }
 
@@ -14,31 +31,45 @@ impl Bell {
     /// Returns a bell that is not rung.
     pub fn new() -> Bell {
         Bell {
-            rung: Mutex::new(false),
+            state: Mutex::new(State::quiet()),
             changed: Condvar::new(),
         }
     }
 
-    /// Notifies the flusher that there is something to do.
+    // Rings the bell. Returns whether the flusher is to be woken: it sleeps, and nobody else wakes it.
+    fn set<R: Wait>(&self, rt: &R) -> bool {
+        let mut state = self.state.lock(rt);
+        let sleeps = state.sleeps;
+        *state = State {
+            rung: true,
+            sleeps: false,
+        };
+        sleeps
+    }
+
+    /// Notifies the flusher that there is something to do. Only where it sleeps this is a call of the system.
     pub fn ring<R: Wait>(&self, rt: &R) {
-        *self.rung.lock(rt) = true;
-        self.changed.notify_all();
+        if self.set(rt) {
+            self.changed.notify_all();
+        }
     }
 
     /// Waits until the bell is rung.
     pub fn sleep<R: Wait>(&self, rt: &R) {
-        let rung = self.rung.lock(rt);
-        let mut rung = self.changed.wait_while(rt, rung, |rung| !*rung);
-        *rung = false;
+        let mut state = self.state.lock(rt);
+        state.sleeps = true;
+        let mut state = self.changed.wait_while(rt, state, |state| !state.rung);
+        *state = State::quiet();
     }
 
     /// Waits until the bell is rung, for so many milliseconds at most.
     pub fn sleep_at_most<R: Wait + Clock>(&self, rt: &R, limit: u64) {
-        let rung = self.rung.lock(rt);
+        let mut state = self.state.lock(rt);
+        state.sleeps = true;
         let limit = Duration::from_millis(limit);
-        let (mut rung, _) = self
+        let (mut state, _) = self
             .changed
-            .wait_timeout_while(rt, rung, limit, |rung| !*rung);
-        *rung = false;
+            .wait_timeout_while(rt, state, limit, |state| !state.rung);
+        *state = State::quiet();
     }
 }

@@ -4,12 +4,10 @@
 // `13` is AsyncDeviceClear, answered only by its acknowledgement `17`, and `08` DeviceClearComplete, answered only by
 // `09`.
 use crate::conversations::goes_as_told;
-use crate::frames::{bare, feed_again, is_frame, leave};
+use crate::frames::{Fed, bare, feed, feed_again, is_frame, leave};
 use crate::holds::holds;
 use bumpalo::Bump;
-use psu_hislip::{
-    Channel, LockResponse, Message, lock_info_response, lock_response, release_response,
-};
+use psu_hislip::{Channel, LockResponse, lock_info_response, lock_response, release_response};
 use psu_locks::{Freed, Grant, Info, LockRefusal};
 use std::alloc::Global;
 
@@ -190,14 +188,14 @@ const FRAMES: &[u8] = b"HS\x06\x00\x00\x00\x00\x02\x00\x00\x00\x00\x00\x00\x00\x
 HS\x07\x00\x00\x00\x00\x02\x00\x00\x00\x00\x00\x00\x00\x01B";
 
 // Whether the two frames are fed.
-fn are_both(messages: &[Message<&Bump>]) -> bool {
-    messages.len() == 2 && is_frame(messages.first(), 6, b"A") && is_frame(messages.last(), 7, b"B")
+fn are_both(messages: &Fed<'_>) -> bool {
+    messages.len() == 2 && is_frame(messages.front(), 6, b"A") && is_frame(messages.back(), 7, b"B")
 }
 
 // Whether the frames, of which the first has begun, are refused when fed with this many bytes of an arena.
 fn rest_is_refused(arena: &Bump, begun: &[u8], rest: &[u8], left: usize) -> Option<bool> {
     let mut channel = Channel::new(arena);
-    if !channel.feed(begun).ok()?.is_empty() {
+    if !feed(arena, &mut channel, begun)?.is_empty() {
         return None;
     }
     leave(arena, left)?;

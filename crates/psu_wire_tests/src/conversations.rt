@@ -5,6 +5,7 @@
 // what it requests, in order, or `nothing`. A command's place in the session is its MessageID and the clears before it,
 // as in `2/0`; the result of an `answer` to it or a `part` of one is frames, or `none`; `current`, `joined` and
 // `failed` query the session, with the result `yes` or `no`.
+use crate::frames::feed;
 use crate::holds::holds;
 use psu_hislip::{Action, Actions, Channel, Origin, SessionCore, Side};
 use psu_tables::{bytes, row};
@@ -122,8 +123,8 @@ fn tell(
     side: Side,
     cell: &str,
 ) -> Option<Actions<Global>> {
-    let mut messages = Channel::new(alloc).feed(&message(alloc, cell)?).ok()?;
-    core.on(side, messages.pop()?).ok()
+    let mut messages = feed(alloc, &mut Channel::new(alloc), &message(alloc, cell)?)?;
+    core.on(side, messages.pop_front()?).ok()
 }
 
 fn asks(

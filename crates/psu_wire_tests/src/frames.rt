@@ -1,6 +1,8 @@
 // Helpers of the tests of frames: messages with the bytes of the profile's table, and memory that is refused.
 use bumpalo::Bump;
 use psu_hislip::{Channel, Message, Origin};
+use std::alloc::Allocator;
+use std::collections::VecDeque;
 
 /// Returns a message without parameter and payload.
 pub fn bare(kind: u8, control: u8) -> [u8; 16] {
@@ -25,8 +27,19 @@ pub fn leave(arena: &Bump, left: usize) -> Option<()> {
     Some(())
 }
 
+/// Feeds a piece and returns its messages, or `None` where memory is refused.
+pub fn feed<A: Allocator + Copy>(
+    alloc: A,
+    channel: &mut Channel<A>,
+    piece: &[u8],
+) -> Option<VecDeque<Message<A>, A>> {
+    let mut messages = VecDeque::new(alloc);
+    channel.feed(piece, &mut messages).ok()?;
+    Some(messages)
+}
+
 /// The messages of a piece, with memory of an arena.
-pub type Fed<'a> = Vec<Message<&'a Bump>, &'a Bump>;
+pub type Fed<'a> = VecDeque<Message<&'a Bump>, &'a Bump>;
 
 /// Feeds a piece, and again with all memory where it is refused; returns the messages, and whether it was refused.
 pub fn feed_again<'a>(
@@ -34,13 +47,13 @@ pub fn feed_again<'a>(
     arena: &'a Bump,
     piece: &[u8],
 ) -> Option<(Fed<'a>, bool)> {
-    match channel.feed(piece) {
-        Ok(messages) => Some((messages, false)),
-        Err(_) => {
-            arena.set_allocation_limit(None);
-            Some((channel.feed(piece).ok()?, true))
-        }
+    let mut messages = VecDeque::new(arena);
+    let refused = channel.feed(piece, &mut messages).is_err();
+    if refused {
+        arena.set_allocation_limit(None);
+        channel.feed(piece, &mut messages).ok()?;
     }
+    Some((messages, refused))
 }
 
 /// Whether a message is a frame of this type and payload.

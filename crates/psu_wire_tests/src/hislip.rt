@@ -1,5 +1,5 @@
 // Each allocation of a feed, of a message and of a response is refused in turn: nothing has changed.
-use crate::frames::{bare, feed_again, is_frame, leave, origin};
+use crate::frames::{bare, feed, feed_again, is_frame, leave, origin};
 use crate::holds::holds;
 use bumpalo::Bump;
 use psu_hislip::{Action, Channel, Message, SessionCore, Side};
@@ -22,12 +22,12 @@ fn feed_is_refused(arena: &Bump, left: usize) -> Option<bool> {
     leave(arena, left)?;
     let mut channel = Channel::new(arena);
     let (messages, refused) = feed_again(&mut channel, arena, END)?;
-    is_frame(messages.first(), 7, b"N?\n").then_some(refused)
+    is_frame(messages.front(), 7, b"N?\n").then_some(refused)
 }
 
 // Returns the one message of a stream, with memory of an arena.
 fn message<'a>(arena: &'a Bump, stream: &[u8]) -> Option<Message<&'a Bump>> {
-    Channel::new(arena).feed(stream).ok()?.pop()
+    feed(arena, &mut Channel::new(arena), stream)?.pop_front()
 }
 
 // Whether a message is accepted.

@@ -1,5 +1,6 @@
 // Messages of a session.
 use crate::conversations::{goes_as_told, message};
+use crate::frames::feed;
 use crate::holds::holds;
 use psu_hislip::{Channel, FatalCode, First};
 use psu_tables::row;
@@ -155,8 +156,8 @@ const FIRST_MESSAGES: &str = "
 
 // Returns what the first message of a connection requests.
 fn first(alloc: Global, cell: &str) -> Option<First> {
-    let messages = Channel::new(alloc).feed(&message(alloc, cell)?).ok()?;
-    Some(First::of(messages.first()?))
+    let messages = feed(alloc, &mut Channel::new(alloc), &message(alloc, cell)?)?;
+    Some(First::of(messages.front()?))
 }
 
 // Whether a first message requests what its row says.

@@ -1,6 +1,6 @@
 // Streams of messages.
 use crate::conversations::{are_bytes, goes_as_told, halves};
-use crate::frames::bare;
+use crate::frames::{bare, feed};
 use crate::holds::holds;
 use psu_hislip::{Channel, FatalCode, First, Header, Message, MessageType, SessionCore};
 use psu_tables::{bytes, row};
@@ -28,14 +28,14 @@ fn is_read_cut(alloc: Global, at: usize) -> Option<bool> {
         return None;
     }
     let mut channel = Channel::new(alloc);
-    let before = channel.feed(&INITIALIZE[..at]).ok()?;
-    let behind = channel.feed(&INITIALIZE[at..]).ok()?;
+    let before = feed(alloc, &mut channel, &INITIALIZE[..at])?;
+    let behind = feed(alloc, &mut channel, &INITIALIZE[at..])?;
     let (given, none) = if at == INITIALIZE.len() {
         (before, behind)
     } else {
         (behind, before)
     };
-    Some(none.is_empty() && given.len() == 1 && is_initialize(given.first()?))
+    Some(none.is_empty() && given.len() == 1 && is_initialize(given.front()?))
 }
 
 #[test]
@@ -91,8 +91,8 @@ fn is_message(alloc: Global, message: &Message<Global>, cell: &str) -> bool {
 // Whether a piece completes what its row says.
 fn ends(alloc: Global, channel: &mut Channel<Global>, line: &str) -> Option<bool> {
     let (piece, wanted) = row(line)?;
-    let messages = channel.feed(&bytes(alloc, piece)?).ok()?;
-    match messages.first() {
+    let messages = feed(alloc, channel, &bytes(alloc, piece)?)?;
+    match messages.front() {
         Some(message) => Some(messages.len() == 1 && is_message(alloc, message, wanted)),
         None => Some(wanted == "nothing"),
     }

@@ -1,8 +1,8 @@
 use Rattle.std.proofs.Common.{◌≡◌, arith, IsSome, subst, [], ◌∷◌, List, ℕ, Option, None}
 use Rattle.psu_hislip.specs.Channel.{Moves}
-use Rattle.psu_hislip.specs.Channel.Awaited.{Partial, Passing}
-use Rattle.psu_hislip.specs.Stream.Received.{Oversize}
-use Rattle.psu_hislip.proofs.Channels.{moves_bad, moves_oversize}
+use Rattle.psu_hislip.specs.Channel.Awaited.{Partial, Passing, Ended}
+use Rattle.psu_hislip.specs.Stream.Received.{Oversize, BadHeader}
+use Rattle.psu_hislip.proofs.Channels.{headed_only, moves_bad, moves_oversize}
 use Rattle.psu_hislip.specs.declared.header.Header.{Header}
 use Rattle.psu_hislip.proofs.step.headed.Goals as goal
 
@@ -11,10 +11,12 @@ none_some r e s = absurd (grind (arith, e, s))
 
 pub returns-in_default-clause-moves : goal.returns-in_default-clause-moves
 returns-in_default-clause-moves g c =
-    moves_bad c.args.bytes.now c.told-bytes (λ h. none_some c.read.result c.in_default.is (c.read.ensures.some.1 h))
+    headed_only c.args.bytes.now c.args.after.now c.args.used (BadHeader ∷ []) Ended
+    (moves_bad c.args.bytes.now c.told-bytes (λ h. none_some c.read.result c.in_default.is (c.read.ensures.some.1 h)))
 
 pub returns-then-header-gt-MOST-clause-moves : goal.returns-then-header-gt-MOST-clause-moves
 returns-then-header-gt-MOST-clause-moves g c =
     let h = c.in-Some.header in
-    subst (λ (z : List ℕ). Moves (Partial z) [] (Oversize h ∷ []) (Passing h.length)) c.in-Some.ensures.bytes
-    (moves_oversize h c.in-Some.ensures.fits c.if-header-gt-MOST.true)
+    headed_only c.args.bytes.now c.args.after.now c.args.used (Oversize h ∷ []) (Passing h.length)
+    (subst (λ (z : List ℕ). Moves (Partial z) [] (Oversize h ∷ []) (Passing h.length)) c.in-Some.ensures.bytes
+    (moves_oversize h c.in-Some.ensures.fits c.if-header-gt-MOST.true))

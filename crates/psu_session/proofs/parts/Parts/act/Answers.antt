@@ -10,7 +10,7 @@ returns-in-Send-clause-done g c = on_ok c.put.result (λ did. record {
   are = rw c.in-Send.is (ap (λ (bytes : List ℕ). Put c.in-Send.side bytes ∷ []) c.as_slice.ensures.value);
   runs = refl;
   then = rw c.in-Send.is did;
-}) c.put.ensures
+}) c.put.ensures.done
 
 pub returns-in-Delivered-clause-done : goal.returns-in-Delivered-clause-done
 returns-in-Delivered-clause-done g c = record {

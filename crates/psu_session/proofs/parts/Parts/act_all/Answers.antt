@@ -15,8 +15,11 @@ loop-action-init g c =
     let all = acts c.args.actions.items in
     let asks = release_in c.args.now c.args.number in
     let s = state_of c.args.self.now in
-    subst (λ (left : List (Action _)). DoneSoFar does (Each s.lock_waits all) (Each s.lock_waits (acts left)) (flat_map works_in all) (flat_map works_in (acts left)) (flat_map asks all) (flat_map asks (acts left)) s c.args.device.now s c.args.device.now) (sym c.into_iter-rest.ensures.into_iter_gives.0)
-    (begins does (Each s.lock_waits all) (flat_map works_in all) (flat_map asks all) s c.args.device.now)
+    record {
+      done = subst (λ (left : List (Action _)). DoneSoFar does (Each s.lock_waits all) (Each s.lock_waits (acts left)) (flat_map works_in all) (flat_map works_in (acts left)) (flat_map asks all) (flat_map asks (acts left)) s c.args.device.now s c.args.device.now) (sym c.into_iter-rest.ensures.into_iter_gives.0)
+          (begins does (Each s.lock_waits all) (flat_map works_in all) (flat_map asks all) s c.args.device.now);
+      capacity = omega arith;
+    }
 
 pub loop-action-preserved : goal.loop-action-preserved
 loop-action-preserved g c =
@@ -25,12 +28,15 @@ loop-action-preserved g c =
     let asks = release_in c.args.now c.args.number in
     let s = state_of c.args.self.now in
     let here = subst (λ (left : List (Action _)). DoneSoFar does (Each s.lock_waits all) (Each (state_of c.loop-action.self).lock_waits (acts left)) (flat_map works_in all) (flat_map works_in (acts left)) (flat_map asks all) (flat_map asks (acts left)) s c.args.device.now (state_of c.loop-action.self) c.loop-action.device)
-    c.in-Some.ensures.steps c.loop-action.invariant in
+    c.in-Some.ensures.steps c.loop-action.invariant.done in
     let left = acts (c.in-Some.action ∷ c.next.new.self) in
     let room = subst (λ (u : State). DoneSoFar does (Each s.lock_waits all) (Each u.lock_waits left) (flat_map works_in all) (flat_map works_in left) (flat_map asks all) (flat_map asks left) s c.args.device.now u c.loop-action.device)
     (sym c.make_room.ensures.same) here in
-    steps does asks (Each s.lock_waits all) (flat_map works_in all) (flat_map asks all) (act c.in-Some.action) (acts c.next.new.self) s c.args.device.now (state_of c.make_room.new.self) c.loop-action.device (state_of c.act.new.self)
-    c.act.new.device room c.in_ok-act.ensures.done
+    record {
+      done = steps does asks (Each s.lock_waits all) (flat_map works_in all) (flat_map asks all) (act c.in-Some.action) (acts c.next.new.self) s c.args.device.now (state_of c.make_room.new.self) c.loop-action.device (state_of c.act.new.self)
+          c.act.new.device room c.in_ok-act.ensures.done;
+      capacity = omega (arith, c.loop-action.invariant.capacity, c.make_room.ensures.capacity, c.act.ensures.capacity);
+    }
 
 pub returns-clause-done : goal.returns-clause-done
 returns-clause-done g c =
@@ -41,7 +47,7 @@ returns-clause-done g c =
     let none : c.loop-action.rest ≡ [] = grind (arith, common_steps, c.in_default.ensures.steps, c.in_default.is, c.in_default.not-Some) in
     ends does (Each s.lock_waits all) (flat_map works_in all) (flat_map asks all) s c.args.device.now (state_of c.loop-action.self) c.loop-action.device
     (subst (λ (left : List (Action _)). DoneSoFar does (Each s.lock_waits all) (Each (state_of c.loop-action.self).lock_waits (acts left)) (flat_map works_in all) (flat_map works_in (acts left)) (flat_map asks all) (flat_map asks (acts left)) s c.args.device.now (state_of c.loop-action.self) c.loop-action.device) none
-    c.loop-action.invariant)
+    c.loop-action.invariant.done)
 
 pub returns-in_err-make_room-clause-stopped : goal.returns-in_err-make_room-clause-stopped
 returns-in_err-make_room-clause-stopped g c =
@@ -50,7 +56,7 @@ returns-in_err-make_room-clause-stopped g c =
     let asks = release_in c.args.now c.args.number in
     let s = state_of c.args.self.now in
     let here = subst (λ (left : List (Action _)). DoneSoFar does (Each s.lock_waits all) (Each (state_of c.loop-action.self).lock_waits (acts left)) (flat_map works_in all) (flat_map works_in (acts left)) (flat_map asks all) (flat_map asks (acts left)) s c.args.device.now (state_of c.loop-action.self) c.loop-action.device)
-    c.in-Some.ensures.steps c.loop-action.invariant in
+    c.in-Some.ensures.steps c.loop-action.invariant.done in
     let left = acts (c.in-Some.action ∷ c.next.new.self) in
     let one = act c.in-Some.action in
     if_err c.from_residual.result
@@ -64,9 +70,18 @@ returns-in_err-act-clause-stopped g c =
     let asks = release_in c.args.now c.args.number in
     let s = state_of c.args.self.now in
     let here = subst (λ (left : List (Action _)). DoneSoFar does (Each s.lock_waits all) (Each (state_of c.loop-action.self).lock_waits (acts left)) (flat_map works_in all) (flat_map works_in (acts left)) (flat_map asks all) (flat_map asks (acts left)) s c.args.device.now (state_of c.loop-action.self) c.loop-action.device)
-    c.in-Some.ensures.steps c.loop-action.invariant in
+    c.in-Some.ensures.steps c.loop-action.invariant.done in
     let left = acts (c.in-Some.action ∷ c.next.new.self) in
     let one = act c.in-Some.action in
     if_err c.from_residual-in_err-act.result
     (stops_at does (Each s.lock_waits all) (flat_map works_in all) (flat_map asks all) one (acts c.next.new.self) (flat_map works_in left) (flat_map asks left) s c.args.device.now (state_of c.loop-action.self) c.loop-action.device c.act.new.device here
     (not_called does (state_of c.loop-action.self).lock_waits one c.loop-action.device c.act.new.device c.in_err-act.ensures.uncalled))
+
+pub returns-clause-capacity : goal.returns-clause-capacity
+returns-clause-capacity g c = c.loop-action.invariant.capacity
+
+pub returns-in_err-make_room-clause-capacity : goal.returns-in_err-make_room-clause-capacity
+returns-in_err-make_room-clause-capacity g c = omega (arith, c.loop-action.invariant.capacity, c.make_room.ensures.capacity)
+
+pub returns-in_err-act-clause-capacity : goal.returns-in_err-act-clause-capacity
+returns-in_err-act-clause-capacity g c = omega (arith, c.loop-action.invariant.capacity, c.make_room.ensures.capacity, c.act.ensures.capacity)

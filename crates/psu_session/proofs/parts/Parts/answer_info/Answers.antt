@@ -7,12 +7,12 @@ use Rattle.psu_session.specs.Shown.{state_of}
 use Rattle.psu_session.specs.State.{added}
 use Rattle.psu_session.proofs.parts.Parts.answer_info.Goals as goal
 
-pub returns : goal.returns
-returns g c =
+pub returns-clause-done : goal.returns-clause-done
+returns-clause-done g c =
     let info = c.inform-info.result in
     record {
       done = DeviceCalled (Informed info) ∷ puts (lock_info_response info);
       are = (info, refl);
       runs = (c.inform-info.new.self, c.inform-info.ensures, refl);
-      then = c.put_header.ensures ∙ ap (λ (h : Header). added (state_of c.args.self.now) [] [] (puts h)) c.lock_info_response.ensures;
+      then = c.put_header.ensures.done ∙ ap (λ (h : Header). added (state_of c.args.self.now) [] [] (puts h)) c.lock_info_response.ensures;
     }

@@ -9,21 +9,21 @@ use Rattle.psu_session.specs.Shown.{state_of}
 use Rattle.psu_session.specs.State.{added}
 use Rattle.psu_session.proofs.parts.Parts.answer_lock.Goals as goal
 
-pub returns-then-self : goal.returns-then-self
-returns-then-self g c = record {
+pub returns-then-self-clause-done : goal.returns-then-self-clause-done
+returns-then-self-clause-done g c = record {
   done = puts (lock_answer Error);
   are = subst (λ (z : Bool). IsLocked z c.args.timeout (kind_of c.args.string.now) (puts (lock_answer Error))) (sym c.if-self.true) refl;
   runs = refl;
-  then = c.put_header.ensures ∙ ap (λ (h : Header). added (state_of c.args.self.now) [] [] (puts h)) c.header.ensures;
+  then = c.put_header.ensures.done ∙ ap (λ (h : Header). added (state_of c.args.self.now) [] [] (puts h)) c.header.ensures;
 }
 
-pub returns-in-None : goal.returns-in-None
-returns-in-None g c =
+pub returns-in-None-clause-done : goal.returns-in-None-clause-done
+returns-in-None-clause-done g c =
     let none : None ≡ kind_of c.args.string.now = sym c.in-None.is ∙ c.lock_kind.ensures in
     record {
       done = puts (lock_answer Error);
       are = subst (λ (z : Bool). IsLocked z c.args.timeout (kind_of c.args.string.now) (puts (lock_answer Error))) (sym c.if-self.false)
           (subst (λ (z : Option Kind). IsLocked false c.args.timeout z (puts (lock_answer Error))) none refl);
       runs = refl;
-      then = c.put_header-in-None.ensures ∙ ap (λ (h : Header). added (state_of c.args.self.now) [] [] (puts h)) c.header-in-None.ensures;
+      then = c.put_header-in-None.ensures.done ∙ ap (λ (h : Header). added (state_of c.args.self.now) [] [] (puts h)) c.header-in-None.ensures;
     }

@@ -12,19 +12,19 @@ use Rattle.psu_session.proofs.parts.Parts.ask_for_lock.Goals as goal
 abbrev requested : State → Option Header → State
 requested s header = record (added s [] [] (puts_any header)) { lock_waits = waits_after (waits_if s.lock_waits header) (puts_any header) }
 
-pub returns-in-Some : goal.returns-in-Some
-returns-in-Some g c =
+pub returns-in-Some-clause-done : goal.returns-in-Some-clause-done
+returns-in-Some-clause-done g c =
     let reply = c.lock-reply.result in
     let is : Some c.in-Some.header ≡ lock_response reply = sym c.in-Some.is ∙ c.lock_response.ensures in
     record {
       done = DeviceCalled (Locked c.args.kind c.args.timeout reply) ∷ puts_any (lock_response reply);
       are = (reply, refl);
       runs = (c.lock-reply.new.self, c.lock-reply.ensures, asks_nothing g.D.Device.does (lock_response reply) c.lock-reply.new.self);
-      then = c.put_header.ensures ∙ ap (requested (state_of c.args.self.now)) is;
+      then = c.put_header.ensures.done ∙ ap (requested (state_of c.args.self.now)) is;
     }
 
-pub returns-in-None : goal.returns-in-None
-returns-in-None g c =
+pub returns-in-None-clause-done : goal.returns-in-None-clause-done
+returns-in-None-clause-done g c =
     let reply = c.lock-reply.result in
     let is : None ≡ lock_response reply = sym c.in-None.is ∙ c.lock_response.ensures in
     record {

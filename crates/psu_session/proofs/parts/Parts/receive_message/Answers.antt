@@ -25,7 +25,7 @@ returns-clause-done g c =
     = did.then ∙ ap (λ (z : Core). added (with_core s z) (flat_map works_in requested) (flat_map (release_in c.args.now c.parameter-id.result) requested) did.done) c.in_ok-actions.ensures.core
     ∙ ap (λ (z : ℕ). added (with_core s outcome.core) (flat_map works_in requested) (flat_map (release_in c.args.now z) requested) did.done) c.parameter-id.ensures in
     let counted : state_of c.count.new.self ≡ numbered (added (with_core s outcome.core) (flat_map works_in requested) (flat_map (release_in c.args.now (parameter message)) requested) did.done) (number_on c.args.side message)
-    = c.count.ensures ∙ ap (λ (z : Option ℕ). numbered (state_of c.act_all.new.self) z) c.number_on-number.ensures ∙ ap (λ (z : State). numbered z (number_on c.args.side message)) begun in
+    = c.count.ensures.done ∙ ap (λ (z : Option ℕ). numbered (state_of c.act_all.new.self) z) c.number_on-number.ensures ∙ ap (λ (z : State). numbered z (number_on c.args.side message)) begun in
     on_ok c.settle.result (λ last. record {
       done = Came c.args.side message ∷ did.done;
       is = record {
@@ -37,7 +37,7 @@ returns-clause-done g c =
             ∙ ap (λ (z : List Act). arrived c.args.now c.args.side message z (with_core s outcome.core) did.done) is;
       };
       runs = did.runs;
-    }) c.settle.ensures
+    }) c.settle.ensures.done
 
 pub returns-in_err-actions-clause-stopped : goal.returns-in_err-actions-clause-stopped
 returns-in_err-actions-clause-stopped g c =

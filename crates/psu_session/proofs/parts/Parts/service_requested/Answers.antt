@@ -7,16 +7,16 @@ use Rattle.psu_session.specs.State.{added}
 use Rattle.psu_session.proofs.Serving.{none_added}
 use Rattle.psu_session.proofs.parts.Parts.service_requested.Goals as goal
 
-pub returns-in-Some : goal.returns-in-Some
-returns-in-Some g c = record {
+pub returns-in-Some-clause-done : goal.returns-in-Some-clause-done
+returns-in-Some-clause-done g c = record {
   done = ServiceRequested (Some c.in-Some.byte) ∷ [];
   are = (Some c.in-Some.byte, refl);
   runs = (c.fetch.new.self, c.in-Some.ensures, refl);
-  then = c.put_header.ensures ∙ ap (λ (h : Header). added (state_of c.args.self.now) [] [] (puts h)) c.new.ensures;
+  then = c.put_header.ensures.done ∙ ap (λ (h : Header). added (state_of c.args.self.now) [] [] (puts h)) c.new.ensures;
 }
 
-pub returns-in_default : goal.returns-in_default
-returns-in_default g c = record {
+pub returns-in_default-clause-done : goal.returns-in_default-clause-done
+returns-in_default-clause-done g c = record {
   done = ServiceRequested None ∷ [];
   are = (None, refl);
   runs = (c.fetch.new.self, c.in_default.ensures, refl);

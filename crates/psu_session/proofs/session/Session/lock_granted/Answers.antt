@@ -1,7 +1,9 @@
-use Rattle.std.proofs.Common.{inl, subst, sym, ◌∙◌}
+use Rattle.std.proofs.Common.{ap, inl, subst, sym, ◌∙◌}
+use Rattle.psu_session.specs.State.{Shown, State}
 use Rattle.psu_session.specs.Step.{IsReachable}
 use Rattle.psu_session.specs.Step.Step.{Notifies}
 use Rattle.psu_session.proofs.Stepping.{holds_on_ok, one_step, reached_by}
+use Rattle.psu_session.proofs.Rooms.{goes_on, holds_on_err, room_kept}
 use Rattle.psu_session.proofs.session.Session.lock_granted.Goals as goal
 
 pub invariant_of-self : goal.invariant_of-self
@@ -11,3 +13,9 @@ invariant_of-self g c =
       subst IsReachable (sym c.make_reply_room.ensures.same) (reached_by (c.self.invariant c.if-self.false).0 (one_step (Notifies (record { is = inl (c.args.grant, m.are); then = m.then })))),
       holds_on_ok c.make_reply_room.result (sym c.is_err-self-inside.ensures.value ∙ e) c.make_reply_room.ensures.room,
     )
+
+pub returns-clause-continues : goal.returns-clause-continues
+returns-clause-continues g c = λ not_over same.
+    goes_on c.is_err-self-inside.result (λ over. holds_on_err c.make_reply_room.result (sym c.is_err-self-inside.ensures.value ∙ over) c.make_reply_room.ensures.needed
+    (room_kept c.self.inside.parts c.lock_granted.new.self c.lock_granted.ensures.capacity
+    (sym (ap (λ (z : State). z.async) c.make_reply_room.ensures.same) ∙ same ∙ sym (ap (λ (z : Shown). z.state.async) c.self.view_is)) (c.self.invariant c.if-self.false).1))

@@ -1,6 +1,6 @@
 use Rattle.std.proofs.Common.{◌≡◌, List, ℕ, ◌++◌, length}
 use Rattle.psu_hislip.specs.Rest.{awaited, IsRest, IsCutOf}
-use Rattle.psu_hislip.proofs.decoded.Decoded.take.Given as goal
+use Rattle.psu_hislip.proofs.decoded.decode.Given as goal
 
 abbrev pub invariant-loop-left : goal.invariant-loop-left
 invariant-loop-left g l = record {
