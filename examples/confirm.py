@@ -1,32 +1,48 @@
-"""Waits until all accepted changes are on the disk: status 0 once *OPC? confirms it, else 1.
+"""Waits until all accepted changes are on the disk: status 0 once *OPC? confirms it, else what the table says.
 
-Needs a server on 127.0.0.1 (psu serve IMAGE) and Python 3.8 or later; no package:
-    python3 confirm.py [--port N] [--timeout SECONDS]
-Prints nothing where it is confirmed, else one line on standard error. Made for ExecStop= of a unit (psu.service) and
-for health checks; it changes nothing.
-Not confirmed: nothing listens, sixteen sessions are open, another session holds a lock, or the disk fails (then -320 is
-in the error queue).
+Needs a server on 127.0.0.1 (psu serve IMAGE) and Python 3.8 or later:
+    python3 confirm.py [--write] [--port N] [--timeout SECONDS]
+Prints nothing where it is confirmed, else one line on standard error, and ends with one of these statuses:
+    3  no server: nothing listens, or it does not answer in time
+    4  sixteen sessions are open
+    5  another session holds a lock
+    6  the store is broken: the disk fails, is full, or the image was removed, renamed over or cut short
+    7  the disk is not done in time
+    1  anything else; 2 a wrong command line
+Made for ExecStop= of a unit (psu.service), which waits for what was accepted, and with --write as a health check: it
+takes the exclusive lock and gives *PSC the value that it has, which is a change that has to be written. So a disk that
+fails is seen though nobody saves; without --write it is seen only after a save. While it waits the other sessions wait.
+A broken store refuses with error -320, and all sessions share the error queue. With --write these errors are taken out
+of it again where it was empty before; bit 3 of the event status register (*ESR?) stays set.
 """
 import sys
 
-from hislip import HislipError, Instrument, parser, run
+import psu_path  # noqa: F401  (finds ../python)
+from psu.command_line import parser, run
+from psu.confirming import Unconfirmed, session_of, take_lock, wait_for_disk, write_to_disk
 
 
-class Unconfirmed(HislipError):
-    pass
+def confirm(arguments):
+    with session_of(arguments.port, arguments.timeout) as supply:
+        if arguments.write:
+            take_lock(supply, arguments.timeout)
+            write_to_disk(supply)
+        else:
+            wait_for_disk(supply)
 
 
 def main(arguments):
-    with Instrument(port=arguments.port, timeout=arguments.timeout) as supply:
-        # A refused *OPC? has no response, so the query after it shows at once that the first was refused.
-        responses = supply.query("*OPC?;*STB?").split(";")
-    if responses[0] != "1" or len(responses) != 2:
-        raise Unconfirmed("the instrument did not confirm: its disk fails")
+    try:
+        confirm(arguments)
+    except Unconfirmed as fault:
+        print(f"confirm.py: {fault}", file=sys.stderr)
+        return int(fault.reason)
 
 
 def made_parser():
     made = parser(__doc__)
     made.add_argument("--timeout", type=float, default=10.0, help="the longest wait in seconds (10)")
+    made.add_argument("--write", action="store_true", help="write a change that leaves all as it is, under the lock")
     return made
 
 

@@ -1,10 +1,13 @@
 """Prints the name of the instrument: EXAMPLE,PSU4,0,1.0
 
-Needs a server on 127.0.0.1 (psu serve IMAGE) and Python 3.8 or later; no package: python3 idn.py [--port N]
+Needs a server on 127.0.0.1 (psu serve IMAGE) and Python 3.8 or later; in a clone no package has to be installed:
+    python3 idn.py [--port N]
 """
 import sys
 
-from hislip import Instrument, parser, run
+import psu_path  # noqa: F401  (finds ../python)
+from psu import Instrument
+from psu.command_line import parser, run
 
 
 def main(arguments):

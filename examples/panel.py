@@ -1,6 +1,7 @@
 """A live front panel: a read-only page at http://127.0.0.1:8080 with the four outputs, a plot and the status registers.
 
-Needs a server on 127.0.0.1 (psu serve IMAGE) and Python 3.8 or later; no package, and nothing from the Internet:
+Needs a server on 127.0.0.1 (psu serve IMAGE) and Python 3.8 or later; in a clone no package has to be installed, and
+nothing comes from the Internet:
     python3 panel.py [--port N] [--listen-port N] [--interval SECONDS] [--minutes N]
     python3 panel.py [--port N] --once      prints the values once, as text
 Prints the address of the page and serves it until it is interrupted.
@@ -16,7 +17,9 @@ import threading
 import time
 import urllib.parse
 
-from hislip import HislipError, Instrument, ProtocolError, Timeout, parser, run
+import psu_path  # noqa: F401  (finds ../python)
+from psu import HislipError, Instrument, ProtocolError, Timeout
+from psu.command_line import parser, run
 
 OUTPUT_QUERIES = {
     "set_volts": ":SOUR{}:VOLT?",

@@ -1,6 +1,7 @@
 """Saves a state and confirms it, kills the server while it saves more states, starts it again, and shows what is there.
 
-Needs the program `psu` and Python 3.8 or later; no package: python3 save_and_cut.py [PROGRAM]
+Needs the program `psu` and Python 3.8 or later; in a clone no package has to be installed:
+    python3 save_and_cut.py [PROGRAM]
 It uses a temporary image and a free port. PROGRAM is by default the one that the variable PSU names, else the one built
 here, else that of the PATH.
 Prints what `*OPC?` confirmed, what was sent after it, and what register 1 holds after the restart: the confirmed state,
@@ -16,7 +17,8 @@ import sys
 import tempfile
 import threading
 
-from server import Server, find_program
+import psu_path  # noqa: F401  (finds ../python)
+from psu import Server
 
 CONFIRMED = 5000  # millivolts
 MOST = 60000  # what an output can be set to
@@ -67,11 +69,11 @@ def main():
     parser.add_argument("program", nargs="?", metavar="PROGRAM", help="the path of psu")
     program = parser.parse_args().program
     with tempfile.TemporaryDirectory() as folder:
-        server = Server(os.path.join(folder, "bench.psu"), program or find_program())
+        server = Server(os.path.join(folder, "bench.psu"), program)
         try:
             last, value = cut(server)
         finally:
-            server.stop()
+            server.close()
     is_kept = value in {volts(it) for it in range(CONFIRMED, last + 1)}
     print("found    ", value, "volts in register 1:", "as promised" if is_kept else "the promise is broken")
     return 0 if is_kept else 1

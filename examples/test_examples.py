@@ -10,12 +10,13 @@ import urllib.request
 
 import pytest
 
-from hislip import LockInfo
+import psu_path  # noqa: F401  (finds ../python)
 from panel import Locked, look
-from server import free_port
+from psu import LockInfo
+from psu.server import free_port
 
 FOLDER = os.path.dirname(os.path.abspath(__file__))
-PROGRAMS = ["confirm.py", "hislip.py", "idn.py", "panel.py", "save_and_cut.py", "server.py", "session.py"]
+PROGRAMS = ["backup.py", "confirm.py", "failing_calls.py", "hislip.py", "idn.py", "images.py", "panel.py", "save_and_cut.py", "session.py"]
 # What a driver may rely on that a panel reads: none of it is cleared.
 KEPT = "*STB?;:SYST:ERR:COUN?"
 
@@ -32,7 +33,7 @@ def test_help_is_answered(program):
     assert ended.stdout.startswith("usage: ")
 
 
-@pytest.mark.parametrize("program", ["confirm.py", "idn.py", "session.py"])
+@pytest.mark.parametrize("program", ["idn.py", "session.py"])
 def test_nothing_listens(program):
     ended = run(program, "--port", free_port())
     assert ended.returncode == 1
@@ -59,23 +60,6 @@ def test_save_and_cut(server):
     ended = run("save_and_cut.py", server.program)
     assert ended.returncode == 0
     assert ended.stdout.endswith("as promised\n")
-
-
-def test_confirm(server, supply):
-    supply.write("*SAV 1")
-    ended = run("confirm.py", "--port", server.port)
-    assert (ended.returncode, ended.stdout, ended.stderr) == (0, "", "")
-    supply.lock(1)
-    ended = run("confirm.py", "--port", server.port, "--timeout", 0.3)
-    assert (ended.returncode, ended.stdout, ended.stderr) == (1, "", "confirm.py: no response in time\n")
-
-
-def test_confirm_of_a_disk_that_fails(server, supply):
-    os.remove(server.image)
-    supply.write("*SAV 1")
-    ended = run("confirm.py", "--port", server.port)
-    assert (ended.returncode, ended.stdout) == (1, "")
-    assert ended.stderr == "confirm.py: the instrument did not confirm: its disk fails\n"
 
 
 def test_panel_as_text(server, supply):

@@ -8,7 +8,9 @@ import time
 
 import pytest
 
-from hislip import FatalError, LockError, ServerError, Timeout, after, before
+import psu_path  # noqa: F401  (finds ../python)
+from psu import FatalError, LockError, LockRefusal, ServerError, Timeout
+from psu.frames import Frame
 
 QUES, MAV, ESB, RQS = 0x08, 0x10, 0x20, 0x40  # bits of the status byte
 NO_ERROR = '0,"No error"'
@@ -155,16 +157,18 @@ def test_a_shared_lock_admits_those_with_the_same_key(supply, connect):
     assert stranger.lock_info() == (False, 2)
     with pytest.raises(Timeout):
         stranger.lock(0, "other")
-    with pytest.raises(LockError):
+    with pytest.raises(LockError) as refused:
         friend.lock(1, "bench")
+    assert refused.value.reason == LockRefusal.SHARED_HELD
     assert friend.query("VOLT 2;VOLT?") == supply.query("VOLT?") == "2.000"
     with pytest.raises(Timeout):
         stranger.query("VOLT?")
     supply.unlock()
     friend.unlock()
     assert stranger.lock_info() == (False, 0)
-    with pytest.raises(LockError):
+    with pytest.raises(LockError) as refused:
         friend.unlock()
+    assert refused.value.reason == LockRefusal.NONE_HELD
 
 
 def test_a_lock_ends_with_its_session(supply, connect):
@@ -270,7 +274,6 @@ def wait_until(holds):
 
 
 def test_message_ids_wrap(supply):
-    assert after(0xFFFF_FFFE) == 0 and before(0) == 0xFFFF_FFFE
     supply._next_id = 0xFFFF_FFFE
     assert [supply.query("*OPC?") for _ in range(3)] == ["1"] * 3
 
@@ -284,7 +287,7 @@ def test_clear_discards_unread_responses(supply):
 
 
 def test_an_error_of_the_server_leaves_the_session_usable(supply):
-    supply._sync.send(5, 200)  # a message type of a vendor, which the server does not have
+    supply._sync.send(Frame(200), 5)  # a message type of a vendor, which the server does not have
     with pytest.raises(ServerError) as error:
         supply.query("*OPC?")
     assert error.value.code == 3

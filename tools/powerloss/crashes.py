@@ -23,8 +23,16 @@ def torn(write, random):
     return [("write", number, at + offset, data[offset : offset + SECTOR]) for offset in sorted(done)]
 
 
-def choices(unsafe, random, most):
-    """Which of the writes that are not durable are done: none, all, each one missing, random ones, and random ones with one of them torn."""
+def torn_within(write, random):
+    """A write that ends, or begins, in the middle of a sector: its first bytes are done, or its last ones."""
+    _, number, at, data = write
+    split = random.randrange(len(data) // SECTOR) * SECTOR + random.randrange(1, SECTOR)
+    return [("write", number, at, data[:split]) if random.random() < 0.5 else ("write", number, at + split, data[split:])]
+
+
+def choices(unsafe, random, most, tears):
+    """Which of the writes that are not durable are done: none, all, each one missing, random ones, and for each way to tear a write
+    random ones with one of them torn."""
     yield []
     if not unsafe:
         return
@@ -33,13 +41,13 @@ def choices(unsafe, random, most):
         yield unsafe[:missing] + unsafe[missing + 1 :]
     for _ in range(most):
         yield [it for it in unsafe if random.random() < 0.5]
-    for _ in range(most):
+    for tear in tears * most:
         split = random.randrange(len(unsafe))
         some = [it for it in unsafe[:split] if random.random() < 0.7]
-        yield some + torn(unsafe[split], random)
+        yield some + tear(unsafe[split], random)
 
 
-def crash_images(empty, log, cuts, random, most):
+def crash_images(empty, log, cuts, random, most, tears):
     """Each cut, and each disk that a power loss there may leave, once: (cut, sectors)."""
     for cut in cuts:
         writes, unsafe = at_cut(log, cut)
@@ -48,7 +56,7 @@ def crash_images(empty, log, cuts, random, most):
         base = empty.copy()
         for _, _, at, data in writes[:first]:
             base.write(at, data)
-        for done in choices(unsafe, random, most):
+        for done in choices(unsafe, random, most, tears):
             key = tuple((it[1], it[2], len(it[3])) for it in done)
             if key not in seen:
                 seen.add(key)

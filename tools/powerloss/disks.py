@@ -35,6 +35,12 @@ class Sectors:
         return b"".join(map(self.sector, range(first, last)))
 
     def write(self, at, data):
+        before, behind = at % SECTOR, -(at + len(data)) % SECTOR
+        if before or behind:
+            # A part of a sector: the rest of it stays.
+            whole = bytearray(self.read(at - before, before + len(data) + behind))
+            whole[before : before + len(data)] = data
+            at, data = at - before, bytes(whole)
         for offset in range(0, len(data), SECTOR):
             self.written[(at + offset) // SECTOR] = data[offset : offset + SECTOR]
 
@@ -55,18 +61,22 @@ class PlainDisk:
 
 
 class LoggedDisk:
-    """A disk with a cache that it loses with the power. Answers come a few milliseconds late, at random. The log lists, in the order in which they
+    """A disk with a cache that it loses with the power. Answers come up to `delay` seconds late, at random. The log lists, in the order in which they
     happened: ("write", id, at, data) when a write arrives, ("answered", id) when it is answered, ("flush", id,
     covered) when a flush arrives, with the writes that were answered before it, and ("flushed", id) when it is
     answered. With `keeps` the disk lies: of the writes that were answered, each
     flush leaves the last ones in its cache."""
 
-    def __init__(self, base, size, log, seed, keeps=0):
-        self.sectors, self.log, self.keeps = Sectors(base, size), log, keeps
+    def __init__(self, base, size, log, seed, keeps=0, delay=0.004):
+        self.sectors, self.log, self.keeps, self.delay = Sectors(base, size), log, keeps, delay
         self.random, self.count, self.answered = random.Random(seed), 0, []
 
+    def insert(self, sectors):
+        """Has it begin anew with these sectors and an empty log."""
+        self.sectors, self.log, self.answered = sectors, [], []
+
     async def late(self):
-        await asyncio.sleep(self.random.random() * 0.004)
+        await asyncio.sleep(self.random.random() * self.delay)
 
     async def write(self, at, data):
         self.count += 1

@@ -1,13 +1,14 @@
 // The only program of the guest, its process 1. It mounts the disk whose power will be cut, and does one of two
 // things, by the kernel's command line:
 //
-//   pl.mode=work    makes an image, sends the messages of /lines to `psu run` or `psu serve`, and reports each
-// confirmation on the second disk
-//   pl.mode=check   mounts one crash image after another, which the host puts into the disk, and copies what is in it
-// to the second disk
+//   pl.mode=work    makes an image, sends the messages of /lines0 to `psu run` or `psu serve`, and reports each
+// confirmation on the second disk; with pl.clients=N those of /lines0, /lines1 .. by as many sessions at once
+//   pl.mode=check   mounts one crash image after another, which the host puts into the disk, copies what is in it to
+// the second disk, opens it with `psu recover`, and copies what that printed and what is there then
 //
 // The second disk is a mailbox. Sector 0: what the guest says (MARK n, NEXT); sector 1: what the host answers (GO,
-// STOP); from 1 MiB on: a copied image.
+// STOP); from 1 MiB on: a copied image; from REPORT on what `psu recover` printed, behind a sector with its status and
+// length; from AFTER on the image after it. The number of a mark is that of the line, and the client times CLIENT.
 #define _GNU_SOURCE
 #include <arpa/inet.h>
 #include <errno.h>
@@ -31,6 +32,10 @@
 #define IMAGE "/mnt/bench.psu"
 #define IMAGE_SIZE 263168
 #define ROOM (1 << 20)
+#define REPORT ((1 << 20) + (512 << 10))
+#define REPORT_ROOM (64 << 10)
+#define AFTER ((1 << 20) + (640 << 10))
+#define CLIENT 100000
 #define CONFIRMED "1;0,\"No error\"\n"
 
 static char words[4096];
@@ -240,7 +245,8 @@ static int dial(void)
     return made;
 }
 
-static struct channel open_server(void)
+// Starts the server, and returns once it listens.
+static void start_server(void)
 {
     struct ifreq lo = {.ifr_name = "lo", .ifr_flags = IFF_UP};
     int ends[2], net = socket(AF_INET, SOCK_DGRAM | SOCK_CLOEXEC, 0);
@@ -252,9 +258,14 @@ static struct channel open_server(void)
     do
         exactly(ends[0], text + length, 1);
     while (text[length++] != '\n');
+}
+
+static struct channel open_session(void)
+{
+    char text[256];
+    size_t length = 0;
     uint32_t session;
     int first = dial();
-    length = 0;
     frame(first, 0, 0, 0x01000000, "hislip0", 7);
     receive(first, &session, text, &length);
     int second = dial();
@@ -272,6 +283,42 @@ static struct channel open_run(void)
     return (struct channel){out[0], in[1], 0, 0, 0};
 }
 
+// Sends the lines of a client, and reports each confirmation.
+static void converse(unsigned client, struct channel psu)
+{
+    char path[32];
+    snprintf(path, sizeof path, "/lines%u", client);
+    FILE *lines = fopen(path, "r");
+    char *text = malloc(ROOM), *line = malloc(ROOM);
+    for (unsigned count = 1; lines && fgets(line, ROOM, lines); count++) {
+        send_line(&psu, line);
+        if (!strchr(line, '?'))
+            continue;
+        read_response(&psu, text);
+        if (strcmp(text, CONFIRMED))
+            fail("line %u of client %u is answered %s", count, client, text);
+        say("MARK", client * CLIENT + count);
+        printf("confirmed %u of client %u\n", count, client);
+    }
+}
+
+// Several sessions at once, each with its own lines.
+static void converse_at_once(unsigned clients)
+{
+    pid_t children[16];
+    int status;
+    for (unsigned client = 0; client < clients; client++) {
+        children[client] = fork();
+        if (!children[client]) {
+            converse(client, open_session());
+            _exit(0);
+        }
+    }
+    for (unsigned client = 0; client < clients; client++)
+        if (waitpid(children[client], &status, 0) < 0 || status)
+            fail("client %u", client);
+}
+
 static void work(void)
 {
     if (mount_disk())
@@ -280,19 +327,13 @@ static void work(void)
     say("MARK", 0);
     if (*word("noise") && !fork())
         disturb();
-    struct channel psu = *word("serve") ? open_server() : open_run();
-    FILE *lines = fopen("/lines", "r");
-    char *text = malloc(ROOM), *line = malloc(ROOM);
-    for (unsigned count = 1; lines && fgets(line, ROOM, lines); count++) {
-        send_line(&psu, line);
-        if (!strchr(line, '?'))
-            continue;
-        read_response(&psu, text);
-        if (strcmp(text, CONFIRMED))
-            fail("line %u is answered %s", count, text);
-        say("MARK", count);
-        printf("confirmed %u\n", count);
-    }
+    unsigned clients = atoi(word("clients"));
+    if (clients || *word("serve"))
+        start_server();
+    if (clients)
+        converse_at_once(clients);
+    else
+        converse(0, *word("serve") ? open_session() : open_run());
     say("DONE", 0);
 }
 
@@ -312,7 +353,8 @@ static void forget(void)
     }
 }
 
-static void copy_image(void)
+// Copies the image to a place of the mailbox. Returns its length, or -1 where there is none.
+static ssize_t copy_image(off_t to)
 {
     int file = open(IMAGE, O_RDONLY | O_CLOEXEC);
     ssize_t length = -1;
@@ -324,7 +366,36 @@ static void copy_image(void)
         close(file);
     }
     if (length >= 0)
-        put(sector, IMAGE_SIZE, 1 << 20);
+        put(sector, IMAGE_SIZE, to);
+    return length;
+}
+
+// Opens the image with `psu recover`, and copies its exit status and what it printed.
+static void recover(void)
+{
+    int ends[2], status;
+    size_t length = 0;
+    if (pipe2(ends, O_CLOEXEC))
+        fail("pipe");
+    pid_t child = start("recover", NULL, -1, ends[1]);
+    close(ends[1]);
+    memset(sector, 0, REPORT_ROOM);
+    for (ssize_t more; length < REPORT_ROOM - 1024 && (more = read(ends[0], sector + 512 + length, REPORT_ROOM - 1024 - length)) > 0;)
+        length += more;
+    close(ends[0]);
+    if (waitpid(child, &status, 0) < 0)
+        fail("psu recover");
+    snprintf(sector, 512, "%d %zu", WIFEXITED(status) ? WEXITSTATUS(status) : -1, length);
+    put(sector, REPORT_ROOM, REPORT);
+}
+
+static void look_at_image(void)
+{
+    ssize_t length = copy_image(1 << 20);
+    if (length >= 0) {
+        recover();
+        copy_image(AFTER);
+    }
     umount("/mnt");
     say(length < 0 ? "NOFILE" : "IMAGE", length < 0 ? 0 : length);
 }
@@ -344,7 +415,7 @@ static void check(void)
         if (mount_disk())
             say("NOMOUNT", errno);
         else
-            copy_image();
+            look_at_image();
     }
 }
 

@@ -83,8 +83,8 @@ def folders_of(paths):
     return sorted(found)
 
 
-def archive(kernel, program, guest, losing, lines):
-    """The guest's first file system: our program as its process 1, psu with its libraries, the modules, and the lines of the script."""
+def archive(kernel, program, guest, losing, scripts):
+    """The guest's first file system: our program as its process 1, psu with its libraries, the modules, and the lines of each client."""
     files = {"init": guest, "psu": program, "losing.so": losing}
     for path in libraries_of(program):
         files[path[1:]] = path
@@ -97,7 +97,8 @@ def archive(kernel, program, guest, losing, lines):
         with open(path, "rb") as file:
             parts.append(entry(name, stat.S_IFREG | 0o755, file.read()))
     parts.append(entry("modules", stat.S_IFREG | 0o644, "".join(f"/{it}\n" for it in names).encode()))
-    parts.append(entry("lines", stat.S_IFREG | 0o644, "".join(f"{it}\n" for it in lines).encode()))
+    for client, lines in enumerate(scripts):
+        parts.append(entry(f"lines{client}", stat.S_IFREG | 0o644, "".join(f"{it}\n" for it in lines).encode()))
     parts.append(entry("dev", stat.S_IFDIR | 0o755))
     parts.append(entry("TRAILER!!!", 0))
     return gzip.compress(b"".join(parts), 1)
@@ -122,7 +123,7 @@ def format_disk(folder, name, command, size):
 
 def words_of(kernel, initial, sockets, words):
     """The command of QEMU, with no accelerator, so that it runs anywhere."""
-    append = "console=ttyS0 quiet panic=-1 " + " ".join(f"pl.{key}={value}" for key, value in words.items() if value)
+    append = "console=ttyS0 quiet panic=-1 no_timer_check " + " ".join(f"pl.{key}={value}" for key, value in words.items() if value)
     found = ["qemu-system-x86_64", "-accel", "tcg", "-cpu", "max", "-m", "512", "-nodefaults", "-nographic", "-serial", "stdio", "-no-reboot"]
     found += ["-kernel", kernel.file, "-initrd", initial, "-append", append]
     for socket in sockets:

@@ -24,7 +24,7 @@ class Model:
     """The contents after the changes so far, with what of the instrument's volatile state the changes take up."""
 
     def __init__(self, seed):
-        self.random, self.number = random.Random(seed), 0
+        self.random, self.number, self.room = random.Random(seed), 0, LIMIT
         self.settings, self.registers, self.user = RESET, {}, b""
         self.macros, self.files, self.recall = [], {}, False
         self.sre, self.ese, self.flag = 0, 0, True
@@ -49,7 +49,7 @@ class Model:
     # ---- the changes: each returns the messages of one line
 
     def save(self):
-        is_full = self.registers and self.cost() > LIMIT - 20
+        is_full = self.registers and self.cost() > self.room - 20
         register = self.random.choice(sorted(self.registers)) if is_full else self.random.randrange(100)
         volts = self.number % 60000 + 1
         self.settings = struct.pack(">HHHB", volts, 0, 60000, 0) + RESET_OUTPUT * 3
@@ -98,7 +98,7 @@ class Model:
         return f":OUTP:PON:STAT {'RCL0' if self.recall else 'RST'}"
 
     def write_file(self):
-        if self.cost() > LIMIT - 40:
+        if self.cost() > self.room - 40:
             return self.delete_file()
         name = f"f{self.random.randrange(12)}"
         data = f"file {self.number} " * self.random.randrange(1, 300)
@@ -116,7 +116,7 @@ class Model:
         return f':MMEM:DEL "{name}"'
 
     def copy_file(self):
-        if not self.files or self.cost() > LIMIT - 40:
+        if not self.files or self.cost() > self.room - 40:
             return self.delete_file()
         name, other = self.some_file(), f"c{self.number}"
         self.files[other] = self.files[name]
@@ -169,9 +169,43 @@ class Model:
         return kind(self)
 
 
-def history(seed, changes, together):
+class FilesOfClient(Model):
+    """The files of one of several clients at once, whose names begin with its own letter. No other client changes them."""
+
+    def __init__(self, seed, client, clients):
+        super().__init__(seed)
+        self.letter, self.room = letter_of(client), LIMIT // clients
+
+    def change(self):
+        self.number += 1
+        if not self.files or self.cost() <= self.room - 40 and self.random.random() < 0.5:
+            return self.write_own()
+        name, other = self.some_file(), f"{self.letter}{self.number}"
+        kind = self.random.choice(["DEL", "COPY", "MOVE"])
+        if kind == "DEL" or kind == "COPY" and self.cost() > self.room - 40:
+            del self.files[name]
+            return f':MMEM:DEL "{name}"'
+        self.files[other] = self.files[name] if kind == "COPY" else self.files.pop(name)
+        return f':MMEM:{kind} "{name}","{other}"'
+
+    def write_own(self):
+        name = f"{self.letter}f{self.random.randrange(4)}"
+        data = f"file {self.number} " * self.random.randrange(1, 300)
+        self.files[name] = BIN, data.encode()
+        return f':MMEM:DATA "{name}",{block(data)}'
+
+
+def letter_of(client):
+    return chr(ord("a") + client)
+
+
+def is_of_client(key, client):
+    """Whether an item is a file of a client."""
+    return key.startswith(b"\5" + letter_of(client).encode())
+
+
+def history(model, changes, together):
     """The lines of a script, the contents after each line (the first: before all), and which lines confirm what came before them."""
-    model = Model(seed)
     lines, contents, confirming = [], [model.items()], set()
     while changes > 0:
         for _ in range(model.random.randint(1, together)):
@@ -215,3 +249,34 @@ def represented(image):
         return dict(item_of(image, page) for page in heads)
     except (struct.error, IndexError) as error:
         raise ValueError(f"bad root: {error}") from error
+
+
+KIND_NAMES = {0: "BIN", 1: "STAT", 2: "MACR"}
+
+
+def macros_in(value):
+    """How many macros an item has."""
+    count, at = 0, 0
+    while at < len(value):
+        at += 1 + value[at]
+        at += 2 + struct.unpack_from(">H", value, at)[0]
+        count += 1
+    return count
+
+
+def report(image, items):
+    """What `psu recover` has to print of an image with these items."""
+    number, root = max(filter(None, (root_of(image, 0), root_of(image, 1))))
+    version, limit = struct.unpack(">HH", root[4:8])
+    cost = sum(1 + -(-len(value) // PAGE) for value in items.values())
+    sre, ese = items.get(b"\1", (None, None))
+    is_requested = sre is not None and sre & 32 and ese & 128
+    lines = [f"image version {version} root {number}", f"pages {cost} of {limit}"]
+    lines.append("enables none" if sre is None else f"enables {sre} {ese}")
+    lines.append("request 96" if is_requested else "request none")
+    lines += ["power RCL0"] if b"\6" in items else []
+    lines += [f"user {len(items.get(bytes([3]), b''))}", f"macros {macros_in(items.get(bytes([4]), b''))}"]
+    for key, value in sorted(items.items()):
+        if key[:1] == b"\5":
+            lines.append(f"file {key[1:].decode()},{KIND_NAMES[value[0]]},{len(value) - 1}")
+    return "".join(f"{it}\n" for it in lines)

@@ -1,4 +1,5 @@
 pub mod Ending
+mod Quiet
 pub mod Rounds
 pub mod Seats
 pub mod Seen

@@ -5,7 +5,8 @@ use Rattle.psu_disk.specs.declared.disk.Disk.{Ghosts}
 use Rattle.psu_turn.specs.Seats.{Sight, Calls}
 use Rattle.psu_locks.specs.declared.freed.Freed.{Freed}
 use Rattle.psu_locks.specs.declared.lock_refusal.LockRefusal.{LockRefusal}
-use Rattle.psu_exec.specs.Device.{Answer, Reply, State}
+use Rattle.psu_exec.specs.Device.{State}
+use Rattle.psu_exec.specs.Quiet.{IsQuiet}
 use Rattle.psu_exec.specs.Calls.{Entry, JobEnd, Taken, Job}
 use Rattle.psu_exec.specs.Calls.Entry.{Took, GaveBack, Notified}
 use Rattle.psu_exec.specs.Jobs.{job_data}
@@ -49,15 +50,19 @@ abbrev pub over_sessions : Option (List ℕ) → List ℕ
 over_sessions (Some over) = over
 over_sessions None = []
 
--- What a unit with this reply has caused is what the notifications say that were then taken. A query that is answered
--- causes nothing.
-abbrev pub IsNotified : Type 0 → Reply → Sight State Entry → Option Caused → Sight State Entry → Type 0
-IsNotified honest reply old None new = (new ≡ old) × ((text : List ℕ) × (reply ≡ Answer text))
-IsNotified honest reply old (Some caused) new = Calls (AdmitsOn honest) old (Notified caused.requesting caused.wakes_flusher) new
+-- Whatever the state was, this call has caused nothing: no session has a new service request, and there is nothing new
+-- to flush.
+abbrev pub CausesNothing : Type 0 → Entry → Type 0
+CausesNothing honest entry = (s new : State) → AdmitsOn honest s entry new → IsQuiet s new
 
--- the seat executed a unit, which has caused this
-abbrev pub Causes : Type 0 → Reply → Sight State Entry → Entry → Option Caused → Sight State Entry → Type 0
-Causes honest reply old entry caused new = (mid : Sight State Entry) × Calls (AdmitsOn honest) old entry mid × IsNotified honest reply mid caused new
+-- What this call has caused is what the notifications say that were then taken. Where none were taken it causes nothing.
+abbrev pub IsNotified : Type 0 → Entry → Sight State Entry → Option Caused → Sight State Entry → Type 0
+IsNotified honest entry old None new = (new ≡ old) × CausesNothing honest entry
+IsNotified honest entry old (Some caused) new = Calls (AdmitsOn honest) old (Notified caused.requesting caused.wakes_flusher) new
+
+-- the seat made this call, which has caused this
+abbrev pub Causes : Type 0 → Sight State Entry → Entry → Option Caused → Sight State Entry → Type 0
+Causes honest old entry caused new = (mid : Sight State Entry) × Calls (AdmitsOn honest) old entry mid × IsNotified honest entry mid caused new
 
 -- the seat made this call, which has caused what the notifications say that were then taken
 abbrev pub Notifies : Type 0 → Sight State Entry → Entry → Caused → Sight State Entry → Type 0

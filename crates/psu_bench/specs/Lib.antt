@@ -1,7 +1,11 @@
 pub mod Calls
 pub mod Callers
 pub mod Condition
+pub mod Seconds
+pub mod Lines
+pub mod Reopenings
 pub mod PowerOn
+pub mod Reports
 pub mod Rounds
 pub mod Seen
 pub mod Tries

@@ -4,6 +4,7 @@ ghost use Rattle.std.specs.Arc.{arc_value};
 ghost use Rattle.psu_turn.specs.Seats.{Begins, Calls, IsOf, Splits};
 ghost use Rattle.psu_exec.specs.Calls.Entry.{Executed, Settled, Took, Opened, Closed, Cleared, Sent, Delivered, Queried, Fetched, Notified, Locked, Released, Ticked, Informed, Due};
 ghost use Rattle.psu_exec.specs.Shown.{outcome_of, over_of};
+ghost use Rattle.psu_tree.specs.declared.unit_request.Request.{Request as UnitRequest};
 ghost use Rattle.psu_locks.specs.declared.grant.Grant.TheVariants as grants;
 ghost use Rattle.psu_bench.specs.Calls.{AdmitsOn, session_of};
 ghost use Rattle.psu_bench.specs.Callers.{Causes, GivesBack, HasEnded, IsNotified, Makes, Notifies, over_sessions, released_of};
@@ -12,7 +13,7 @@ use crate::{Bench, Caused, CausedByJob, Gate, Granted, Point, Seat, SharedGate, 
 use psu_disk::Disk;
 use psu_exec::{
     Crowded, Exec, Finished, Freed, Grant, Info, Job, Kind, LockRefusal, NoJob, Outcome, Request,
-    Session, Sessions, Stranger,
+    Session, Sessions, Stranger, each_answer_is_quiet,
 };
 use std::alloc::{AllocError, Global};
 use std::sync::{Arc, Wait};
@@ -28,8 +29,7 @@ pub struct Caller<D: Disk, G: Gate> {
     ghost here: { is_some seat.opening ≡ true },
 }
 
-// Returns what a unit may have caused; none for a query that is answered: it sets no bit of a status register and changes
-// nothing that is stored, so it causes nothing.
+// Returns what a unit with this outcome may have caused; none for a query that is answered, which causes nothing.
 fn caused_by<D: Disk, R: Wait>(
     rt: &R,
     bench: &Bench<D, Global>,
@@ -38,9 +38,10 @@ fn caused_by<D: Disk, R: Wait>(
 ) -> Option<Caused>
     requires own { IsOf bench.now seat.old }
     ensures call { (seat.new ≡ seat.old) ⊎ ((asking : List ℕ) × (work : Bool) × Calls (AdmitsOn D.honest) seat.old (Notified asking work) seat.new) }
-    ensures caused { IsNotified D.honest (outcome_of outcome.now) seat.old result seat.new }
+    ensures caused { (session : ℕ) → (request : UnitRequest) → IsNotified D.honest (Executed session request (outcome_of outcome.now)) seat.old result seat.new }
     ensures own { IsOf bench.now seat.new }
 {
+    each_answer_is_quiet();
     match outcome {
         Outcome::Answer(_) => None,
         _ => Some(Caused::of(bench.take_notifications(rt, seat))),
@@ -101,7 +102,7 @@ impl<D: Disk + Drop, G: Gate + Drop> Caller<D, G> {
         request: &Request<'_>,
     ) -> (Outcome<Global>, Option<Caused>)
         ensures call { Makes D.honest self.old.seat (Executed session request.now (outcome_of result.0)) self.new.seat }
-        ensures caused { Causes D.honest (outcome_of result.0) self.old.seat (Executed session request.now (outcome_of result.0)) result.1 self.new.seat }
+        ensures caused { Causes D.honest self.old.seat (Executed session request.now (outcome_of result.0)) result.1 self.new.seat }
     {
         let guard = visit.enter(rt);
         let outcome = self.bench.execute(rt, &mut self.seat, session, request);

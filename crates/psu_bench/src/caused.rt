@@ -1,5 +1,6 @@
 // What a call causes for other threads.
 ghost use Rattle.std.specs.Prelude.{◌≡◌, ◌↔◌, IsTrue, [], Ok};
+ghost use Rattle.psu_bench.specs.Reports.{Reports, flusher_reports, reports_of, service_reports};
 
 use crate::Others;
 use crate::duty::Duty;
@@ -40,19 +41,35 @@ impl Caused {
         }
     }
 
-    /// Reports it to the other threads.
-    pub fn report<O: Others>(self, others: &O) {
+    /// Reports it to the other threads: each part of it once, and nothing else.
+    pub fn report<O: Others>(self, others: &mut O)
+        ensures { Reports O.tells others.old (reports_of self) others.new }
+    {
         let Caused {
             requesting,
             wakes_flusher,
             duty,
         } = self;
         let Duty(_) = duty;
-        if !requesting.is_empty() {
-            others.service_requested(&requesting);
-        }
-        if wakes_flusher {
-            others.wake_flusher();
-        }
+        report_service(others, &requesting);
+        report_work(others, wakes_flusher);
+    }
+}
+
+// Reports that sessions request service, if there are any.
+pub(crate) fn report_service<O: Others>(others: &mut O, requesting: &Sessions)
+    ensures { Reports O.tells others.old (service_reports requesting.now) others.new }
+{
+    if !requesting.is_empty() {
+        others.service_requested(requesting);
+    }
+}
+
+// Wakes the flusher, if it has something to do.
+fn report_work<O: Others>(others: &mut O, wakes_flusher: bool)
+    ensures { Reports O.tells others.old (flusher_reports wakes_flusher) others.new }
+{
+    if wakes_flusher {
+        others.wake_flusher();
     }
 }

@@ -1,7 +1,9 @@
 // What the end of a job causes for other threads.
 ghost use Rattle.std.specs.Prelude.{◌≡◌};
+ghost use Rattle.psu_bench.specs.Reports.{Reports, reports_of_job};
 
 use crate::Others;
+use crate::caused::report_service;
 use crate::duty::Duty;
 use psu_exec::Sessions;
 
@@ -27,8 +29,10 @@ impl CausedByJob {
         }
     }
 
-    /// Reports it to the other threads.
-    pub fn report<O: Others>(self, others: &O) {
+    /// Reports it to the other threads: each part of it once, and nothing else.
+    pub fn report<O: Others>(self, others: &mut O)
+        ensures { Reports O.tells others.old (reports_of_job self) others.new }
+    {
         let CausedByJob {
             over,
             requesting,
@@ -36,8 +40,6 @@ impl CausedByJob {
         } = self;
         let Duty(_) = duty;
         others.job_ended(&over);
-        if !requesting.is_empty() {
-            others.service_requested(&requesting);
-        }
+        report_service(others, &requesting);
     }
 }

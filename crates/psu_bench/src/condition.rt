@@ -8,7 +8,7 @@ use psu_items::UnstartedCause;
 use std::alloc::Allocator;
 use thiserror::Error;
 
-/// The condition of the store, as it is reported to an operator: a line on standard error when it changes.
+/// The condition of the store, as it is reported to an operator on standard error once it has changed.
 #[derive(Clone, Copy, Debug, PartialEq, Eq, Error)]
 pub enum Condition {
     /// Changes are stored. This is reported only after another condition was.

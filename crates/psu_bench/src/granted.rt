@@ -26,8 +26,10 @@ impl Granted {
         }
     }
 
-    /// Passes the result on to the sessions.
-    pub fn pass_on<R: LockedRegistry>(self, registry: &R) {
+    /// Passes the result on to the sessions, once.
+    pub fn pass_on<R: LockedRegistry>(self, registry: &mut R)
+        ensures { R.passes registry.old (record { sessions = self.sessions; grant = self.grant }) registry.new }
+    {
         let Granted {
             sessions,
             grant,

@@ -9,6 +9,8 @@ mod closings;
 #[cfg(test)]
 mod holds;
 #[cfg(test)]
+mod lines;
+#[cfg(test)]
 mod many;
 #[cfg(test)]
 mod overlaps;

@@ -1,9 +1,9 @@
 // Devices whose disks fail: stores that break, power losses in a job, and a store that does not power on.
 use crate::holds::holds;
-use crate::plays::{LEAST, device_with, disk_after, image_of, played, whole};
+use crate::plays::{LEAST, device_with, disk_after, disk_of, image_of, played, whole};
 use crate::stores::{assign, opened, stored};
 use psu_disk::{Choice, Disk, FailingDisk, MemDisk};
-use psu_exec::{Ended, Exec, PowerCause, PowerFault};
+use psu_exec::{Exec, PowerCause, PowerFault};
 use psu_items::{Batch, Store};
 use psu_status::Enables;
 use std::alloc::{Allocator, Global};
@@ -93,15 +93,6 @@ const ONE_CHANGE: &str = "open 1
 1: *PSC 0 -> done
 unflushed
 flush";
-
-// Returns the disk of a device that ends with no job out.
-fn disk_of<D: Disk + Drop, A: Allocator + Copy>(rt: &impl Abort, exec: Exec<D, A>) -> D {
-    match exec.end() {
-        Ended::Whole(store) => store.into_disk(),
-        Ended::Failed(broken) => broken.into_disk(),
-        Ended::Out(_) => panic!(rt; "a job is out"),
-    }
-}
 
 // Returns the disk after it stopped after this many calls, the first of which open it, and then lost power with these
 // bytes.

@@ -12,6 +12,8 @@ mod counts;
 #[cfg(test)]
 mod devices;
 #[cfg(test)]
+mod full_tails;
+#[cfg(test)]
 mod holds;
 #[cfg(test)]
 mod plays;

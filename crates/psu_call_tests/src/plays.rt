@@ -65,6 +65,15 @@ pub fn disk_after<D: Disk + Drop, A: Allocator + Copy>(
     whole(rt, played(rt, alloc, disk, script))
 }
 
+/// Returns the disk of a device that ends with no job out.
+pub fn disk_of<D: Disk + Drop, A: Allocator + Copy>(rt: &impl Abort, exec: Exec<D, A>) -> D {
+    match exec.end() {
+        Ended::Whole(store) => store.into_disk(),
+        Ended::Failed(broken) => broken.into_disk(),
+        Ended::Out(_) => panic!(rt; "a job is out"),
+    }
+}
+
 /// Takes the job that there is.
 pub fn taken<D: Disk + Drop, A: Allocator + Copy>(
     rt: &impl Abort,

@@ -1,29 +1,18 @@
 //! The commands of the program, thin over the server.
 use crate::fault::Fault;
+use crate::image::{LIMIT, SIZE, new_image};
 use psu_disk::{Disk, FileDisk, MemDisk, OsFiles};
 use psu_items::Store;
-use psu_server::{Examined, examine, report_text, run};
+use psu_server::{Recovered, recover, report_text, run};
 use std::alloc::Global;
 use std::fs::File;
 use std::io::{self, Input, Print, Write};
 use std::rt::Files;
 
-/// How many pages the contents of an image that the program makes may cost.
-const LIMIT: u16 = 256;
-
-/// The bytes of such an image: two roots and twice the limit, in pages of 512 bytes.
-const SIZE: u64 = 263_168;
-
-/// Makes a formatted image at a path where no file is.
+/// Makes a formatted image at a path where no file is. If that fails, no new file is left there.
 pub fn make_image<R: Files<File = File>>(rt: &R, alloc: Global, path: &str) -> Result<(), Fault> {
-    let disk = match FileDisk::make(&mut OsFiles { files: rt }, alloc, path, SIZE) {
-        Ok(disk) => disk,
-        Err(fault) => return Err(Fault::File(fault)),
-    };
-    match Store::format(alloc, disk, LIMIT) {
-        Ok(_) => Ok(()),
-        Err(fault) => Err(Fault::from(fault.cause)),
-    }
+    new_image(&mut OsFiles { files: rt }, alloc, path)?;
+    Ok(())
 }
 
 /// Reads messages from standard input, on a fresh image in memory.
@@ -67,7 +56,7 @@ pub fn recover_image<R: Files<File = File> + Print>(
         Ok(disk) => disk,
         Err(fault) => return Err(Fault::File(fault)),
     };
-    let Examined { found, .. } = examine(alloc, disk);
+    let Recovered { found, .. } = recover(alloc, disk);
     let report = match found {
         Ok(report) => report,
         Err(fault) => return Err(Fault::Recover(fault)),

@@ -5,7 +5,7 @@ use Rattle.psu_disk.specs.Disk.{DiskState, Range, Holds, IsFlagged, Touches}
 use Rattle.psu_disk.specs.Medium.{NoneMore, IsKnown, Settles}
 use Rattle.psu_disk.specs.declared.file_calls.FileFacts.{FileFacts}
 use Rattle.psu_disk.specs.declared.file_calls.LockAnswer.{LockAnswer}
-use Rattle.psu_disk.specs.declared.file_calls.LockAnswer.TheVariants.{Locked, InUse, NoLocks}
+use Rattle.psu_disk.specs.declared.file_calls.LockAnswer.TheVariants.{Locked, InUse, NoLocks, Failed}
 
 -- A call on an open file. A Bool says whether it succeeded.
 pub data FileCall : Type 0 where
@@ -23,8 +23,11 @@ pub data PathCall (F : Type 0) : Type 0 where
   Opened : List ℕ → F → PathCall F
   -- a new file was created at this path, where there was none
   Created : List ℕ → F → PathCall F
+  -- no file was created at this path: what was there before, if anything, is unchanged
+  NotCreated : List ℕ → PathCall F
   -- the directory of this path was synced, while the file in it was in this state
   SyncedFolder : List ℕ → F → Bool → PathCall F
+  -- the file at this path was removed, if the system could
   Removed : List ℕ → PathCall F
 
 -- these calls were made, in this order and no others
@@ -50,15 +53,20 @@ abbrev pub IsFailedSync : {F : Type 0} → (F → FileCall → F → Type 0) →
 IsFailedSync made size old new = made old (FileCall.SyncData false) new
     ⊎ ((seen : Option FileFacts) × Calls made (FileCall.SyncData true ∷ FileCall.Looked seen ∷ []) old new × (IsWhole size seen → ⊥))
 
--- no other opening of the file has it locked, as far as the file system has locks
+-- no other opening of the file has it locked, or the file system has no locks
 abbrev pub IsFree : LockAnswer → Type 0
 IsFree Locked = ⊤
 IsFree InUse = ⊥
 IsFree NoLocks = ⊤
+IsFree Failed = ⊥
 
 -- a lock was tried, and no other opening of the file has it locked
 abbrev pub IsLocked : {F : Type 0} → (F → FileCall → F → Type 0) → F → F → Type 0
 IsLocked made old new = (answer : LockAnswer) × made old (FileCall.TriedLock answer) new × IsFree answer
+
+-- a lock was tried, and another opening of the file has it locked, or the call failed
+abbrev pub IsLockRefused : {F : Type 0} → (F → FileCall → F → Type 0) → F → Type 0
+IsLockRefused {F} made old = (answer : LockAnswer) × (new : F) × made old (FileCall.TriedLock answer) new × (IsFree answer → ⊥)
 
 -- a file was looked at and is a regular file, and then it was locked
 abbrev pub IsTakenUp : {F : Type 0} → (F → FileCall → F → Type 0) → F → F → Type 0
@@ -84,6 +92,20 @@ abbrev pub IsMade : {S F : Type 0} → (S → PathCall F → S → Type 0) → (
 IsMade {S} {F} made_path made path size old file new = (created : S) × (first locked : F)
     × made_path old (PathCall.Created path first) created × IsLocked made first locked × IsFilled made size locked file
     × made_path created (PathCall.SyncedFolder path file true) new
+
+-- the directory of this path was synced once, with success or not, or no call was made
+abbrev pub MaySyncFolder : {S F : Type 0} → (S → PathCall F → S → Type 0) → List ℕ → S → S → Type 0
+MaySyncFolder {S} {F} made_path path old new = (old ≡ new) ⊎ ((file : F) × (worked : Bool) × made_path old (PathCall.SyncedFolder path file worked) new)
+
+-- a file was created at this path, where there was none, and then removed
+abbrev pub IsCreatedAndRemoved : {S F : Type 0} → (S → PathCall F → S → Type 0) → List ℕ → S → S → Type 0
+IsCreatedAndRemoved {S} {F} made_path path old new = (first : F) × (created left : S)
+    × made_path old (PathCall.Created path first) created × MaySyncFolder made_path path created left × made_path left (PathCall.Removed path) new
+
+-- No new file is left at this path, and what was there before is unchanged: none was created, and nothing else was done
+-- at a path, or one was created, where there was none, and removed.
+abbrev pub LeavesNoFile : {S F : Type 0} → (S → PathCall F → S → Type 0) → List ℕ → S → S → Type 0
+LeavesNoFile made_path path old new = made_path old (PathCall.NotCreated path) new ⊎ IsCreatedAndRemoved made_path path old new
 
 -- A call leaves what is read, and which of it a power loss may change, as they were.
 pub record Leaves (old new : DiskState) (forgotten forgotten' : ℕ → Bool) : Type 0 where

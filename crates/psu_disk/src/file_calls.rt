@@ -23,8 +23,10 @@ pub enum LockAnswer {
     Locked,
     /// Another opening of it has it locked.
     InUse,
-    /// The file system has no locks, or the call failed.
+    /// The file system has no locks.
     NoLocks,
+    /// The call failed for another reason.
+    Failed,
 }
 
 /// An open file, as the system's calls on it. Each method makes one call; it ensures that exactly that call was made,
@@ -102,7 +104,7 @@ pub trait FileCalls {
 /// with what result.
 pub trait FileSystem<F: FileCalls> {
     ghost use Rattle.psu_disk.specs.FileCalls.{PathCall};
-    ghost use Rattle.std.specs.Prelude.{IfOk, false};
+    ghost use Rattle.std.specs.Prelude.{IfOk, IfErr, false};
 
     /// A call was made: the system before it, the call, and the system after it.
     ghost made: { Self → PathCall F → Self → Type 0 };
@@ -112,9 +114,11 @@ pub trait FileSystem<F: FileCalls> {
         ensures opened { IfOk result (λ file. made self.old (PathCall.Opened path.now file) self.new) }
         ensures known { IfOk result (λ file. F.keeps → (k : ℕ) → F.forgotten file k ≡ false) };
 
-    /// Creates a new file, which is to have `size` bytes, at a path where there is none (open, exclusive).
+    /// Creates a new file, which is to have `size` bytes, at a path where there is none (open, exclusive). Where it
+    /// fails, no new file is there, and one that was there is unchanged.
     fn create(&mut self, path: &str, size: u64) -> Result<F, OpenFault>
         ensures created { IfOk result (λ file. made self.old (PathCall.Created path.now file) self.new) }
+        ensures refused { IfErr result (λ _. made self.old (PathCall.NotCreated path.now) self.new) }
         ensures extent { IfOk result (λ file. F.extent file ≡ size) }
         ensures known { IfOk result (λ file. F.keeps → (k : ℕ) → F.forgotten file k ≡ false) };
 

@@ -1,7 +1,7 @@
 // Disks in files of the system: how one is opened, and how one is created.
-ghost use Rattle.std.specs.Prelude.{◌≡◌, ◌+◌, ◌≤◌, ◌<◌, ◌-◌, ℕ, List, true, false, length, replicate, IfOk, IfErr, OnOk};
+ghost use Rattle.std.specs.Prelude.{◌≡◌, ◌+◌, ◌≤◌, ◌<◌, ◌-◌, ℕ, List, true, false, length, replicate, IfOk, IfErr, OnOk, OnErr};
 ghost use Rattle.psu_disk.specs.declared.open_fault.OpenFault.TheVariants.{NotOpened};
-ghost use Rattle.psu_disk.specs.FileCalls.{FileCall, PathCall, Calls, AreZeros, IsLocked, IsTakenUp, IsOpened, IsFilled, IsMade};
+ghost use Rattle.psu_disk.specs.FileCalls.{FileCall, PathCall, Calls, AreZeros, IsLocked, IsLockRefused, IsTakenUp, IsOpened, IsFilled, IsMade, MaySyncFolder, LeavesNoFile};
 
 use crate::file_calls::{FileCalls, FileSystem, LockAnswer};
 use crate::{DiskFault, KeptDisk, OpenFault, SystemFile};
@@ -12,7 +12,8 @@ const PIECE: u64 = 4_096;
 
 impl<F: FileCalls + Drop, A: Allocator + Drop> KeptDisk<SystemFile<F>, A> {
     /// Opens the disk in the existing file at a path. Its size is the file's, which stays unchanged. The file is locked
-    /// while it is open; a file that another program has locked is refused.
+    /// while it is open; a file that another program has locked is refused, and so is one whose lock fails, unless the
+    /// file system has no locks.
     pub fn of<S: FileSystem<F>>(
         system: &mut S,
         alloc: A,
@@ -27,8 +28,8 @@ impl<F: FileCalls + Drop, A: Allocator + Drop> KeptDisk<SystemFile<F>, A> {
     }
 
     /// Creates a disk of `size` bytes in a new file at a path. Each byte is written as 00, and the bytes and the file's
-    /// name are made durable. A file that exists already is refused and stays unchanged. If filling the new file or a
-    /// sync fails, for instance for lack of space, the new file is removed.
+    /// name are made durable. A file that exists already is refused and stays unchanged. If anything fails after the
+    /// new file was created, its lock, a write for lack of space, a sync or an allocation, it is removed.
     pub fn make<S: FileSystem<F>>(
         system: &mut S,
         alloc: A,
@@ -38,14 +39,37 @@ impl<F: FileCalls + Drop, A: Allocator + Drop> KeptDisk<SystemFile<F>, A> {
         ensures made { IfOk result (λ disk. IsMade S.made F.made path.now size system.old disk.medium.file system.new) }
         ensures size { IfOk result (λ disk. F.extent disk.medium.file ≡ size) }
         ensures faults { IfOk result (λ disk. disk.faults ≡ 0) }
+        ensures refused { IfErr result (λ _. LeavesNoFile S.made path.now system.old system.new) }
     {
         let file = system.create(path, size)?;
-        let mut file = locked(file)?;
-        if make_durable(system, path, &mut file).is_err() {
-            system.remove(path);
-            return Err(OpenFault::NotOpened);
+        match filled(system, alloc, path, file) {
+            Ok(disk) => Ok(disk),
+            Err(fault) => {
+                system.remove(path);
+                Err(fault)
+            }
         }
-        over(alloc, file)
+    }
+}
+
+// Makes a disk of a file that was created: it locks it, fills it with zeros, and makes it and its name durable.
+fn filled<F: FileCalls + Drop, S: FileSystem<F>, A: Allocator + Drop>(
+    system: &mut S,
+    alloc: A,
+    path: &str,
+    file: F,
+) -> Result<KeptDisk<SystemFile<F>, A>, OpenFault>
+    requires known { F.keeps → (k : ℕ) → F.forgotten file k ≡ false }
+    ensures filled { IfOk result (λ disk. (locked : F) × IsLocked F.made file locked × IsFilled F.made (F.extent file) locked disk.medium.file) }
+    ensures folder { IfOk result (λ disk. S.made system.old (PathCall.SyncedFolder path.now disk.medium.file true) system.new) }
+    ensures size { IfOk result (λ disk. F.extent disk.medium.file ≡ F.extent file) }
+    ensures faults { IfOk result (λ disk. disk.faults ≡ 0) }
+    ensures refused { IfErr result (λ _. MaySyncFolder S.made path.now system.old system.new) }
+{
+    let mut file = locked(file)?;
+    match make_durable(system, path, &mut file) {
+        Ok(()) => over(alloc, file),
+        Err(DiskFault) => Err(OpenFault::NotOpened),
     }
 }
 
@@ -76,16 +100,17 @@ fn taken_up<F: FileCalls + Drop>(mut file: F) -> Result<F, OpenFault>
     }
 }
 
-// Locks a file, where the file system has locks. A file that another opening of it has locked is refused.
+// Locks a file, unless the file system has no locks. A file that another opening of it has locked is refused, and so is
+// one whose lock fails.
 fn locked<F: FileCalls + Drop>(mut file: F) -> Result<F, OpenFault>
     ensures locked { IfOk result (λ locked. IsLocked F.made file locked) }
-    ensures refused { IfErr result (λ fault. fault ≡ NotOpened) }
+    ensures refused { IfErr result (λ fault. (fault ≡ NotOpened) × IsLockRefused F.made file) }
     ensures extent { IfOk result (λ locked. F.extent locked ≡ F.extent file) }
     ensures known { F.keeps → ((k : ℕ) → F.forgotten file k ≡ false) → IfOk result (λ locked. (k : ℕ) → F.forgotten locked k ≡ false) }
 {
     match file.try_lock() {
         LockAnswer::Locked | LockAnswer::NoLocks => Ok(file),
-        LockAnswer::InUse => Err(OpenFault::NotOpened),
+        LockAnswer::InUse | LockAnswer::Failed => Err(OpenFault::NotOpened),
     }
 }
 
@@ -98,6 +123,7 @@ fn make_durable<F: FileCalls, S: FileSystem<F>>(
     ensures extent { F.extent file.new ≡ F.extent file.old }
     ensures filled { OnOk result (IsFilled F.made (F.extent file.old) file.old file.new) }
     ensures folder { OnOk result (S.made system.old (PathCall.SyncedFolder path.now file.new true) system.new) }
+    ensures refused { OnErr result (MaySyncFolder S.made path.now system.old system.new) }
     ensures known { F.keeps → ((k : ℕ) → F.forgotten file.old k ≡ false) → OnOk result ((k : ℕ) → F.forgotten file.new k ≡ false) }
 {
     fill(file)?;

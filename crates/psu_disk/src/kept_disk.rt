@@ -1,7 +1,7 @@
 // A disk over a medium that may forget bytes at a failed sync. It keeps the ranges written since the last successful
 // sync. After a failed sync it writes their bytes again, as they read, before the next sync.
-ghost use Rattle.std.specs.Prelude.{◌≡◌, ℕ, ◌+◌, ◌^◌, ◌<◌, ◌≤◌, List, length, true, false, IfOk, OnOk, OnErr};
-ghost use Rattle.psu_disk.specs.Disk.{IsCrashImage, IsFlagged, IsSynced, Only, Elapses, HasCause, Holds, Touches, SameBut, Follows, is_unsynced};
+ghost use Rattle.std.specs.Prelude.{◌≡◌, ℕ, ◌+◌, ◌^◌, ◌<◌, ◌≤◌, List, length, true, false, not, is_ok, IfOk, OnOk, OnErr};
+ghost use Rattle.psu_disk.specs.Disk.{IsCrashImage, IsFlagged, IsSynced, Only, Elapses, HasCause, Holds, Range, Touches, SameBut, Follows, is_unsynced};
 ghost use Rattle.psu_disk.specs.Medium.{NoneMore, IsKnown, IsKept};
 ghost use Rattle.psu_disk.specs.Touched.{is_in, is_covered};
 ghost use Rattle.std.proofs.Props.{props};
@@ -33,6 +33,7 @@ impl<M: Medium + Drop, A: Allocator + Drop> KeptDisk<M, A> {
         requires { M.honest → (k : ℕ) → M.forgotten medium k ≡ false }
         ensures medium { IfOk result (λ disk. disk.medium ≡ medium) }
         ensures faults { IfOk result (λ disk. disk.faults ≡ 0) }
+        ensures failed { IfOk result (λ disk. disk.failed ≡ false) }
     {
         // The size is a `u64`, which bounds the medium's extent.
         let _size = medium.size();
@@ -64,6 +65,7 @@ impl<M: Medium, A: Allocator> KeptDisk<M, A> {
     fn recover(&mut self) -> Result<(), DiskFault>
         ensures extent { M.extent self.new.medium ≡ M.extent self.old.medium }
         ensures faults { self.new.faults ≡ self.old.faults }
+        ensures failed { OnErr result (self.new.failed ≡ true) }
         ensures state { M.honest → M.state self.new.medium ≡ M.state self.old.medium }
         ensures known { M.honest → OnOk result ((k : ℕ) → M.forgotten self.new.medium k ≡ false) }
         ensures works { M.works self.old.medium → self.old.written.full ≡ false → OnErr result ⊥ × M.works self.new.medium }
@@ -84,6 +86,7 @@ impl<M: Medium, A: Allocator> KeptDisk<M, A> {
     fn settle(&mut self) -> Result<(), DiskFault>
         ensures extent { M.extent self.new.medium ≡ M.extent self.old.medium }
         ensures faults { self.new.faults ≡ self.old.faults }
+        ensures failed { self.new.failed ≡ not (is_ok result) }
         ensures synced { M.honest → OnOk result (IsSynced (M.state self.new.medium)) }
         ensures seen { M.honest → (M.state self.new.medium).bytes ≡ (M.state self.old.medium).bytes }
         ensures err { M.honest → OnErr result (M.state self.new.medium ≡ M.state self.old.medium) }
@@ -196,12 +199,24 @@ impl<M: Medium, A: Allocator> Disk for KeptDisk<M, A> {
         self.faults
     }
 
-    fn read(&mut self, at: u64, into: &mut [u8]) -> Result<(), DiskFault> {
+    /// Also: it leaves unchanged whether the last sync failed.
+    fn read(&mut self, at: u64, into: &mut [u8]) -> Result<(), DiskFault>
+        requires { at + length into.old ≤ M.extent self.old.medium }
+        ensures extent { M.extent self.new.medium ≡ M.extent self.old.medium }
+        ensures cause { HasCause self.old.faults self.new.faults result }
+        ensures bytes { M.honest → OnOk result (into.new ≡ Range at (length into.old) (M.state self.old.medium).bytes) }
+        ensures state { M.honest → M.state self.new.medium ≡ M.state self.old.medium }
+        ensures seen { M.honest → (M.state self.new.medium).bytes ≡ (M.state self.old.medium).bytes }
+        ensures left { M.honest → (x : List ℕ) → IsCrashImage (M.state self.new.medium) x → IsCrashImage (M.state self.old.medium) x }
+        ensures time { M.honest × M.records → Elapses (M.moment self.old.medium) (M.moment self.new.medium) (M.left_since self.old.medium) (M.left_since self.new.medium) (IsCrashImage (M.state self.new.medium)) }
+        ensures failed { self.new.failed ≡ self.old.failed }
+    {
         let answer = self.medium.read(at, into);
         counted(&mut self.faults, answer)
     }
 
-    /// Also: while fewer than 1,024 ranges were written since the last successful sync, each of them is known.
+    /// Also: it leaves unchanged whether the last sync failed, and while fewer than 1,024 ranges were written since the
+    /// last successful one, each of them is known.
     fn write(&mut self, at: u64, bytes: &[u8]) -> Result<(), DiskFault>
         requires { at + length bytes.now ≤ M.extent self.old.medium }
         ensures extent { M.extent self.new.medium ≡ M.extent self.old.medium }
@@ -212,6 +227,7 @@ impl<M: Medium, A: Allocator> Disk for KeptDisk<M, A> {
         ensures seen { M.honest → SameBut at (length bytes.now) (M.state self.old.medium).bytes (M.state self.new.medium).bytes }
         ensures left { M.honest → Follows (SameBut at (length bytes.now)) (IsCrashImage (M.state self.old.medium)) (IsCrashImage (M.state self.new.medium)) }
         ensures time { M.honest × M.records → Elapses (M.moment self.old.medium) (M.moment self.new.medium) (M.left_since self.old.medium) (M.left_since self.new.medium) (IsCrashImage (M.state self.new.medium)) }
+        ensures failed { self.new.failed ≡ self.old.failed }
         ensures room { length self.old.written.spans.items < 1024 → self.new.written.full ≡ self.old.written.full }
     {
         let span = Span {
@@ -224,7 +240,7 @@ impl<M: Medium, A: Allocator> Disk for KeptDisk<M, A> {
     }
 
     /// Also: if the medium works from here on, and each range that was written since the last successful sync is known,
-    /// the sync succeeds, after any number of failed ones.
+    /// the sync succeeds, after any number of failed ones. Whether it failed is remembered until the next one.
     fn sync(&mut self) -> Result<(), DiskFault>
         ensures extent { M.extent self.new.medium ≡ M.extent self.old.medium }
         ensures cause { HasCause self.old.faults self.new.faults result }
@@ -234,6 +250,7 @@ impl<M: Medium, A: Allocator> Disk for KeptDisk<M, A> {
         ensures only { M.honest → OnOk result (Only (M.state self.new.medium)) }
         ensures left { M.honest → (x : List ℕ) → IsCrashImage (M.state self.new.medium) x → IsCrashImage (M.state self.old.medium) x }
         ensures time { M.honest × M.records → Elapses (M.moment self.old.medium) (M.moment self.new.medium) (M.left_since self.old.medium) (M.left_since self.new.medium) (IsCrashImage (M.state self.new.medium)) }
+        ensures failed { self.new.failed ≡ not (is_ok result) }
         ensures recovers { M.works self.old.medium → self.old.written.full ≡ false → OnErr result ⊥ × M.works self.new.medium }
     {
         let answer = self.settle();

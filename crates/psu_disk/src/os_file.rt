@@ -1,7 +1,8 @@
 // The files of the operating system. This is trusted and not proved: that each method makes the calls that it is named
 // for, and that the system does what POSIX says about them.
-ghost use Rattle.std.specs.Prelude.{◌≡◌, ◌↔◌, IfOk};
+ghost use Rattle.std.specs.Prelude.{◌≡◌, ◌⊎◌, ◌↔◌, IfOk};
 ghost use Rattle.std.specs.IoError.{error_kind};
+ghost use Rattle.psu_disk.specs.declared.file_calls.LockAnswer.TheVariants.{NoLocks, Failed};
 ghost use Rattle.psu_disk.specs.declared.open_fault.OpenFault.TheVariants.{Memory};
 
 use crate::file_calls::{FileCalls, FileFacts, FileSystem, LockAnswer};
@@ -87,8 +88,20 @@ impl FileCalls for OsFile {
         match self.file.try_lock() {
             Ok(()) => LockAnswer::Locked,
             Err(TryLockError::WouldBlock) => LockAnswer::InUse,
-            Err(TryLockError::Error(_)) => LockAnswer::NoLocks,
+            Err(TryLockError::Error(error)) => unlocked(&error),
         }
+    }
+}
+
+// Returns why a call did not lock a file: `NoLocks` exactly if the system reported that this file system has no locks,
+// as ENOSYS or EOPNOTSUPP (the kind `Unsupported`) or as EINVAL (`InvalidInput`).
+fn unlocked(error: &Error) -> LockAnswer
+    ensures none { result ≡ NoLocks ↔ ((error_kind error.now ≡ ErrorKind.Unsupported) ⊎ (error_kind error.now ≡ ErrorKind.InvalidInput)) }
+    ensures failed { (result ≡ NoLocks) ⊎ (result ≡ Failed) }
+{
+    match error.kind() {
+        ErrorKind::Unsupported | ErrorKind::InvalidInput => LockAnswer::NoLocks,
+        _ => LockAnswer::Failed,
     }
 }
 
@@ -122,7 +135,11 @@ impl<R: Files<File = File>> FileSystem<OsFile> for OsFiles<'_, R> {
         let mut options = OpenOptions::new();
         options.read(true).write(true).create_new(true);
         let file = options.open(self.files, path).map_err(fault_of)?;
-        numbered(OsFile { file, size })
+        let created = numbered(OsFile { file, size });
+        if created.is_err() {
+            self.remove(path);
+        }
+        created
     }
 
     fn sync_folder(&mut self, path: &str, _file: &OsFile) -> Result<(), DiskFault> {

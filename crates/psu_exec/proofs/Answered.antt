@@ -10,7 +10,7 @@ use Rattle.psu_instrument.specs.Instrument.{Instrument}
 use Rattle.psu_instrument.specs.Meaning.{Situation, Meaning, Refuses, Does, Keeps, Completes}
 use Rattle.psu_instrument.specs.declared.completion.Completion.{Completion}
 use Rattle.psu_instrument.specs.declared.completion.Completion.TheVariants as completion
-use Rattle.psu_instrument.proofs.Speaking.{each_answer_has_text, some_digit}
+use Rattle.psu_instrument.proofs.Speaking.{each_answer_is_quiet, some_digit}
 use Rattle.psu_exec.specs.Calls.{settle_answer}
 use Rattle.psu_exec.specs.Device.{Reply, Answer, Error, Parked, Flush, State, MayAnswer, MayMean, LockedOut, TooEarly, Runs, Expands, Means, answer_complete, answer_meant, here, is_whole, kept_unless, meant, parks, wait_of}
 use Rattle.psu_exec.specs.declared.wait.Wait.{Wait}
@@ -51,7 +51,7 @@ meaning_told f (Completes c) some text is = completing_told (not (is_whole f.sto
 
 meant_says : (s : Situation) (reading : Result Command ScpiError) → Says (meant s reading)
 meant_says s (Err e) text new is = cc
-meant_says s (Ok command) text new is = each_answer_has_text s command text new is
+meant_says s (Ok command) text new is = (each_answer_is_quiet s command text new is).0
 
 may_told : (s : State) (session : ℕ) (request : Request) (reply : Reply) → MayMean s.flush (meant (here s session) request.reading) reply → HasText reply
 may_told s session request reply (inl e) text is = meaning_told s.flush (meant (here s session) request.reading) (meant_says (here s session) request.reading) text (sym e ∙ is)

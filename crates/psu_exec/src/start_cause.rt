@@ -21,7 +21,7 @@ pub enum StartCause {
     /// The current root has a version that is not supported.
     #[error("bad version")]
     BadVersion,
-    /// The items encode no contents.
+    /// The items encode no contents, or contents that an image of this limit cannot store.
     #[error("bad items")]
     BadItems,
 }

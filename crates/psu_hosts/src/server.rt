@@ -2,7 +2,7 @@
 use psu_client::{Missed, connected};
 use psu_disk::{Disk, FileDisk, MemDisk, OsFiles};
 use psu_items::Store;
-use psu_serve::{Gate, Open, serve, serve_disk};
+use psu_serve::{Gate, serve, serve_disk};
 use std::alloc::Global;
 use std::fs::{self, File};
 use std::io::{Eprint, Print};
@@ -17,12 +17,15 @@ pub const LIMIT: u16 = 256;
 /// The size of such an image.
 const SIZE: u64 = 263_168;
 
-/// Returns the first port from this one on at which no process listens, in steps that leave other tests their ports.
-fn free_port<R: Net>(rt: &R, first: u16) -> Result<u16, Missed> {
+/// Binds the first port from this one on at which no process listens, in steps that leave other tests their ports.
+pub fn free_port<R: Net<Listener = TcpListener, Stream = TcpStream>>(
+    rt: &R,
+    first: u16,
+) -> Result<(TcpListener, u16), Missed> {
     for step in 0..50u16 {
         let port = first.saturating_add(100 * step);
-        if TcpListener::bind(rt, ("127.0.0.1", port)).is_ok() {
-            return Ok(port);
+        if let Ok(listener) = TcpListener::bind(rt, ("127.0.0.1", port)) {
+            return Ok((listener, port));
         }
     }
     Err(Missed::Ground("a port"))
@@ -51,7 +54,8 @@ where
     R::Dir: Send,
     G: Gate + Drop + Send + Sync + 'static,
 {
-    let port = free_port(&rt, first)?;
+    let (listener, port) = free_port(&rt, first)?;
+    drop(listener);
     let begun = thread::spawn(&rt, move || {
         let _fault = serve(rt, alloc, image, port, gate);
     })
@@ -103,11 +107,12 @@ pub fn new_disk(alloc: Global) -> Result<MemDisk<Global>, Missed> {
 }
 
 /// Serves a disk, at this port or, where that is taken, at another, and returns the port.
-pub fn served_disk<R, D, E>(
+pub fn served_disk<R, D, G, E>(
     rt: R,
     alloc: Global,
     disk: D,
     first: u16,
+    gate: G,
     errors: E,
 ) -> Result<u16, Missed>
 where
@@ -120,11 +125,12 @@ where
         + Send
         + 'static,
     D: Disk + Drop + Send + 'static,
+    G: Gate + Drop + Send + Sync + 'static,
     E: Eprint + Drop + Send + 'static,
 {
-    let port = free_port(&rt, first)?;
+    let (listener, port) = free_port(&rt, first)?;
     let begun = thread::spawn(&rt, move || {
-        let _fault = serve_disk(rt, alloc, disk, port, Open, errors);
+        let _fault = serve_disk(rt, alloc, disk, listener, gate, errors);
     })
     .is_ok();
     if begun {

@@ -1,3 +1,4 @@
 pub mod Kept
 pub mod Recalling
+pub mod Rising
 pub mod Speaking

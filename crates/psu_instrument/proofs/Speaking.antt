@@ -1,4 +1,4 @@
--- No response is empty: command by command.
+-- No response is empty, and no query that is answered raises an enabled bit: command by command.
 use Rattle.std.proofs.Common.{◌≡◌, ◌≢◌, ℕ, zero, suc, ◌/◌, ◌%◌, ◌==◌, Bool, true, false, cond, not, Option, Some, None, List, [], ◌∷◌, ◌++◌, decimal, pos, length, refl, subst, is_some, nat_lt, nat_le}
 use Rattle.std.proofs.DigitsParse.{digits_onto-nil}
 use Rattle.std.specs.Fmt.{digit_glyph, digits_onto}
@@ -34,10 +34,12 @@ use Rattle.psu_instrument.specs.Common.{choice, flag_queried, enables_queried, i
 use Rattle.psu_instrument.specs.Files.{read_unless}
 use Rattle.psu_instrument.specs.Instrument.{Instrument}
 use Rattle.psu_instrument.specs.Macros.{body_queried, labels_text}
-use Rattle.psu_instrument.specs.Meaning.{Situation, Meaning, Refuses, Does, Keeps, Completes, says, says_fixed}
+use Rattle.psu_instrument.specs.Meaning.{Situation, Meaning, Refuses, Does, Keeps, Completes, answers, says, says_fixed}
 use Rattle.psu_instrument.specs.Reporting.{error_text}
+use Rattle.psu_instrument.specs.Speaking.{RaisesNone}
 use Rattle.psu_instrument.specs.Supplies.{queried, level_queried, level_of, set, switch_of}
 use Rattle.psu_instrument.specs.declared.completion.Completion.{Completion}
+use Rattle.psu_instrument.proofs.Rising.{none_rises, events_read, error_read, group_read}
 
 -- ---- texts
 
@@ -77,123 +79,129 @@ some_labels (label ∷ labels) e = cc
 
 -- ---- meanings
 
-abbrev HasText : Meaning → Type 0
-HasText m = (text : List ℕ) (new : Instrument) → m ≡ Does (Some text) new → text ≢ []
+-- a response is not empty, and no enabled bit has risen once it is made
+abbrev pub IsQuiet : Situation → Meaning → Type 0
+IsQuiet s m = (text : List ℕ) (new : Instrument) → m ≡ Does (Some text) new → (text ≢ []) × RaisesNone s.instrument.status new.status
 
-has_text : (given : List ℕ) (i : Instrument) → given ≢ [] → HasText (Does (Some given) i)
-has_text given i some text new e = subst (λ (z : List ℕ). z ≢ []) (let is : given ≡ text = cc in is) some
+-- a response that leaves this state
+leaves_quiet : (s : Situation) (given : List ℕ) (i : Instrument) → given ≢ [] → RaisesNone s.instrument.status i.status → IsQuiet s (Does (Some given) i)
+leaves_quiet s given i some none text new e =
+    (subst (λ (z : List ℕ). z ≢ []) (let is : given ≡ text = cc in is) some, subst (λ (z : Instrument). RaisesNone s.instrument.status z.status) (let is : i ≡ new = cc in is) none)
 
-silent : (i : Instrument) → HasText (Does None i)
-silent i text new e = cc
+answered : (s : Situation) (given : List ℕ) → given ≢ [] → IsQuiet s (answers s given)
+answered s given some = leaves_quiet s given s.instrument some (none_rises s.instrument.status)
 
-refuses : (error : ScpiError) → HasText (Refuses error)
-refuses error text new e = cc
+silent : (s : Situation) (i : Instrument) → IsQuiet s (Does None i)
+silent s i text new e = absurd (let bad = e in cc)
 
-keeps : (change : nv.Command) → HasText (Keeps change)
-keeps change text new e = cc
+refuses : (s : Situation) (error : ScpiError) → IsQuiet s (Refuses error)
+refuses s error text new e = absurd (let bad = e in cc)
 
-completes : (completion : Completion) → HasText (Completes completion)
-completes completion text new e = cc
+keeps : (s : Situation) (change : nv.Command) → IsQuiet s (Keeps change)
+keeps s change text new e = absurd (let bad = e in cc)
 
-either : (b : Bool) (m n : Meaning) → HasText m → HasText n → HasText (cond b m n)
-either true m n first second = first
-either false m n first second = second
+completes : (s : Situation) (completion : Completion) → IsQuiet s (Completes completion)
+completes s completion text new e = absurd (let bad = e in cc)
 
-number : (s : Situation) (n : ℕ) → HasText (says s n)
-number s n = has_text (decimal n) s.instrument (some_digit n)
+either : (s : Situation) (b : Bool) (m n : Meaning) → IsQuiet s m → IsQuiet s n → IsQuiet s (cond b m n)
+either s true m n first second = first
+either s false m n first second = second
 
-thousandths : (s : Situation) (n : ℕ) → HasText (says_fixed s n)
-thousandths s n = has_text (fixed3_text (pos n)) s.instrument (some_fixed n)
+number : (s : Situation) (n : ℕ) → IsQuiet s (says s n)
+number s n = answered s (decimal n) (some_digit n)
 
-block : (s : Situation) (bytes : List ℕ) → HasText (Does (Some (definite_text bytes)) s.instrument)
-block s bytes = has_text (definite_text bytes) s.instrument (λ e. cc)
+thousandths : (s : Situation) (n : ℕ) → IsQuiet s (says_fixed s n)
+thousandths s n = answered s (fixed3_text (pos n)) (some_fixed n)
 
-enables_have_text : (s : Situation) (which : Enable) → HasText (enables_queried s which)
-enables_have_text s enable.EventStatus = number s _
-enables_have_text s enable.ServiceRequest = number s _
+block : (s : Situation) (bytes : List ℕ) → IsQuiet s (Does (Some (definite_text bytes)) s.instrument)
+block s bytes = answered s (definite_text bytes) (λ e. cc)
 
-flag_has_text : (s : Situation) (which : Flag) → HasText (flag_queried s which)
-flag_has_text s flag.PowerOnClear = number s _
-flag_has_text s flag.Macros = number s _
-flag_has_text s flag.Protection = number s _
-flag_has_text s flag.Recall = has_text _ _ (some_choice s.contents.recall)
+enables_are_quiet : (s : Situation) (which : Enable) → IsQuiet s (enables_queried s which)
+enables_are_quiet s enable.EventStatus = number s _
+enables_are_quiet s enable.ServiceRequest = number s _
 
-query_has_text : (s : Situation) (asks : Query) → HasText (query_means s asks)
-query_has_text s query.Identification = has_text identity s.instrument (λ e. cc)
-query_has_text s query.SelfTest = number s 0
-query_has_text s query.OperationComplete = completes _
-query_has_text s query.EventStatus = has_text _ _ (some_digit _)
-query_has_text s query.StatusByte = number s _
-query_has_text s (query.Enable which) = enables_have_text s which
-query_has_text s (query.Flag which) = flag_has_text s which
-query_has_text s query.UserData = block s _
-query_has_text s query.Labels = has_text _ _ (some_labels _)
-query_has_text s query.NextError = has_text _ _ (some_error _)
-query_has_text s query.ErrorCount = number s _
-query_has_text s query.Version = has_text _ s.instrument (λ e. cc)
-query_has_text s (query.Event group) = has_text _ _ (some_digit _)
-query_has_text s (query.Condition group) = number s _
-query_has_text s (query.Filter group which) = number s _
-query_has_text s query.Catalog = has_text _ s.instrument (before _ _ (some_digit _))
+flag_is_quiet : (s : Situation) (which : Flag) → IsQuiet s (flag_queried s which)
+flag_is_quiet s flag.PowerOnClear = number s _
+flag_is_quiet s flag.Macros = number s _
+flag_is_quiet s flag.Protection = number s _
+flag_is_quiet s flag.Recall = answered s _ (some_choice s.contents.recall)
 
-output_has_text : (s : Situation) (asks : OutputQuery) (o : Output) → HasText (queried s asks o)
-output_has_text s output_query.State o = number s _
-output_has_text s output_query.Protection o = number s _
-output_has_text s output_query.Tripped o = number s _
-output_has_text s output_query.Voltage o = thousandths s _
-output_has_text s output_query.Current o = thousandths s _
-output_has_text s output_query.Load o = number s _
+query_is_quiet : (s : Situation) (asks : Query) → IsQuiet s (query_means s asks)
+query_is_quiet s query.Identification = answered s identity (λ e. cc)
+query_is_quiet s query.SelfTest = number s 0
+query_is_quiet s query.OperationComplete = completes s _
+query_is_quiet s query.EventStatus = leaves_quiet s _ _ (some_digit _) (events_read s.instrument.status)
+query_is_quiet s query.StatusByte = number s _
+query_is_quiet s (query.Enable which) = enables_are_quiet s which
+query_is_quiet s (query.Flag which) = flag_is_quiet s which
+query_is_quiet s query.UserData = block s _
+query_is_quiet s query.Labels = answered s _ (some_labels _)
+query_is_quiet s query.NextError = leaves_quiet s _ _ (some_error _) (error_read s.instrument.status)
+query_is_quiet s query.ErrorCount = number s _
+query_is_quiet s query.Version = answered s _ (λ e. cc)
+query_is_quiet s (query.Event group) = leaves_quiet s _ _ (some_digit _) (group_read s.instrument.status group)
+query_is_quiet s (query.Condition group) = number s _
+query_is_quiet s (query.Filter group which) = number s _
+query_is_quiet s query.Catalog = answered s _ (before _ _ (some_digit _))
 
-level_has_text : (s : Situation) (which : Level) (o : Output) (end : Option Extreme) → HasText (level_queried s which o end)
-level_has_text s which o None = thousandths s _
-level_has_text s which o (Some extreme.Least) = thousandths s 0
-level_has_text s which o (Some extreme.Greatest) = thousandths s _
+output_is_quiet : (s : Situation) (asks : OutputQuery) (o : Output) → IsQuiet s (queried s asks o)
+output_is_quiet s output_query.State o = number s _
+output_is_quiet s output_query.Protection o = number s _
+output_is_quiet s output_query.Tripped o = number s _
+output_is_quiet s output_query.Voltage o = thousandths s _
+output_is_quiet s output_query.Current o = thousandths s _
+output_is_quiet s output_query.Load o = number s _
 
-thing_set : (s : Situation) (o : Output) (thing : Setting) → HasText (set s o thing)
+level_is_quiet : (s : Situation) (which : Level) (o : Output) (end : Option Extreme) → IsQuiet s (level_queried s which o end)
+level_is_quiet s which o None = thousandths s _
+level_is_quiet s which o (Some extreme.Least) = thousandths s 0
+level_is_quiet s which o (Some extreme.Greatest) = thousandths s _
+
+thing_set : (s : Situation) (o : Output) (thing : Setting) → IsQuiet s (set s o thing)
 thing_set s o thing =
-    either (not (is_in_range thing)) _ _ (refuses _)
-    (either (any_conflicts s.instrument.supplies (after_set (all_settings s.instrument.supplies) o thing)) _ _ (refuses _) (silent _))
+    either s (not (is_in_range thing)) _ _ (refuses s _)
+    (either s (any_conflicts s.instrument.supplies (after_set (all_settings s.instrument.supplies) o thing)) _ _ (refuses s _) (silent s _))
 
-body_has_text : (s : Situation) (found : Option (List ℕ)) → HasText (body_queried s found)
-body_has_text s None = refuses _
-body_has_text s (Some body) = block s body
+body_is_quiet : (s : Situation) (found : Option (List ℕ)) → IsQuiet s (body_queried s found)
+body_is_quiet s None = refuses s _
+body_is_quiet s (Some body) = block s body
 
-file_has_text : (s : Situation) (name : List ℕ) (found : Option ScpiError) → HasText (read_unless s name found)
-file_has_text s name None = block s _
-file_has_text s name (Some error) = refuses error
+file_is_quiet : (s : Situation) (name : List ℕ) (found : Option ScpiError) → IsQuiet s (read_unless s name found)
+file_is_quiet s name None = block s _
+file_is_quiet s name (Some error) = refuses s error
 
-pub each_answer_has_text : (s : Situation) (given : Command) → HasText (meaning s given)
-each_answer_has_text s (command.Action action.ClearStatus) = silent _
-each_answer_has_text s (command.Action action.Reset) = silent _
-each_answer_has_text s (command.Action action.OperationComplete) = completes _
-each_answer_has_text s (command.Action action.Wait) = completes _
-each_answer_has_text s (command.Action action.PurgeMacros) = keeps _
-each_answer_has_text s (command.Action action.PresetStatus) = silent _
-each_answer_has_text s (command.Query asks) = query_has_text s asks
-each_answer_has_text s (command.OutputQuery asks output) = output_has_text s asks _
-each_answer_has_text s (command.ClearTrip output) = silent _
-each_answer_has_text s (command.Enable enable.EventStatus bits) = either (is_some s.contents.enables) _ _ (keeps _) (silent _)
-each_answer_has_text s (command.Enable enable.ServiceRequest bits) = either (is_some s.contents.enables) _ _ (keeps _) (silent _)
-each_answer_has_text s (command.Flag flag.PowerOnClear on) = keeps _
-each_answer_has_text s (command.Flag flag.Macros on) = silent _
-each_answer_has_text s (command.Flag flag.Protection on) = silent _
-each_answer_has_text s (command.Flag flag.Recall on) = keeps _
-each_answer_has_text s (command.Filter group which bits) = silent _
-each_answer_has_text s (command.Register on_register.Save number) = either (nat_le 100 number) _ _ (refuses _) (keeps _)
-each_answer_has_text s (command.Register on_register.Recall number) = either (nat_le 100 number) _ _ (refuses _) (silent _)
-each_answer_has_text s (command.Load output milliohms) = either _ _ _ (silent _) (refuses _)
-each_answer_has_text s (command.Level which output n) = thing_set s output (level_of which n)
-each_answer_has_text s (command.LevelQuery which output end) = level_has_text s which _ end
-each_answer_has_text s (command.Switch which output on) = thing_set s output (switch_of which on)
-each_answer_has_text s (command.UserData bytes) = either (nat_lt 63 (length bytes)) _ _ (refuses _) (either s.instrument.protected _ _ (refuses _) (keeps _))
-each_answer_has_text s (command.Define label body) = keeps _
-each_answer_has_text s (command.Macro on_macro.Ask label) = body_has_text s _
-each_answer_has_text s (command.Macro on_macro.Remove label) = keeps _
-each_answer_has_text s (command.Contents name bytes) = either (nat_lt 32768 (length bytes)) _ _ (refuses _) (keeps _)
-each_answer_has_text s (command.File on_file.Ask name) = file_has_text s _ _
-each_answer_has_text s (command.File on_file.Delete name) = keeps _
-each_answer_has_text s (command.Names on_names.Copy from to) = keeps _
-each_answer_has_text s (command.Names on_names.Move from to) = keeps _
-each_answer_has_text s (command.StateFile way number name) = either (nat_le 100 number) _ _ (refuses _) (keeps _)
-each_answer_has_text s (command.MacroFile transfer.Store label name) = keeps _
-each_answer_has_text s (command.MacroFile transfer.Load label name) = keeps _
+pub each_answer_is_quiet : (s : Situation) (given : Command) → IsQuiet s (meaning s given)
+each_answer_is_quiet s (command.Action action.ClearStatus) = silent s _
+each_answer_is_quiet s (command.Action action.Reset) = silent s _
+each_answer_is_quiet s (command.Action action.OperationComplete) = completes s _
+each_answer_is_quiet s (command.Action action.Wait) = completes s _
+each_answer_is_quiet s (command.Action action.PurgeMacros) = keeps s _
+each_answer_is_quiet s (command.Action action.PresetStatus) = silent s _
+each_answer_is_quiet s (command.Query asks) = query_is_quiet s asks
+each_answer_is_quiet s (command.OutputQuery asks output) = output_is_quiet s asks _
+each_answer_is_quiet s (command.ClearTrip output) = silent s _
+each_answer_is_quiet s (command.Enable enable.EventStatus bits) = either s (is_some s.contents.enables) _ _ (keeps s _) (silent s _)
+each_answer_is_quiet s (command.Enable enable.ServiceRequest bits) = either s (is_some s.contents.enables) _ _ (keeps s _) (silent s _)
+each_answer_is_quiet s (command.Flag flag.PowerOnClear on) = keeps s _
+each_answer_is_quiet s (command.Flag flag.Macros on) = silent s _
+each_answer_is_quiet s (command.Flag flag.Protection on) = silent s _
+each_answer_is_quiet s (command.Flag flag.Recall on) = keeps s _
+each_answer_is_quiet s (command.Filter group which bits) = silent s _
+each_answer_is_quiet s (command.Register on_register.Save number) = either s (nat_le 100 number) _ _ (refuses s _) (keeps s _)
+each_answer_is_quiet s (command.Register on_register.Recall number) = either s (nat_le 100 number) _ _ (refuses s _) (silent s _)
+each_answer_is_quiet s (command.Load output milliohms) = either s _ _ _ (silent s _) (refuses s _)
+each_answer_is_quiet s (command.Level which output n) = thing_set s output (level_of which n)
+each_answer_is_quiet s (command.LevelQuery which output end) = level_is_quiet s which _ end
+each_answer_is_quiet s (command.Switch which output on) = thing_set s output (switch_of which on)
+each_answer_is_quiet s (command.UserData bytes) = either s (nat_lt 63 (length bytes)) _ _ (refuses s _) (either s s.instrument.protected _ _ (refuses s _) (keeps s _))
+each_answer_is_quiet s (command.Define label body) = keeps s _
+each_answer_is_quiet s (command.Macro on_macro.Ask label) = body_is_quiet s _
+each_answer_is_quiet s (command.Macro on_macro.Remove label) = keeps s _
+each_answer_is_quiet s (command.Contents name bytes) = either s (nat_lt 32768 (length bytes)) _ _ (refuses s _) (keeps s _)
+each_answer_is_quiet s (command.File on_file.Ask name) = file_is_quiet s _ _
+each_answer_is_quiet s (command.File on_file.Delete name) = keeps s _
+each_answer_is_quiet s (command.Names on_names.Copy from to) = keeps s _
+each_answer_is_quiet s (command.Names on_names.Move from to) = keeps s _
+each_answer_is_quiet s (command.StateFile way number name) = either s (nat_le 100 number) _ _ (refuses s _) (keeps s _)
+each_answer_is_quiet s (command.MacroFile transfer.Store label name) = keeps s _
+each_answer_is_quiet s (command.MacroFile transfer.Load label name) = keeps s _

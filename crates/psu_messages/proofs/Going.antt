@@ -6,12 +6,12 @@ use Rattle.psu_exec.specs.Device.{Reply, Done, Answer, Error, Expand, Parked, He
 use Rattle.psu_answers.specs.ResponseBuffer.{Text}
 use Rattle.psu_messages.specs.Standing.{Standing}
 use Rattle.psu_messages.specs.Effects.{Effect, IsTry, Runs, Sent, needs}
-use Rattle.psu_messages.specs.Stepping.{IsBrokenOff, IsLeft, IsResponse, parked_by, plain, within}
+use Rattle.psu_messages.specs.Stepping.{IsBrokenOff, IsLeft, parked_by, plain, within}
 use Rattle.psu_messages.specs.declared.need.Need.{Need}
 use Rattle.psu_messages.specs.declared.need.Need.TheVariants.{Flush, Lock, Room}
 use Rattle.psu_messages.specs.Units.{Source}
 use Rattle.psu_messages.specs.Relations.{Relations}
-use Rattle.psu_messages.specs.Executions.{Progress, Reaches, Interruption, Advances, IsUnended, StopsAt, AddsResponse, Trial, IsNext, IsExpanded, tried, outside, sent, standing_after, expansion_after, text_after}
+use Rattle.psu_messages.specs.Executions.{Progress, Reaches, Interruption, Advances, IsUnended, StopsAt, AddsResponse, Trial, IsNext, IsExpanded, IsResponse, tried, outside, sent, standing_after, expansion_after, text_after}
 use Rattle.psu_messages.specs.Executions.Reaches.{Tries, Leaves, Sends}
 use Rattle.psu_messages.specs.Executions.Interruption.{Failed, Stopped, NotBuffered}
 use Rattle.psu_messages.specs.Shown.{progress}
@@ -57,7 +57,7 @@ tries does source was now c request reply next t = one does source was now c (tr
 -- a try whose response is gathered
 pub adds : {X : Type 0} (does : X → Effect → X → Type 0) (source : Source) (was mid now : X) (c : Progress) (request : Request) (reply : Reply) (text : Text) → IsNext source c request → Trial does was c.standing.parked request mid reply
     → AddsResponse does mid c.text reply now text → Advances does source was c now (progress (standing_after c.standing reply) (expansion_after c.standing.inside c.expansion reply) text)
-adds {X} does source was mid now c request reply text next t (inl (same, is)) =
+adds {X} does source was mid now c request reply text next t (inl (short, same, is)) =
     subst (λ (z : X). Advances does source was c z (progress (standing_after c.standing reply) (expansion_after c.standing.inside c.expansion reply) text)) (sym same)
     (subst (λ (z : Text). Advances does source was c mid (progress (standing_after c.standing reply) (expansion_after c.standing.inside c.expansion reply) z)) (sym is)
     (tries does source was mid c request reply next t))

@@ -130,16 +130,20 @@ pub record StopsAt {X S : Type 0} (r : Relations X S) (source : Source) (at : X)
 
 -- ---- one try
 
+-- the reply is a response
+abbrev pub IsResponse : Reply → Type 0
+IsResponse reply = (text : List ℕ) × (reply ≡ Answer text)
+
 -- a unit was tried once, whether it was accepted before or not
 pub record Trial {X : Type 0} (does : X → Effect → X → Type 0) (at : X) (parked : Bool) (request : Request) (now : X) (reply : Reply) : Type 0 where
   pub effect : Effect
   pub done : does at effect now
   pub is : IsTry parked request effect reply
 
--- the response in a reply is added to the response buffer, which is sent as a part if it is long
+-- The response in a reply is added to the response buffer, which is sent as a part exactly where it is long then.
 abbrev pub AddsResponse : {X : Type 0} → (X → Effect → X → Type 0) → X → Text → Reply → X → Text → Type 0
 AddsResponse does at text reply now new =
-    ((now ≡ at) × (new ≡ text_after text reply))
+    ((IsResponse reply → IsLong (text_after text reply) → ⊥) × (now ≡ at) × (new ≡ text_after text reply))
     ⊎ (((text_after text reply).answered ≡ true) × IsLong (text_after text reply) × does at (Sent (text_after text reply).rest false) now × (new ≡ emptied (text_after text reply)))
 
 -- the last piece of a response message was sent, if there is a response

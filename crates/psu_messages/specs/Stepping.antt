@@ -36,10 +36,6 @@ expanded_by (Some need) units body done parked text = within units body done par
 abbrev pub IsBrokenOff : {X S : Type 0} → Relations X S → X → Bool → Request → S → X → Type 0
 IsBrokenOff r at parked request stop now = ((parked ≡ false) × r.fails at request stop now) ⊎ ((parked ≡ true) × r.stops at stop now)
 
--- the reply is a response
-abbrev pub IsResponse : Reply → Type 0
-IsResponse reply = (text : List ℕ) × (reply ≡ Answer text)
-
 -- after a stop, the response is in the response buffer, or is not since an allocation failed
 abbrev pub IsLeft : Text → Reply → Text → Type 0
 IsLeft text reply left = (left ≡ text) ⊎ ((left ≡ text_after text reply) × (left.answered ≡ true))

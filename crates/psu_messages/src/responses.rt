@@ -1,8 +1,8 @@
 // The responses of units: gathered in the response buffer, and sent.
 ghost use Rattle.std.specs.Prelude.{◌≡◌, true, IfErr, OnOk, OnErr};
 ghost use Rattle.psu_exec.specs.Shown.{outcome_of};
-ghost use Rattle.psu_messages.specs.Executions.{Closes, AddsResponse};
-ghost use Rattle.psu_messages.specs.Stepping.{IsLeft, IsResponse};
+ghost use Rattle.psu_messages.specs.Executions.{AddsResponse, Closes, IsResponse};
+ghost use Rattle.psu_messages.specs.Stepping.{IsLeft};
 
 use crate::Executor;
 use crate::refused::{append_to, end};

@@ -22,7 +22,7 @@ fn is_cause(fault: RecoverFault, wanted: &str) -> bool {
 // Whether a formatted image with these parts written over it is refused for its cause, which has the same text.
 fn is_refused(alloc: Global, parts: &str, wanted: &str) -> Option<bool> {
     let disk = spoiled(alloc, formatted(alloc)?, parts)?;
-    let fault = recover(alloc, disk).err()?;
+    let fault = recover(alloc, disk).found.err()?;
     let told = format!(in alloc; "{fault}").ok()?;
     Some(is_cause(fault, wanted) && told.as_str() == wanted)
 }

@@ -49,6 +49,6 @@ pub fn left_by(alloc: Global, disk: MemDisk<Global>, input: &[u8]) -> Option<Mem
 
 /// Returns the text of the report on a disk.
 pub fn reported(alloc: Global, disk: MemDisk<Global>) -> Option<Vec<u8>> {
-    let report = recover(alloc, disk).ok()?;
+    let report = recover(alloc, disk).found.ok()?;
     report_text(alloc, &report).ok()
 }

@@ -17,6 +17,8 @@ mod images;
 #[cfg(test)]
 mod kept_parts;
 #[cfg(test)]
+mod late_saves;
+#[cfg(test)]
 mod long_answers;
 #[cfg(test)]
 mod long_transcripts;

@@ -147,7 +147,7 @@ const OF_A_FRESH_IMAGE: &str =
 // Whether a disk of this many bytes 00 is not an image.
 fn is_none(alloc: Global, size: u64) -> Option<bool> {
     let disk = MemDisk::new(alloc, size).ok()?;
-    Some(recover(alloc, disk).err()? == RecoverFault::NoRoot)
+    Some(recover(alloc, disk).found.err()? == RecoverFault::NoRoot)
 }
 
 #[test]

@@ -2,10 +2,10 @@
 use crate::connection::Accepted;
 use crate::serve_fault::ServeFault;
 use crate::silent::Silent;
-use psu_bench::{Caller, Condition, Gate, power_on};
+use psu_bench::{Caller, Gate, power_on};
 use psu_disk::{Disk, FileDisk, OsFiles};
 use psu_session_io::Link;
-use psu_threads::{Flusher, Server};
+use psu_threads::{Flusher, Server, write_lines};
 use std::alloc::Global;
 use std::fs::File;
 use std::io::{Eprint, Print};
@@ -73,21 +73,18 @@ impl<D: Disk + Drop + Send + 'static, G: Gate + Drop + Send + Sync + 'static> Ac
         Ok(())
     }
 
-    // Starts the flusher, in a thread of its own.
+    // Starts the flusher, and what writes an operator's lines, in a thread each.
     fn start_flusher<R, E>(&mut self, rt: R, errors: E) -> io::Result<()>
     where
         R: Threads + Wait + Clock + Copy + Send + 'static,
         E: Eprint + Drop + Send + 'static,
     {
         let server = Arc::try_clone(&self.server)?;
+        let _operator = thread::spawn(&rt, move || write_lines(&rt, &server, &errors))?;
+        let server = Arc::try_clone(&self.server)?;
         let caller = self.caller.split()?;
         let _flusher = thread::spawn(&rt, move || {
-            let mut flusher = Flusher {
-                server: &server,
-                caller,
-                errors,
-                reported: Condition::Works,
-            };
+            let mut flusher = Flusher::new(&server, caller);
             flusher.flush(&rt)
         })?;
         Ok(())
@@ -95,7 +92,8 @@ impl<D: Disk + Drop + Send + 'static, G: Gate + Drop + Send + Sync + 'static> Ac
 }
 
 /// Serves the image at a path over 127.0.0.1, at a port, for as long as the process lives. It returns only where it
-/// can't serve, with the reason.
+/// can't serve, with the reason. The port is bound before the image is opened: where it is taken, the image is neither
+/// locked nor written.
 pub fn serve<R, G>(rt: R, alloc: Global, image: &str, port: u16, gate: G) -> ServeFault
 where
     R: Net<Listener = TcpListener, Stream = TcpStream>
@@ -110,31 +108,28 @@ where
         + 'static,
     G: Gate + Drop + Send + Sync + 'static,
 {
+    let listener = match TcpListener::bind(&rt, ("127.0.0.1", port)) {
+        Ok(listener) => listener,
+        Err(error) => return ServeFault::from(error),
+    };
     match FileDisk::of(&mut OsFiles { files: &rt }, alloc, image) {
-        Ok(disk) => serve_disk(rt, alloc, disk, port, gate, rt),
+        Ok(disk) => serve_disk(rt, alloc, disk, listener, gate, rt),
         Err(fault) => ServeFault::File(fault),
     }
 }
 
-/// Serves the contents of a disk, as `serve` does those of an image; messages on the store for an operator go to
-/// `errors`, one line each.
+/// Serves the contents of a disk at a port that is bound, as `serve` does those of an image; messages on the store for an
+/// operator go to `errors`, one line each.
 pub fn serve_disk<R, D, G, E>(
     rt: R,
     alloc: Global,
     disk: D,
-    port: u16,
+    listener: TcpListener,
     gate: G,
     errors: E,
 ) -> ServeFault
 where
-    R: Net<Listener = TcpListener, Stream = TcpStream>
-        + Threads
-        + Wait
-        + Clock
-        + Print
-        + Copy
-        + Send
-        + 'static,
+    R: Threads + Wait + Clock + Print + Copy + Send + 'static,
     D: Disk + Drop + Send + 'static,
     G: Gate + Drop + Send + Sync + 'static,
     E: Eprint + Drop + Send + 'static,
@@ -143,12 +138,9 @@ where
         Ok(caller) => caller,
         Err(fault) => return ServeFault::from(fault),
     };
-    match accept_all(rt, alloc, port, caller, errors) {
+    match accept_all(rt, alloc, listener, caller, errors) {
         Ok(()) => ServeFault::Network,
-        Err(error) => match error.kind() {
-            io::ErrorKind::OutOfMemory => ServeFault::Memory,
-            _ => ServeFault::Network,
-        },
+        Err(error) => ServeFault::from(error),
     }
 }
 
@@ -171,28 +163,21 @@ fn acceptor_of<R: Clock, D: Disk + Drop, G: Gate + Drop>(
 fn accept_all<R, D, G, E>(
     rt: R,
     alloc: Global,
-    port: u16,
+    listener: TcpListener,
     caller: Caller<D, G>,
     errors: E,
 ) -> io::Result<()>
 where
-    R: Net<Listener = TcpListener, Stream = TcpStream>
-        + Threads
-        + Wait
-        + Clock
-        + Print
-        + Copy
-        + Send
-        + 'static,
+    R: Threads + Wait + Clock + Print + Copy + Send + 'static,
     D: Disk + Drop + Send + 'static,
     G: Gate + Drop + Send + Sync + 'static,
     E: Eprint + Drop + Send + 'static,
 {
-    let listener = TcpListener::bind(&rt, ("127.0.0.1", port))?;
+    let address = listener.local_addr()?;
     let mut acceptor = acceptor_of(&rt, alloc, caller)?;
     acceptor.start_flusher(rt, errors)?;
     // A server is served to its clients also where no one can read its output.
-    let _ = println!(rt; "listening on 127.0.0.1:{port}");
+    let _ = println!(rt; "listening on {address}");
     for _ in rt.forever() {
         acceptor.accept_next(rt, &listener);
     }

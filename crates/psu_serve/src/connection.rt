@@ -1,11 +1,11 @@
 // A connection, from its first byte to its end.
-use crate::opening::{Opening, close, fatal, first_message, open};
+use crate::opening::{Opening, close, first_message, open};
 use crate::silent::Silent;
 use psu_bench::{Caller, Gate};
 use psu_disk::Disk;
 use psu_exec::Session as Number;
 use psu_hislip::{FatalCode, First};
-use psu_session_io::{Connection, Link, ServedSession};
+use psu_session_io::{Connection, FirstReply, Link, ServedSession};
 use psu_threads::{Role, Server, serve_session};
 use std::rt::Clock;
 use std::sync::{Arc, Mutex, Wait};
@@ -24,15 +24,20 @@ pub struct Accepted<D: Disk, G: Gate> {
 }
 
 impl<D: Disk + Drop, G: Gate + Drop> Accepted<D, G> {
+    // Refuses what the connection has sent first.
+    fn refuse(&self, code: FatalCode) -> io::Result<()> {
+        self.link.answer(FirstReply::refused(code))
+    }
+
     // Serves a session over its synchronous connection, until it is over.
     fn start<R: Wait + Clock>(&mut self, rt: &R, opening: Opening) -> io::Result<()> {
         let opened = Instant::now(rt)?;
         let message = opening.message.as_slice();
         let open = open(rt, &self.server, &mut self.caller, &self.link, message)?;
         let Some((response, served)) = open else {
-            return self.link.write(&fatal(FatalCode::TooManyClients));
+            return self.refuse(FatalCode::TooManyClients);
         };
-        let read = match self.link.write(&response.bytes()) {
+        let read = match self.link.answer(response) {
             Ok(()) => self.read(rt, &served, opened, opening.after),
             Err(error) => Err(error),
         };
@@ -134,12 +139,13 @@ impl<D: Disk + Drop + Send + 'static, G: Gate + Drop + Send + Sync + 'static> Ac
     {
         let link = Arc::try_clone(&self.link)?;
         if served.join(&rt, link).is_err() {
-            return self.link.write(&fatal(FatalCode::InvalidInitialization));
+            return self.refuse(FatalCode::InvalidInitialization);
         }
         // Where memory or a thread for it is refused, the session ends.
         let attended = self.attend(rt, served, opening);
         served.abandon(&rt);
         served.second_has_ended(&rt);
+        served.end_first(&rt);
         attended
     }
 
@@ -149,10 +155,10 @@ impl<D: Disk + Drop + Send + 'static, G: Gate + Drop + Send + Sync + 'static> Ac
         R: Threads + Wait + Clock + Copy + Send + 'static,
     {
         match opening.first {
-            First::Refused(code) => self.link.write(&fatal(code)),
+            First::Refused(code) => self.refuse(code),
             First::Start => self.start(&rt, opening),
             First::Join(number) => match self.session(&rt, number) {
-                None => self.link.write(&fatal(FatalCode::InvalidInitialization)),
+                None => self.refuse(FatalCode::InvalidInitialization),
                 Some(served) => self.join(rt, &served, opening),
             },
         }

@@ -1,18 +1,19 @@
 // A connection up to its first message, and sessions that open and close.
-ghost use Rattle.std.specs.Prelude.{◌≡◌, [], ◌∷◌, ◌++◌, IfOk, IfSome, IsNone};
+ghost use Rattle.std.specs.Prelude.{◌≡◌, ℕ, List, [], ◌∷◌, ◌++◌, IfOk, IfSome, IsNone, None, OnErr};
+ghost use Rattle.std.specs.Arc.{arc_value};
+ghost use Rattle.psu_turn.specs.Seats.{Calls};
+ghost use Rattle.psu_exec.specs.Calls.Entry.{Closed, Opened};
+ghost use Rattle.psu_bench.specs.Calls.{AdmitsOn};
 ghost use Rattle.psu_hislip.specs.Channel.{Fed};
-ghost use Rattle.psu_hislip.specs.Faults.{fatal_code};
-ghost use Rattle.psu_hislip.specs.Frame.{header_of};
-ghost use Rattle.psu_hislip.specs.Header.{header_bytes};
-ghost use Rattle.psu_hislip.specs.declared.message_type.MessageType.TheVariants.{FatalError};
-ghost use Rattle.psu_serve.specs.Opening.{IsFirst};
+ghost use Rattle.psu_session.specs.State.{Start, fresh};
+ghost use Rattle.psu_serve.specs.Opening.{IsClosedAgain, IsFirst, IsOpened, initialize_response};
 
 use psu_bench::{Caller, Gate, Others};
 use psu_disk::Disk;
 use psu_exec::Session as Number;
-use psu_hislip::{Channel, FatalCode, First, Header, MessageType};
+use psu_hislip::{Channel, First};
 use psu_session::Session;
-use psu_session_io::{Link, ReadResult, ServedSession};
+use psu_session_io::{FirstReply, Link, ReadResult, ServedSession};
 use psu_threads::{Reporter, SILENCE, Server, space};
 use std::alloc::Global;
 use std::collections::VecDeque;
@@ -23,13 +24,6 @@ use std::time::{Duration, Instant};
 
 /// How much is read at once before a connection has sent its first message.
 const SPACE: usize = 4_096;
-
-/// The sixteen bytes of a FatalError.
-pub fn fatal(code: FatalCode) -> [u8; 16]
-    ensures { result ≡ header_bytes (header_of FatalError (fatal_code code) 0 0) }
-{
-    Header::new(MessageType::FatalError, code.code(), 0, 0).bytes()
-}
 
 /// What a connection has sent first.
 #[derive(Drop)]
@@ -128,18 +122,30 @@ pub fn first_message<R: Clock>(rt: &R, alloc: Global, link: &Link) -> io::Result
     Ok(None)
 }
 
-// Returns a session whose synchronous connection has sent these bytes first, with its response to them, as the registry
-// and its connection share it.
+// Returns the value of a session of this number, whose synchronous connection has sent these bytes first.
+fn session_of(alloc: Global, number: Number, message: &[u8]) -> io::Result<Session>
+    ensures { IfOk result (λ session. (start : Start) × (start.session ≡ number) × (session.state ≡ fresh start)) }
+{
+    match Session::open(alloc, u16::from(number.number()), message) {
+        Ok(session) => Ok(session),
+        Err(_) => Err(io::Error::from(ErrorKind::OutOfMemory)),
+    }
+}
+
+// Returns a session of this number, whose synchronous connection has sent these bytes first, with its response to them,
+// as the registry and its connection share it.
 fn opened(
     alloc: Global,
     number: Number,
     link: &Arc<Link>,
     message: &[u8],
-) -> io::Result<(Header, Arc<ServedSession>, Arc<ServedSession>)> {
-    let Ok(session) = Session::open(alloc, u16::from(number.number()), message) else {
-        return Err(io::Error::from(ErrorKind::OutOfMemory));
-    };
-    let response = session.response();
+) -> io::Result<(FirstReply, Arc<ServedSession>, Arc<ServedSession>)>
+    ensures response { IfOk result (λ opened. opened.0.bytes ≡ initialize_response number) }
+    ensures number { IfOk result (λ opened. (arc_value opened.2).number ≡ number) }
+    ensures same { IfOk result (λ opened. arc_value opened.1 ≡ arc_value opened.2) }
+{
+    let session = session_of(alloc, number, message)?;
+    let response = FirstReply::initialized(&session);
     let served = ServedSession::new(alloc, number, session, Arc::try_clone(link)?)?;
     let served = Arc::new(alloc, served)?;
     let known = Arc::try_clone(&served)?;
@@ -147,14 +153,20 @@ fn opened(
 }
 
 /// Opens a session over its synchronous connection, whose first message has these bytes, and returns it with its
-/// response; `None` where there are too many sessions. Its number is free again where memory for it is refused.
+/// response; `None` where there are too many sessions. Its number is the one that the device has given it, and is free
+/// again where memory for it is refused.
 pub fn open<R: Wait, D: Disk + Drop, G: Gate + Drop>(
     rt: &R,
     server: &Server,
     caller: &mut Caller<D, G>,
     link: &Arc<Link>,
     message: &[u8],
-) -> io::Result<Option<(Header, Arc<ServedSession>)>> {
+) -> io::Result<Option<(FirstReply, Arc<ServedSession>)>>
+    ensures number { IfOk result (λ some. IfSome some (λ opened. IsOpened D.honest caller.old.seat (arc_value opened.1).number caller.new.seat)) }
+    ensures response { IfOk result (λ some. IfSome some (λ opened. opened.0.bytes ≡ initialize_response (arc_value opened.1).number)) }
+    ensures crowded { IfOk result (λ some. IsNone some → Calls (AdmitsOn D.honest) caller.old.seat (Opened None) caller.new.seat) }
+    ensures closed { OnErr result (IsClosedAgain D.honest caller.old.seat caller.new.seat) }
+{
     let others = Reporter { rt, server };
     let mut registry = others.lock_registry();
     let mut visit = server.device.visit();
@@ -163,13 +175,13 @@ pub fn open<R: Wait, D: Disk + Drop, G: Gate + Drop>(
     };
     match opened(server.alloc, number, link, message) {
         Ok((response, known, served)) => {
-            registry.registry.put(number, Some(known));
+            registry.registry.put(known);
             Ok(Some((response, served)))
         }
         Err(error) => {
             caller
                 .close_session(rt, &mut visit, number)
-                .pass_on(&registry);
+                .pass_on(&mut registry);
             Err(error)
         }
     }
@@ -181,11 +193,13 @@ pub fn close<R: Wait, D: Disk + Drop, G: Gate + Drop>(
     server: &Server,
     caller: &mut Caller<D, G>,
     number: Number,
-) {
+)
+    ensures { (granted : List ℕ) × Calls (AdmitsOn D.honest) caller.old.seat (Closed number granted) caller.new.seat }
+{
     let others = Reporter { rt, server };
     let mut registry = others.lock_registry();
-    registry.registry.put(number, None);
+    registry.registry.remove(number);
     caller
         .close_session(rt, &mut server.device.visit(), number)
-        .pass_on(&registry);
+        .pass_on(&mut registry);
 }

@@ -1,7 +1,13 @@
 // Why a server does not start.
+ghost use Rattle.std.specs.Prelude.{◌≡◌};
+ghost use Rattle.std.specs.IoError.{error_kind};
+ghost use Rattle.std.specs.declared.io.ErrorKind.TheVariants as ErrorKind;
+ghost use Rattle.psu_serve.specs.declared.serve_fault.ServeFault.TheVariants as ServeFault;
+
 use psu_bench::PowerOnFault;
 use psu_disk::OpenFault;
 use psu_exec::StartCause;
+use std::io::{Error as IoError, ErrorKind};
 use thiserror::Error;
 
 /// Why a server does not start.
@@ -26,6 +32,17 @@ impl From<PowerOnFault> for ServeFault {
         match fault {
             PowerOnFault::Start(cause) => ServeFault::Open(cause),
             PowerOnFault::Memory => ServeFault::Memory,
+        }
+    }
+}
+
+impl From<IoError> for ServeFault {
+    ghost from_gives = { λ error fault. (error_kind error ≡ ErrorKind.OutOfMemory → fault ≡ ServeFault.Memory) × ((error_kind error ≡ ErrorKind.OutOfMemory → ⊥) → fault ≡ ServeFault.Network) };
+
+    fn from(error: IoError) -> Self {
+        match error.kind() {
+            ErrorKind::OutOfMemory => ServeFault::Memory,
+            _ => ServeFault::Network,
         }
     }
 }

@@ -2,7 +2,7 @@
 use psu_client::Missed;
 use psu_disk::{Disk, FileDisk, MemDisk, OsFiles};
 use psu_items::Store;
-use psu_server::{recover, report_text, run};
+use psu_server::{Recovered, recover, report_text, run};
 use std::alloc::Global;
 use std::fs::{self, File};
 use std::rt::Files;
@@ -66,7 +66,8 @@ pub fn is_reported<R: Files<File = File> + Alloc<A = Global>>(
     image: &str,
     report: &str,
 ) -> Result<(), Missed> {
-    let Ok(found) = recover(rt.alloc(), copied(rt, image)?) else {
+    let Recovered { found, .. } = recover(rt.alloc(), copied(rt, image)?);
+    let Ok(found) = found else {
         return Err(Missed::Claim("the image is in order"));
     };
     match report_text(rt.alloc(), &found) {

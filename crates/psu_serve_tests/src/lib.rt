@@ -13,6 +13,8 @@ mod full_image;
 #[cfg(test)]
 mod images;
 #[cfg(test)]
+mod ports;
+#[cfg(test)]
 mod reads;
 #[cfg(test)]
 mod room;

@@ -3,9 +3,13 @@ use psu_client::{Missed, holds};
 use std::alloc::{AllocError, Global};
 use std::fmt::Display;
 use std::io::{self, Eprint};
+use std::sync::atomic::{AtomicBool, Ordering};
 use std::sync::{Arc, Mutex, Wait};
 use std::thread;
 use std::time::{Clock, Duration};
+
+/// How often a flag is checked, once a millisecond.
+const LOOKS: u32 = 20_000;
 
 /// What a server writes on standard error.
 #[derive(Drop)]
@@ -13,12 +17,19 @@ pub struct Screen<R: Drop> {
     rt: R,
     alloc: Global,
     text: Arc<Mutex<String>>,
+    is_full: Arc<AtomicBool>,
 }
 
 impl<R: Wait + Clock + Copy> Screen<R> {
     pub fn new(rt: R, alloc: Global) -> Result<Screen<R>, AllocError> {
         let text = Arc::new(alloc, Mutex::new(String::new(alloc)))?;
-        Ok(Screen { rt, alloc, text })
+        let is_full = Arc::new(alloc, AtomicBool::new(false))?;
+        Ok(Screen {
+            rt,
+            alloc,
+            text,
+            is_full,
+        })
     }
 
     /// Returns another handle to the text, for the server.
@@ -27,11 +38,28 @@ impl<R: Wait + Clock + Copy> Screen<R> {
             rt: self.rt,
             alloc: self.alloc,
             text: Arc::try_clone(&self.text)?,
+            is_full: Arc::try_clone(&self.is_full)?,
         })
+    }
+
+    /// Makes whoever writes wait from now on, as a full pipe does, or not.
+    pub fn be_full(&self, is_full: bool) {
+        self.is_full.store(is_full, Ordering::SeqCst);
     }
 
     fn is(&self, lines: &str) -> bool {
         self.text.lock(&self.rt).as_str() == lines
+    }
+
+    /// The number of lines that were written.
+    pub fn count(&self) -> usize {
+        self.text.lock(&self.rt).as_str().lines().count()
+    }
+
+    /// Checks that this was written among other things.
+    pub fn says(&self, words: &str) -> Result<(), Missed> {
+        let is_there = self.text.lock(&self.rt).as_str().contains(words);
+        holds(is_there, "these words on standard error")
     }
 
     /// Checks that these lines were written.
@@ -49,10 +77,21 @@ impl<R: Wait + Clock + Copy> Screen<R> {
         }
         self.shows(lines)
     }
+
+    // Waits while nothing can be written.
+    fn wait(&self) {
+        for _ in 0..LOOKS {
+            if !self.is_full.load(Ordering::SeqCst) {
+                return;
+            }
+            thread::sleep(&self.rt, Duration::from_millis(1));
+        }
+    }
 }
 
-impl<R: Wait + Copy> Eprint for Screen<R> {
+impl<R: Wait + Clock + Copy> Eprint for Screen<R> {
     fn eprint<D: Display + Drop>(&self, value: D) -> io::Result<()> {
+        self.wait();
         let text = format!(in self.alloc; "{value}")?;
         self.text.lock(&self.rt).push_str(text.as_str())?;
         Ok(())

@@ -1,4 +1,4 @@
-// A disk that refuses writes for a time, like one without room.
+// A disk that refuses writes for a time, like one without room: all of them, or all but those of its two roots.
 ghost use Rattle.std.specs.Prelude.{◌≡◌, ◌≤◌};
 ghost use Rattle.psu_disk.specs.Disk.{HasFailed};
 
@@ -7,9 +7,15 @@ use std::alloc::{AllocError, Global};
 use std::sync::Arc;
 use std::sync::atomic::{AtomicBool, AtomicUsize, Ordering};
 
+/// Where the pages of the items begin, behind the two roots.
+const POOL: u64 = 1_024;
+
 #[derive(Drop)]
 struct State {
-    is_sick: AtomicBool,
+    // One write of so many is refused; none where this is 0.
+    of: AtomicUsize,
+    writes: AtomicUsize,
+    spares_roots: AtomicBool,
     refused: AtomicUsize,
 }
 
@@ -23,7 +29,9 @@ impl Health {
     /// Returns the state of a disk that accepts writes.
     pub fn new(alloc: Global) -> Result<Health, AllocError> {
         let state = State {
-            is_sick: AtomicBool::new(false),
+            of: AtomicUsize::new(0),
+            writes: AtomicUsize::new(0),
+            spares_roots: AtomicBool::new(false),
             refused: AtomicUsize::new(0),
         };
         Ok(Health {
@@ -38,9 +46,19 @@ impl Health {
         })
     }
 
+    /// Makes the disk refuse one write of so many from now on; none where this is 0.
+    pub fn refuse_one_of(&self, of: usize) {
+        self.state.of.store(of, Ordering::SeqCst);
+    }
+
     /// Makes the disk refuse each write from now on, or accept each.
     pub fn be_sick(&self, is_sick: bool) {
-        self.state.is_sick.store(is_sick, Ordering::SeqCst);
+        self.refuse_one_of(if is_sick { 1 } else { 0 });
+    }
+
+    /// Makes the disk refuse only writes of items while it is sick, and accept those of its roots.
+    pub fn spare_roots(&self) {
+        self.state.spares_roots.store(true, Ordering::SeqCst);
     }
 
     /// The number of writes that were refused.
@@ -48,13 +66,18 @@ impl Health {
         self.state.refused.load(Ordering::SeqCst)
     }
 
-    // Whether a write is refused.
-    fn refuses(&self) -> bool {
-        let is_sick = self.state.is_sick.load(Ordering::SeqCst);
-        if is_sick {
+    // Whether a write at this place is refused. Those of the roots are not counted where they are accepted.
+    fn refuses(&self, at: u64) -> bool {
+        if at < POOL && self.state.spares_roots.load(Ordering::SeqCst) {
+            return false;
+        }
+        let of = self.state.of.load(Ordering::SeqCst);
+        let write = self.state.writes.fetch_add(1, Ordering::SeqCst);
+        let refuses = of > 0 && write % of == 0;
+        if refuses {
             self.state.refused.fetch_add(1, Ordering::SeqCst);
         }
-        is_sick
+        refuses
     }
 }
 
@@ -125,7 +148,7 @@ impl<D: Disk> Disk for SickDisk<D> {
     }
 
     fn write(&mut self, at: u64, bytes: &[u8]) -> Result<(), DiskFault> {
-        if self.health.refuses() || self.inner.write(at, bytes).is_err() {
+        if self.health.refuses(at) || self.inner.write(at, bytes).is_err() {
             return Err(self.fail());
         }
         Ok(())

@@ -1,12 +1,13 @@
 // Stores that break, are reopened, or are worn: how often the disk is tried, and what is reported on standard error.
 use crate::screen::Screen;
 use crate::sick_disk::{Health, SickDisk};
-use psu_client::{Client, Missed, holds, joined_as};
+use psu_client::{Client, Missed, holds, joined_as, settle};
 use psu_disk::Disk;
-use psu_hosts::{new_disk, served_disk};
+use psu_hosts::{Hold, new_disk, served_disk};
+use psu_serve::{Open, Point};
 use std::test::Fail;
 use std::thread;
-use std::time::Duration;
+use std::time::{Clock, Duration, Instant};
 
 // The place of the first root's number in an image.
 const NUMBER: u64 = 8;
@@ -28,7 +29,7 @@ fn a_full_disk_is_tried_each_second(rt: HostRuntime) -> Result<(), Fail> {
     let health = Health::new(alloc)?;
     let screen = Screen::new(rt, alloc)?;
     let disk = SickDisk::new(new_disk(alloc)?, health.another()?);
-    let port = served_disk(rt, alloc, disk, 48_915, screen.another()?)?;
+    let port = served_disk(rt, alloc, disk, 48_915, Open, screen.another()?)?;
     let mut one = joined_as(&rt, port, 1)?;
     health.be_sick(true);
     saves(&mut one)?;
@@ -42,6 +43,70 @@ fn a_full_disk_is_tried_each_second(rt: HostRuntime) -> Result<(), Fail> {
     Ok(())
 }
 
+// The eighth write fails, and so each second commit.
+const OF: usize = 8;
+
+// Saves for three seconds, while the disk fails each second commit. Each message is answered. Returns how many seconds
+// have passed.
+fn saves_on_a_flapping_disk<R: Clock>(rt: &R, client: &mut Client) -> Result<u64, Fail> {
+    let begin = Instant::now(rt)?;
+    for _ in 0..1_000_000u32 {
+        saves(client)?;
+        let passed = begin.elapsed(rt)?.as_secs();
+        if passed >= 3 {
+            return Ok(passed);
+        }
+    }
+    Ok(0)
+}
+
+// A disk that fails each second commit is reported once a second and no more often, with how often the store has
+// changed its condition, and no save waits for it.
+#[test]
+fn a_flapping_disk_is_told_of_once_a_second(rt: HostRuntime) -> Result<(), Fail> {
+    let alloc = rt.alloc();
+    let health = Health::new(alloc)?;
+    let screen = Screen::new(rt, alloc)?;
+    let disk = SickDisk::new(new_disk(alloc)?, health.another()?);
+    let port = served_disk(rt, alloc, disk, 48_919, Open, screen.another()?)?;
+    let mut one = joined_as(&rt, port, 1)?;
+    health.refuse_one_of(OF);
+    let seconds = saves_on_a_flapping_disk(&rt, &mut one)?;
+    let lines = u64::try_from(screen.count()).unwrap_or(u64::MAX);
+    holds(seconds >= 3, "saves for three seconds")?;
+    holds(lines >= 2 && lines.saturating_sub(1) <= seconds, "a line each second")?;
+    screen.says(" times)\n")?;
+    one.is_served()?;
+    Ok(())
+}
+
+// While nothing can be written on standard error, a save on a broken store is refused at once, and the store is opened
+// again. Then the latest condition is written. The disk refuses the save after a second too, when the store is opened
+// again, so it is broken for the second after that.
+#[test]
+fn a_line_that_cannot_be_written_holds_nothing_up(rt: HostRuntime) -> Result<(), Fail> {
+    let alloc = rt.alloc();
+    let health = Health::new(alloc)?;
+    let screen = Screen::new(rt, alloc)?;
+    let disk = SickDisk::new(new_disk(alloc)?, health.another()?);
+    let port = served_disk(rt, alloc, disk, 48_921, Open, screen.another()?)?;
+    let mut one = joined_as(&rt, port, 1)?;
+    screen.be_full(true);
+    health.be_sick(true);
+    saves(&mut one)?;
+    thread::sleep(&rt, Duration::from_millis(1_300));
+    one.say(b"*SAV 2")?;
+    one.ask(b"SYST:ERR?", b"-320,\"Storage fault\"\n")?;
+    health.be_sick(false);
+    thread::sleep(&rt, Duration::from_millis(2_500));
+    saves(&mut one)?;
+    is_kept(&mut one)?;
+    screen.shows("")?;
+    screen.be_full(false);
+    screen.comes_to_show("psu: store broken\npsu: store reopened\n")?;
+    Ok(())
+}
+
 // A store whose root numbers are used up is reported once.
 #[test]
 fn a_worn_store_is_told_of_once(rt: HostRuntime) -> Result<(), Fail> {
@@ -51,12 +116,66 @@ fn a_worn_store_is_told_of_once(rt: HostRuntime) -> Result<(), Fail> {
     if disk.size() < NUMBER + 8 || disk.write(NUMBER, &[0xff; 8]).is_err() {
         return Err(Fail::from("a number"));
     }
-    let port = served_disk(rt, alloc, disk, 48_917, screen.another()?)?;
+    let port = served_disk(rt, alloc, disk, 48_917, Open, screen.another()?)?;
     let mut one = joined_as(&rt, port, 1)?;
     saves(&mut one)?;
     screen.comes_to_show("psu: store worn\n")?;
     thread::sleep(&rt, Duration::from_millis(2_500));
     screen.shows("psu: store worn\n")?;
     one.is_served()?;
+    Ok(())
+}
+
+// How many sessions save at the same time.
+const SESSIONS: u8 = 6;
+
+// A save and a wait, both of which are refused, and their first error.
+const SAVE: &[u8] = b"VOLT 7;*SAV 1;*OPC?;:SYST:ERR?";
+
+const REFUSED: &[u8] = b"-320,\"Storage fault\"\n";
+
+// Saves from all of these sessions at once, each of which is answered.
+fn are_refused(clients: &mut [Client]) -> Result<(), Missed> {
+    for client in clients.iter_mut() {
+        client.say(SAVE)?;
+    }
+    for client in clients.iter_mut() {
+        client.hear(REFUSED)?;
+    }
+    Ok(())
+}
+
+// A disk that refuses the pages of items, while its roots can be written and its syncs succeed: each reopening succeeds,
+// and each commit after it breaks the store again. With as many changes accepted as may be unflushed, a save that waits
+// for the job is -320 at its end, and so is each save after it, at once. Once the disk accepts all writes, all is saved.
+#[test]
+fn no_save_waits_for_a_disk_that_refuses_items(rt: HostRuntime) -> Result<(), Fail> {
+    let alloc = rt.alloc();
+    let health = Health::new(alloc)?;
+    let hold = Hold::new(rt, alloc, Some(Point::BeforeRun))?;
+    let disk = SickDisk::new(new_disk(alloc)?, health.another()?);
+    let screen = Screen::new(rt, alloc)?;
+    let port = served_disk(rt, alloc, disk, 48_965, hold.another()?, screen)?;
+    let mut one = joined_as(&rt, port, 1)?;
+    let mut clients = Vec::new(alloc);
+    for number in 2..SESSIONS + 2 {
+        clients.push(joined_as(&rt, port, number)?)?;
+    }
+    health.spare_roots();
+    health.be_sick(true);
+    one.ask(b"VOLT 6;VOLT?", b"6.000\n")?;
+    one.fill()?;
+    hold.wait_until_held()?;
+    one.say(b"*SAV 2;:SYST:ERR?;*CLS")?;
+    settle(&rt);
+    hold.let_go()?;
+    one.hear(REFUSED)?;
+    for _ in 0..30u32 {
+        are_refused(&mut clients)?;
+        one.ask(b"*CLS;*IDN?", b"EXAMPLE,PSU4,0,1.0\n")?;
+    }
+    health.be_sick(false);
+    thread::sleep(&rt, Duration::from_millis(3_000));
+    one.ask(b"*SAV 1;*OPC?;:SYST:ERR?", b"1;0,\"No error\"\n")?;
     Ok(())
 }

@@ -1,15 +1,14 @@
 -- A unit whose reply is still `Later` after a flush.
-use Rattle.std.proofs.Common.{◌≡◌, ◌⊎◌, ℕ, ◌<◌, ◌==◌, ◌&&◌, not, nat_le, if◌then◌else◌, Bool, true, false, Option, Some, None, is_none, List, [], ◌∷◌, refl, sym, ap, ◌∙◌, inl, inr, arith, ⊎_elim, Result, Ok, Err}
+use Rattle.std.proofs.Common.{◌≡◌, ◌⊎◌, ℕ, ◌<◌, ◌==◌, ◌&&◌, ◌||◌, not, nat_le, if◌then◌else◌, Bool, true, false, Option, Some, None, is_none, is_some, List, [], ◌∷◌, refl, sym, ap, subst, ◌∙◌, inl, inr, arith, ⊎_elim, Result, Ok, Err}
 use Rattle.std.proofs.lemmas.Bool.Decides.{nat_tests}
 use Rattle.psu_disk.specs.Disk.{HasFailed}
 use Rattle.psu_disk.specs.declared.disk.Disk.{Ghosts}
 use Rattle.psu_exec.specs.Calls.{Executed, Allows}
-use Rattle.psu_exec.specs.Device.{Reply, Error, Parked, Later, State, Flush, MayAnswer, MayMean, TooEarly, Runs, Expands, Means, answer_call, is_late, is_later as comes_later, is_whole, wait_of, answer_complete, answer_done, answer_meant, here, kept_unless, meant as meaning_of, parks, reads_nonvolatile}
+use Rattle.psu_exec.specs.Device.{Reply, Error, Parked, Later, State, Flush, MayAnswer, MayMean, TooEarly, Runs, Expands, Means, answer_call, is_full, is_late, is_later as comes_later, is_whole, wait_of, answer_complete, answer_done, answer_meant, here, kept_unless, meant as meaning_of, parks, reads_nonvolatile}
 use Rattle.psu_instrument.specs.Meaning.{Meaning, Refuses, Does, Keeps, Completes}
 use Rattle.psu_instrument.specs.declared.completion.Completion.{Completion}
 use Rattle.psu_instrument.specs.declared.completion.Completion.TheVariants as completion
 use Rattle.psu_exec.specs.Shown.{outcome_of}
-use Rattle.psu_exec.specs.World.{World}
 use Rattle.psu_nv.specs.Commands as nv
 use Rattle.psu_nv.specs.Contents.{fits}
 use Rattle.psu_exec.specs.declared.condition.Condition.TheVariants.{Worn}
@@ -30,12 +29,15 @@ use Rattle.psu_server.proofs.Calls.{executes_one}
 use Rattle.psu_server.proofs.Within.{failed_on, within_itself}
 use Rattle.psu_server.proofs.UnitEnds.{has_executed, executed_join, halts_here, halted_since, late_call, late_executed}
 
-and_first : (a b : Bool) → (a && b) ≡ true → a ≡ true
-and_first true b e = refl
-and_first false b e = cc
+both : (a b : Bool) → (a && b) ≡ true → (a ≡ true) × (b ≡ true)
+both true b e = (refl, e)
+both false b e = cc
 
-some_of : (n : ℕ) (b : Bool) → (nat_le 1024 n && b) ≡ true → 0 < n
-some_of n b e = let most : nat_le 1024 n ≡ true = and_first (nat_le 1024 n) b e in grind (arith, nat_tests, most)
+some_of : (f : Flush) → is_full f ≡ true → 0 < f.unflushed
+some_of f full = let most : nat_le 1024 f.unflushed ≡ true = (both (is_whole f.store) (nat_le 1024 f.unflushed) full).1 in grind (arith, nat_tests, most)
+
+not_worn : (f : Flush) → is_full f ≡ true → f.store ≡ Worn → ⊥
+not_worn f full worn = let bad : false ≡ true = sym (ap is_whole worn) ∙ (both (is_whole f.store) (nat_le 1024 f.unflushed) full).0 in cc
 
 -- the reply is not `Later`, for each reply that a command may have
 abbrev Never : Reply → Type 0
@@ -67,10 +69,9 @@ never_meant f (Keeps change) = never_kept (nv.refused f.contents change) (is_who
 never_meant f (Completes c) =
     never_if (not (is_whole f.store)) (Error StorageFault) _ (λ e. cc) (never_if (parks c && not (f.unflushed == 0)) Parked (answer_complete c) (λ e. cc) (never_complete c))
 
--- the session waits for nothing, so changes are unflushed
-full_tail : (wait : Option Wait) (n : ℕ) (nonvolatile : Bool) → wait ≡ None → is_late wait n nonvolatile ≡ true → 0 < n
-full_tail None n nonvolatile free e = some_of n nonvolatile e
-full_tail (Some w) n nonvolatile free e = cc
+-- the session waits for nothing, so a flush has to make room
+full_tail : (f : Flush) (nonvolatile : Bool) → wait_of f 1 ≡ None → is_late f 1 nonvolatile ≡ true → is_full f ≡ true
+full_tail f nonvolatile free e = (both (is_full f) nonvolatile (subst (λ (w : Option Wait). (is_some w || (is_full f && nonvolatile)) ≡ true) free e)).0
 
 never_call : (given : Result (List ℕ) ScpiError) → Never (answer_call given)
 never_call (Ok text) e = cc
@@ -85,9 +86,8 @@ later_for s request (TooEarly free late) = late
 later_for s request (Runs run (Expands body is call)) = absurd (never_call call.given (sym call.is))
 later_for s request (Runs run (Means none may)) = absurd (never_means s.flush (meaning_of (here s 1) request.reading) may)
 
-late_some : (s new : State) (request : Request) → Allows s (Executed 1 request Later) new → wait_of s.flush 1 ≡ None → 0 < s.flush.unflushed
-late_some s new request t free =
-    full_tail (wait_of s.flush 1) s.flush.unflushed (reads_nonvolatile request.reading (is_none s.flush.contents.enables)) free (later_for s request t.1.may)
+late_full : (s new : State) (request : Request) → Allows s (Executed 1 request Later) new → wait_of s.flush 1 ≡ None → is_full s.flush ≡ true
+late_full s new request t free = full_tail s.flush (reads_nonvolatile request.reading (is_none s.flush.contents.enables)) free (later_for s request t.1.may)
 
 late_halted : {D A : Type 0} {G : Ghosts D} (old mid new : Exec D A G) (request : Request) (reply : Reply) → Ghosts.honest G → Continues mid new (Acted request reply) → is_later reply ≡ true
     → wait_of mid.device.flush 1 ≡ None → HasFailed (failures_of old) (failures_of mid) ⊎ (mid.device.flush.store ≡ Worn) ⊎ (mid.device.flush.unflushed ≡ 0) → IsHaltedBy old new Device
@@ -95,12 +95,10 @@ late_halted old mid new request reply h a late free clean =
     let life : Life = record { limit = 0; start = mid.device.flush.contents; history = [] } in
     let g = a.runs h life in
     let c = late_call g.1.0 reply (world_of life mid) (world_of g.0 new) request late (within_itself _ _ (λ can. Acted request reply can (world_of life mid) (world_of g.0 new)) g.1) in
-    let allows = c.1.2 in
-    let store : new.device.flush.store ≡ mid.device.flush.store = ap (λ (w : World). w.state.flush.store) c.1.4 ∙ ap (λ (s : State). s.flush.store) allows.1.is in
-    let left : new.device.flush.unflushed ≡ mid.device.flush.unflushed = ap (λ (w : World). w.state.flush.unflushed) c.1.4 ∙ ap (λ (s : State). s.flush.unflushed) allows.1.is in
-    let some = late_some mid.device c.1.0 request allows free in
+    let full = late_full mid.device c.1.0 request c.1.2 free in
+    let some = some_of mid.device.flush full in
     ⊎_elim (λ failed. inl (failed_on _ _ _ a.lasts.later failed))
-    (λ rest. ⊎_elim (λ worn. inr (store ∙ worn, omega (arith, some, left))) (λ none. absurd (omega (arith, some, none))) rest) clean
+    (λ rest. ⊎_elim (λ worn. absurd (not_worn mid.device.flush full worn)) (λ none. absurd (omega (arith, some, none))) rest) clean
 
 pub still_late_halts : {D A : Type 0} {G : Ghosts D} (old mid over new : Exec D A G) (request : Request) (first reply : Reply) → Continues old mid (Acted request first) → is_later first ≡ true
     → Continues mid over Flushes → Continues over new (Acted request reply) → is_later reply ≡ true → wait_of over.device.flush 1 ≡ None

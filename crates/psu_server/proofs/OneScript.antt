@@ -7,7 +7,7 @@ use Rattle.psu_tree.specs.declared.command.Command.{Command}
 use Rattle.psu_tree.specs.declared.unit_request.Request.{Request}
 use Rattle.psu_instrument.specs.Macros.{ExpandsAt, body_called, written}
 use Rattle.psu_answers.specs.Response.{response}
-use Rattle.psu_exec.specs.Device.{Reply, Done, Answer, Error, Expand, Parked, Held, Later, State, answer_call, answer_meant, called, here, is_late, is_later, meant, reads_nonvolatile, wait_of}
+use Rattle.psu_exec.specs.Device.{Reply, Done, Answer, Error, Expand, Parked, Held, Later, State, answer_call, answer_meant, called, here, is_late, is_later, meant, reads_nonvolatile}
 use Rattle.psu_server.specs.Lines.{Message}
 use Rattle.psu_server.specs.Script.{Rest, UnitOutcome, Spoken, MessageOutcome, Expands, Replies, Early, ByMacro, ByMeaning, HasOutcomeFrom, HasOutcome, SpeaksInside, SpeaksReply, Speaks, HasMessageOutcome, Scripted, after_reply, flushed, with_answer}
 use Rattle.psu_server.proofs.Scripts.{Alike, Ones, Same, one_asked, one_asking}
@@ -34,7 +34,7 @@ called_same s a b same = ap (λ (z : Option (List ℕ)). body_called s.volatile.
 
 later_same_unit : (s : State) (a b : Request) → Same a b → is_later s 1 b ≡ is_later s 1 a
 later_same_unit s a b same =
-    ap (λ (z : Result Command ScpiError). is_late (wait_of s.flush 1) s.flush.unflushed (reads_nonvolatile z (is_none s.flush.contents.enables))) (sym same.reading)
+    ap (λ (z : Result Command ScpiError). is_late s.flush 1 (reads_nonvolatile z (is_none s.flush.contents.enables))) (sym same.reading)
 
 one_reply : OneExpansion → (s : State) (a b : Request) → Same a b → (x y : Reply) → Replies s a x → Replies s b y → x ≡ y
 one_reply one s a b same x y (Early p) (Early q) = refl

@@ -23,7 +23,7 @@ pub enum RecoverFault {
     BadVersion,
     #[error("out of memory")]
     Memory,
-    /// The items are not those of any contents.
+    /// The items encode no contents, or contents that cost more pages than the limit of the image.
     #[error("bad items")]
     BadItems,
 }

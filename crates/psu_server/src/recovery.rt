@@ -1,14 +1,14 @@
 //! What a restart would find in an image, without running on it.
 ghost use Rattle.std.specs.Prelude.{◌≡◌, ℕ, List, IfOk, IfErr, false};
 ghost use Rattle.std.specs.Option.{ForSome};
-ghost use Rattle.psu_disk.specs.Disk.{HasFailed};
+ghost use Rattle.psu_disk.specs.Steps.{Step};
 ghost use Rattle.psu_map.specs.Map.{Item};
 ghost use Rattle.psu_items.specs.Image.{EachRepresents};
 ghost use Rattle.psu_exec.specs.Jobs.{idle_disk};
 ghost use Rattle.psu_server.specs.Recover.{IsReported, IsRecoverRefusal, Reports};
 
 use crate::listing::files_of;
-use crate::{Examined, RecoverFault, Report};
+use crate::{RecoverFault, Recovered, Report};
 use psu_disk::Disk;
 use psu_exec::{Ended, Exec};
 use psu_items::Store;
@@ -16,31 +16,18 @@ use std::alloc::{AllocError, Allocator};
 
 /// Opens the image of a disk as a restart does, which may close an older gate that is still open, and reports the
 /// contents that it finds. The report is of the contents that the image represents, with the first service request that
-/// IEEE 488.2 prescribes for them. A device fault is returned only where a call of the disk failed.
-pub fn recover<D: Disk + Drop, A: Allocator + Copy>(
-    alloc: A,
-    disk: D,
-) -> Result<Report<A>, RecoverFault>
-    ensures found { D.honest → IfOk result (IsReported (D.state disk).bytes) }
-    ensures refused { D.honest → IfErr result (IsRecoverRefusal (D.state disk).bytes) }
-    ensures device { IfErr result (λ e. e ≡ RecoverFault.Device → (left : D) × HasFailed (D.failures disk) (D.failures left)) }
-{
-    let Examined { found, .. } = examine(alloc, disk);
-    found
-}
-
-/// Does what `recover` does, and returns the disk too. A device fault is returned only where a call of the disk failed,
-/// and a map that each possible crash image of the disk represented, each still represents.
-pub fn examine<D: Disk, A: Allocator + Copy>(alloc: A, disk: D) -> Examined<D, A>
+/// IEEE 488.2 prescribes for them. The disk is returned too. A device fault is returned only where a call of this disk
+/// failed, and a map that each possible crash image of the disk represented, each still represents.
+pub fn recover<D: Disk, A: Allocator + Copy>(alloc: A, disk: D) -> Recovered<D, A>
     ensures found { D.honest → IfOk result.found (IsReported (D.state disk).bytes) }
     ensures refused { D.honest → IfErr result.found (IsRecoverRefusal (D.state disk).bytes) }
-    ensures device { IfErr result.found (λ e. e ≡ RecoverFault.Device → HasFailed (D.failures disk) (D.failures result.disk)) }
+    ensures step { Step D.Disk disk result.disk result.found (λ e. e ≡ RecoverFault.Device) }
     ensures left { D.honest → (limit : ℕ) (map : List Item) → EachRepresents (D.state disk) limit map → EachRepresents (D.state result.disk) limit map }
 {
     let store = match Store::open(alloc, disk) {
         Ok(store) => store,
         Err(refused) => {
-            return Examined {
+            return Recovered {
                 found: Err(RecoverFault::from(refused.cause)),
                 disk: refused.disk,
             };
@@ -51,11 +38,11 @@ pub fn examine<D: Disk, A: Allocator + Copy>(alloc: A, disk: D) -> Examined<D, A
     let limit = store.limit();
     let pages = store.items().cost();
     match Exec::power_on(alloc, store) {
-        Ok(exec) => Examined {
+        Ok(exec) => Recovered {
             found: report_of(alloc, &exec, version, root, limit, pages),
             disk: disk_of(exec),
         },
-        Err(fault) => Examined {
+        Err(fault) => Recovered {
             found: Err(RecoverFault::from(fault.cause)),
             disk: fault.store.into_disk(),
         },

@@ -7,7 +7,7 @@ use Rattle.std.specs.List.{list_any}
 use Rattle.psu_hislip.specs.Action.{Act, act, acts}
 use Rattle.psu_hislip.specs.Channel.{Awaited, Fed}
 use Rattle.psu_hislip.specs.Rest.{IsFedBy, all_received}
-use Rattle.psu_hislip.specs.Stream.{Received, received}
+use Rattle.psu_hislip.specs.Stream.{IsStream, Received, received}
 use Rattle.psu_hislip.specs.declared.action.Action.{Action}
 use Rattle.psu_hislip.specs.declared.message.Message.{Message}
 use Rattle.psu_hislip.specs.declared.side.Side.{Side}
@@ -73,3 +73,15 @@ pub one_fed : {A : Type 0} (old new : Awaited) (bytes : List ℕ) (before after 
     → (first : Received) × Fed new bytes (first ∷ [])
 one_fed old new bytes before after none fed start one =
     only_one after new bytes one (subst (λ (z : List (Message _)). Fed new bytes (all_received z)) (sym (fed.1 ∙ ap (λ (z : List (Message _)). z ++ fed.0) none)) (fed.2 [] [] start))
+
+as_many : {A : Type 0} (messages : List (Message A)) → length (all_received messages) ≡ length messages
+as_many [] = refl
+as_many (message ∷ messages) = omega (arith, as_many messages)
+
+-- where the bytes are one message, a feed of a new channel completes one
+pub one_message : {A : Type 0} (old new : Awaited) (bytes : List ℕ) (before after : List (Message A)) → before ≡ [] → IsFedBy old bytes new before after → Fed old [] []
+    → ((stream : List ℕ) (messages others : List Received) → IsStream stream messages → IsStream stream others → messages ≡ others) → (first : Received) → IsStream bytes (first ∷ []) → length after ≡ 1
+one_message old new bytes before after none fed start one first is =
+    let all : Fed new bytes (all_received after) = subst (λ (z : List (Message _)). Fed new bytes (all_received z)) (sym (fed.1 ∙ ap (λ (z : List (Message _)). z ++ fed.0) none)) (fed.2 [] [] start) in
+    let same : all_received after ≡ first ∷ [] = one bytes (all_received after) (first ∷ []) all.0 is in
+    sym (as_many after) ∙ ap length same

@@ -45,7 +45,7 @@ held_with-append : (xs ys : List Order) (held : ℕ) → held_with (xs ++ ys) he
 held_with-append [] ys held = refl
 held_with-append (x ∷ xs) ys held = held_with-append xs ys (held + cost_of x)
 
-owed_with-append : (xs ys : List Release) (owed : ℕ) → owed_with (xs ++ ys) owed ≡ owed_with ys (owed_with xs owed)
+pub owed_with-append : (xs ys : List Release) (owed : ℕ) → owed_with (xs ++ ys) owed ≡ owed_with ys (owed_with xs owed)
 owed_with-append [] ys owed = refl
 owed_with-append (x ∷ xs) ys owed = owed_with-append xs ys (owed + cost 0)
 

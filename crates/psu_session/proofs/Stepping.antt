@@ -1,21 +1,23 @@
 -- Steps of a session, one after another.
-use Rattle.std.proofs.Common.{◌≡◌, ℕ, ◌-◌, true, Option, Some, None, is_some, List, [], ◌∷◌, ◌++◌, refl, sym, ap, ◌∙◌, subst, append_assoc, inl, inr, false, Result, Ok, Err, is_err, OnOk, IfOk, IfSome, IsNone}
+use Rattle.std.proofs.Common.{◌≡◌, ◌⊎◌, ℕ, ◌-◌, ◌<◌, ◌≤◌, arith, length, true, Option, Some, None, is_some, List, [], ◌∷◌, ◌++◌, refl, sym, ap, ◌∙◌, subst, append_assoc, inl, inr, false, Result, Ok, Err, is_err, OnOk, IfOk, IfSome, IsNone}
 use Rattle.std.proofs.lemmas.List.{append-nil}
 use Rattle.psu_hislip.specs.Core.{IsCurrent}
 use Rattle.psu_messages.specs.Executions.{Progress, IsOver, beginning}
 use Rattle.psu_session.specs.Exchange.{Order}
 use Rattle.psu_session.specs.Credit.{cost, cost_of}
-use Rattle.psu_session.specs.Events.{Call, Event, LockReleased}
+use Rattle.psu_session.specs.Events.{Call, Event, LockReleased, calls}
+use Rattle.psu_session.specs.Phases.{tries}
 use Rattle.psu_session.specs.Step.{IsReachable, Step, Steps, running, happened}
 use Rattle.psu_session.specs.Step.Step.{Begins, Works, Ends, ReleasesLock}
 use Rattle.psu_session.specs.Step.Steps.{Still, Then}
-use Rattle.psu_session.specs.Proceeding.{Frees, Proceeds, IsNext, IsNextRelease}
+use Rattle.psu_session.specs.Proceeding.{Counts, Frees, IsNext, IsNextRelease, LetsIn, Yields}
 use Rattle.psu_session.specs.Serving.{AdvancesOrder, PerformsStep}
 use Rattle.psu_session.specs.Shown.{one_running, running_of}
 use Rattle.psu_session.specs.declared.running.Running as declared
 use Rattle.psu_session.specs.State.{Running, State, Work, Execute, added, with_held, with_owed, with_work, with_output}
 use Rattle.psu_session.specs.declared.proceeded.Proceeded.TheVariants.{Idle, Completed, Waits}
 use Rattle.psu_messages.specs.declared.need.Need.{Need}
+use Rattle.psu_messages.specs.declared.need.Need.TheVariants.{Flush, Lock, Room, Turn}
 use Rattle.psu_hislip.specs.declared.side.Side.TheVariants.{Sync}
 
 pub one_step : {s : State} {done : List Event} {t : State} → Step s done t → Steps s done t
@@ -62,11 +64,18 @@ none_running None e = refl
 pub next_is : (r : Option declared.Running) (one : declared.Running) (s : State) (next : Running) (t : State) → r ≡ Some one → running_of r ≡ t.running → IsNext s next t → one_running one ≡ next
 next_is r one s next t is shown n = let e : Some (one_running one) ≡ Some next = sym (ap running_of is) ∙ shown ∙ ap (λ (z : State). z.running) n.then in cc (e)
 
--- no transmission is next where none is in execution
-pub none_next : (s : State) (next : Running) (t : State) → t.running ≡ None → IsNext s next t → ⊥
-none_next s next t none n = let e = sym none ∙ ap (λ (z : State). z.running) n.then in absurd (cc (e))
-
 -- ---- the result of a call
+
+-- others are let in only once a unit was tried
+yields_after : (need : Need) (done : List Event) (t : State) → (need ≡ Turn → (1 ≤ tries (calls done)) ⊎ (65536 ≤ length t.sync)) → Yields (Waits need) done t
+yields_after Flush done t when = tt
+yields_after Lock done t when = tt
+yields_after Room done t when = tt
+yields_after Turn done t when = when refl
+
+tried : (units left count : ℕ) (output : List ℕ) → 0 < units → left ≡ units - count → LetsIn units left output → (1 ≤ count) ⊎ (65536 ≤ length output)
+tried units left count output some counted (inl few) = inl (omega (arith, some, counted, few))
+tried units left count output some counted (inr full) = inr full
 
 module _ {X : Type 0} (does : X → Call → X → Type 0) (s : State) (next : Running) (t : State) (x : X) (n : IsNext s next t) where
   in_execution : t.running ≡ Some next
@@ -76,12 +85,16 @@ module _ {X : Type 0} (does : X → Call → X → Type 0) (s : State) (next : R
   abbrev ended : State → State
   ended u = with_held (with_work u u.waiting None) (u.held - cost_of next.order)
 
-  pub dropped : (IsCurrent t.core next.order.origin → ⊥) → PerformsStep does (Proceeds Completed) s x (ended t) x
-  dropped gone = record {
+  pub dropped : (units : ℕ) → (IsCurrent t.core next.order.origin → ⊥) → PerformsStep does (Counts units Completed units) s x (ended t) x
+  dropped units gone = record {
     done = [];
     is = record {
-      steps = steps_then n.steps (Ends (record { order = next.order; progress = next.progress; is = in_execution; ended = inr gone; are = refl; then = refl }));
-      ends = inl (record { order = next.order; later = n.later; first = n.first; none = refl; left = ap (λ (z : State). z.waiting) n.then });
+      proceeds = record {
+        steps = steps_then n.steps (Ends (record { order = next.order; progress = next.progress; is = in_execution; ended = inr gone; are = refl; then = refl }));
+        ends = inl (record { order = next.order; later = n.later; first = n.first; none = refl; left = ap (λ (z : State). z.waiting) n.then });
+        yields = tt;
+      };
+      counted = omega arith;
     };
     runs = refl;
   }
@@ -91,9 +104,9 @@ module _ {X : Type 0} (does : X → Call → X → Type 0) (s : State) (next : R
   reached new output = with_output Sync (with_work t t.waiting (Some (running next.order new))) output
 
   -- effects of the next transmission
-  worked : (new : Progress) (output : List ℕ) (y : X) → IsCurrent t.core next.order.origin → (a : AdvancesOrder does t.core next.order next.progress t.sync x new output y)
+  worked : (new : Progress) (output : List ℕ) (y : X) (units left : ℕ) → IsCurrent t.core next.order.origin → (a : AdvancesOrder does t.core next.order next.progress t.sync x new output y units left)
       → Steps s (happened next.order.origin (a.effects_done)) (reached new output)
-  worked new output y current a =
+  worked new output y units left current a =
       steps_on n.steps
       (one_step (Works (record {
         order = next.order;
@@ -109,46 +122,58 @@ module _ {X : Type 0} (does : X → Call → X → Type 0) (s : State) (next : R
       })))
 
   -- the transmission waits
-  pub waits : (new : Progress) (output : List ℕ) (y : X) (need : Need) → IsCurrent t.core next.order.origin
-      → AdvancesOrder does t.core next.order next.progress t.sync x new output y → PerformsStep does (Proceeds (Waits need)) s x (reached new output) y
-  waits new output y need current a = record {
+  pub waits : (new : Progress) (output : List ℕ) (y : X) (units left : ℕ) (need : Need) → 0 < units → (need ≡ Turn → LetsIn units left output) → IsCurrent t.core next.order.origin
+      → AdvancesOrder does t.core next.order next.progress t.sync x new output y units left → PerformsStep does (Counts units (Waits need) left) s x (reached new output) y
+  waits new output y units left need some lets_in current a = record {
     done = happened next.order.origin a.effects_done;
     is = record {
-      steps = worked new output y current a;
-      ends = record { order = next.order; later = n.later; first = n.first; progress = new; same = refl; left = ap (λ (z : State). z.waiting) n.then };
+      proceeds = record {
+        steps = worked new output y units left current a;
+        ends = record { order = next.order; later = n.later; first = n.first; progress = new; same = refl; left = ap (λ (z : State). z.waiting) n.then };
+        yields = yields_after need (happened next.order.origin a.effects_done) (reached new output) (λ turn. tried units left (tries (calls (happened next.order.origin a.effects_done))) output some a.counted (lets_in turn));
+      };
+      counted = a.counted;
     };
     runs = a.runs;
   }
 
   -- it is over
-  pub over : (new : Progress) (output : List ℕ) (y : X) → IsCurrent t.core next.order.origin
-      → AdvancesOrder does t.core next.order next.progress t.sync x new output y → IsOver next.order.source new → PerformsStep does (Proceeds Completed) s x (ended (reached new output)) y
-  over new output y current a is_over = record {
+  pub over : (new : Progress) (output : List ℕ) (y : X) (units left : ℕ) → IsCurrent t.core next.order.origin
+      → AdvancesOrder does t.core next.order next.progress t.sync x new output y units left → IsOver next.order.source new → PerformsStep does (Counts units Completed left) s x (ended (reached new output)) y
+  over new output y units left current a is_over = record {
     done = happened next.order.origin a.effects_done;
     is = record {
-      steps = steps_then (worked new output y current a) (Ends (record { order = next.order; progress = new; is = refl; ended = inl is_over; are = refl; then = refl }));
-      ends = inl (record { order = next.order; later = n.later; first = n.first; none = refl; left = ap (λ (z : State). z.waiting) n.then });
+      proceeds = record {
+        steps = steps_then (worked new output y units left current a) (Ends (record { order = next.order; progress = new; is = refl; ended = inl is_over; are = refl; then = refl }));
+        ends = inl (record { order = next.order; later = n.later; first = n.first; none = refl; left = ap (λ (z : State). z.waiting) n.then });
+        yields = tt;
+      };
+      counted = a.counted;
     };
     runs = a.runs;
   }
 
 module _ {X : Type 0} (does : X → Call → X → Type 0) where
   -- a lock is released
-  pub freed : (s t u : State) (x y : X) → IsNextRelease s t → Frees does t x u y → PerformsStep does (Proceeds Completed) s x u y
-  freed s t u x y n f =
+  pub freed : (units : ℕ) (s t u : State) (x y : X) → IsNextRelease s t → Frees does t x u y → PerformsStep does (Counts units Completed units) s x u y
+  freed units s t u x y n f =
       let done : List Event = LockReleased f.reply ∷ [] in
       let is : u ≡ added (with_owed (with_work s n.later None) (s.owed - cost 0)) [] [] done = f.then ∙ ap (λ (z : State). added (with_owed z (z.owed - cost 0)) [] [] done) n.then in
       record {
         done = done;
         is = record {
-          steps = one_step (ReleasesLock (record { later = n.later; none = n.none; first = n.first; reply = f.reply; are = refl; then = is }));
-          ends = inr (record { later = n.later; none = n.none; first = n.first; still = ap (λ (z : State). z.running) is; left = ap (λ (z : State). z.waiting) is ∙ append-nil n.later });
+          proceeds = record {
+            steps = one_step (ReleasesLock (record { later = n.later; none = n.none; first = n.first; reply = f.reply; are = refl; then = is }));
+            ends = inr (record { later = n.later; none = n.none; first = n.first; still = ap (λ (z : State). z.running) is; left = ap (λ (z : State). z.waiting) is ∙ append-nil n.later });
+            yields = tt;
+          };
+          counted = omega arith;
         };
         runs = (y, f.call, refl);
       }
 
-  pub idle : (s t : State) (x : X) → (t ≡ s) × (s.running ≡ None) × (s.waiting ≡ []) → PerformsStep does (Proceeds Idle) s x t x
-  idle s t x e = record { done = []; is = record { steps = subst (λ (z : State). Steps s [] z) (sym e.0) Still; ends = e }; runs = refl }
+  pub idle : (units : ℕ) (s t : State) (x : X) → (t ≡ s) × (s.running ≡ None) × (s.waiting ≡ []) → PerformsStep does (Counts units Idle units) s x t x
+  idle units s t x e = record { done = []; is = record { proceeds = record { steps = subst (λ (z : State). Steps s [] z) (sym e.0) Still; ends = e; yields = tt }; counted = omega arith }; runs = refl }
 
 -- ---- reachable states
 

@@ -1,4 +1,5 @@
 pub mod Events
+pub mod Phases
 pub mod State
 pub mod Step
 pub mod Shown

@@ -1,5 +1,5 @@
 -- The execution of what is queued, and the result of a call that continues it.
-use Rattle.std.specs.Prelude.{◌≡◌, ◌⊎◌, ◌-◌, Bool, Some, None, Result, List, [], ◌∷◌}
+use Rattle.std.specs.Prelude.{◌≡◌, ◌⊎◌, ◌-◌, ◌≤◌, ℕ, Bool, Some, None, Result, List, [], ◌∷◌, length}
 use Rattle.psu_locks.specs.declared.freed.Freed.{Freed}
 use Rattle.psu_locks.specs.declared.lock_refusal.LockRefusal.{LockRefusal}
 use Rattle.psu_tree.specs.declared.unit_request.Request.{Request}
@@ -7,14 +7,16 @@ use Rattle.psu_exec.specs.Device.{Reply}
 use Rattle.psu_messages.specs.Executions.{Progress}
 use Rattle.psu_messages.specs.Effects.{Effect, IsTry, needs}
 use Rattle.psu_messages.specs.declared.need.Need.{Need}
-use Rattle.psu_messages.specs.declared.need.Need.TheVariants.{Turn}
+use Rattle.psu_messages.specs.declared.need.Need.TheVariants.{Flush, Lock, Room, Turn}
 use Rattle.psu_session.specs.Exchange.{Order}
 use Rattle.psu_session.specs.Credit.{cost}
-use Rattle.psu_session.specs.Events.{Call, Event, LockReleased, Released, call_of}
+use Rattle.psu_session.specs.Events.{Call, Event, LockReleased, Released, call_of, calls}
+use Rattle.psu_session.specs.Phases.{phase_after, tries, units_in}
 use Rattle.psu_session.specs.Step.{Steps, running}
-use Rattle.psu_session.specs.State.{Running, State, Work, Execute, ReleaseLock, added, with_owed, with_work}
+use Rattle.psu_session.specs.State.{IsRefusedRoom, Running, State, Work, Execute, ReleaseLock, added, with_owed, with_work}
 use Rattle.psu_session.specs.declared.next.Next.{Next}
 use Rattle.psu_session.specs.declared.next.Next.TheVariants as next
+use Rattle.psu_session.specs.declared.phase.Phase.{Phase}
 use Rattle.psu_session.specs.declared.proceeded.Proceeded.{Proceeded}
 use Rattle.psu_session.specs.declared.proceeded.Proceeded.TheVariants.{Idle, Completed, Waits}
 
@@ -67,6 +69,10 @@ IsAwaited {X} does now need =
     (need ≡ Turn)
     ⊎ ((was : X) × (effect : Effect) × (parked : Bool) × (request : Request) × (reply : Reply) × does was (call_of effect) now × IsTry parked request effect reply × (needs reply ≡ Some need))
 
+-- Others are let in: 64 units were tried, or all that may be, or the output has no room for more.
+abbrev pub LetsIn : ℕ → ℕ → List ℕ → Type 0
+LetsIn units left output = (left ≤ units - 64) ⊎ (65536 ≤ length output)
+
 abbrev pub Awaits : {X : Type 0} → (X → Call → X → Type 0) → Proceeded → X → Type 0
 Awaits does Idle now = Unit {0}
 Awaits does Completed now = Unit {0}
@@ -77,10 +83,31 @@ Ends Idle s t = (t ≡ s) × (s.running ≡ None) × (s.waiting ≡ [])
 Ends Completed s t = IsCompleted s t ⊎ IsFreed s t
 Ends (Waits need) s t = IsWaiting s t
 
+-- Others are let in only after a unit was tried, or where the output has no room for more.
+abbrev pub Yields : Proceeded → List Event → State → Type 0
+Yields Idle done t = Unit {0}
+Yields Completed done t = Unit {0}
+Yields (Waits Flush) done t = Unit {0}
+Yields (Waits Lock) done t = Unit {0}
+Yields (Waits Room) done t = Unit {0}
+Yields (Waits Turn) done t = (1 ≤ tries (calls done)) ⊎ (65536 ≤ length t.sync)
+
 -- What is next is executed, with this result.
 pub record Proceeds (proceeded : Proceeded) (s : State) (done : List Event) (t : State) : Type 0 where
   pub steps : Steps s done t
   pub ends : Ends proceeded s t
+  pub yields : Yields proceeded done t
+
+-- Of so many units that may be tried so many are left.
+pub record Counts (units : ℕ) (proceeded : Proceeded) (left : ℕ) (s : State) (done : List Event) (t : State) : Type 0 where
+  pub proceeds : Proceeds proceeded s done t
+  pub counted : left ≡ units - tries (calls done)
+
+-- The phase of the session counts the units that are tried after the end of a connection, unless memory is refused for the
+-- next reply.
+pub record PassesTo (old : Phase) (proceeded : Proceeded) (new : Phase) (s : State) (done : List Event) (t : State) : Type 0 where
+  pub proceeds : Proceeds proceeded s done t
+  pub phase : (new ≡ phase_after old (units_in old - tries (calls done)) proceeded) ⊎ IsRefusedRoom s new t
 
 -- this is executed next
 abbrev pub IsNextWork : State → Next → State → Type 0

@@ -16,7 +16,7 @@ use Rattle.psu_session.specs.Events.{Event, Came, Did, bytes_received, exchange_
 use Rattle.psu_session.specs.Step.{IsHistory}
 use Rattle.psu_session.specs.State.{Start, State}
 
-pub record IsServed (start : Start) (opening : List ℕ) (history : List Event) (s : State) : Type 0 where
+pub record AnswersInOrder (start : Start) (opening : List ℕ) (history : List Event) (s : State) : Type 0 where
   pub turns : List Turn
   -- the messages that the core received are those of the bytes of the two connections
   pub streams : AreTheStreams (opening ++ bytes_received Sync history) (bytes_received Async history) (exchange_history history)
@@ -36,5 +36,5 @@ pub record IsServed (start : Start) (opening : List ℕ) (history : List Event) 
   -- the transmissions, each in their order
   pub sent : Weaves (replied (exchange_history history)) (pieces turns) (taken Sync history ++ s.sync)
 
-abbrev pub EachSessionIsServed : Type 0
-EachSessionIsServed = (start : Start) (opening : List ℕ) (first : Received) (history : List Event) (s : State) → Fed start.sync opening (first ∷ []) → Fed start.async [] [] → IsHistory start history s → IsServed start opening history s
+abbrev pub EachSessionAnswersInOrder : Type 0
+EachSessionAnswersInOrder = (start : Start) (opening : List ℕ) (first : Received) (history : List Event) (s : State) → Fed start.sync opening (first ∷ []) → Fed start.async [] [] → IsHistory start history s → AnswersInOrder start opening history s

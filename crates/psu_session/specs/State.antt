@@ -10,6 +10,9 @@ use Rattle.psu_messages.specs.Executions.{Progress}
 use Rattle.psu_session.specs.Exchange.{Order}
 use Rattle.psu_session.specs.Credit.{cost, held_with}
 use Rattle.psu_session.specs.Events.{Event, put, waits_after}
+use Rattle.psu_session.specs.declared.phase.EndCause.TheVariants.{Memory}
+use Rattle.psu_session.specs.declared.phase.Phase.{Phase}
+use Rattle.psu_session.specs.declared.phase.Phase.TheVariants.{Over}
 
 -- a transmission in execution, and its progress
 pub record Running : Type 0 where
@@ -167,12 +170,16 @@ left all now last (release ∷ releases) = if is_due all now last release then l
 abbrev pub settled : Bool → ℕ → State → State
 settled all now s = with_releases s (s.waiting ++ due all now s.last s.releases) (left all now s.last s.releases)
 
--- a session as contracts see it: whether it is over, since an allocation failed or a connection ended, and its state
+-- a session as contracts see it: its phase and its state
 pub record Shown : Type 0 where
-  pub over : Bool
+  pub phase : Phase
   pub state : State
 
--- A step that was completed has left the session over only where the output of the asynchronous connection has changed,
--- so that room for the next reply had to be made.
+-- Memory is refused for the next reply: only where the output of the asynchronous connection has changed, so that room for
+-- that had to be made.
+abbrev pub IsRefusedRoom : State → Phase → State → Type 0
+IsRefusedRoom s phase t = (phase ≡ Over Memory) × (t.async ≡ s.async → ⊥)
+
+-- A step that was completed leaves the session in its phase, unless memory is refused for the next reply.
 abbrev pub Continues : Shown → Shown → Type 0
-Continues old new = new.state.async ≡ old.state.async → new.over ≡ false
+Continues old new = (new.phase ≡ old.phase) ⊎ IsRefusedRoom old.state new.phase new.state

@@ -207,8 +207,9 @@ pub record IsTaken (side : Side) (bytes : List ℕ) (s : State) (done : List Eve
   pub are : done ≡ Took side bytes ∷ []
   pub then : t ≡ with_writes side (with_output side s []) true
 
--- the bytes that were taken for a connection are written
+-- the bytes that were taken for a connection are written, by the thread that writes there
 pub record IsWritten (side : Side) (s : State) (done : List Event) (t : State) : Type 0 where
+  pub was : writes side s ≡ true
   pub are : done ≡ Wrote side ∷ []
   pub then : t ≡ with_writes side s false
 

@@ -2,15 +2,20 @@
 -- or more would be held than a session may hold. Source: this may happen between two actions of a message and between
 -- two effects of a transmission, and a call of the device cannot be undone. There is room for the reply to a single call
 -- before it is made.
-use Rattle.std.specs.Prelude.{List, ◌++◌, map}
+use Rattle.std.specs.Prelude.{◌≡◌, ◌⊎◌, ℕ, List, [], ◌++◌, map}
 use Rattle.psu_hislip.specs.Core.{IsCurrent}
+use Rattle.psu_hislip.specs.declared.side.Side.{Side}
 use Rattle.psu_messages.specs.Effects.{Effect}
 use Rattle.psu_messages.specs.Executions.{Progress, Reaches}
 use Rattle.psu_session.specs.Events.{Call, Event, call_of, calls}
 use Rattle.psu_session.specs.Exchange.{Order}
+use Rattle.psu_session.specs.Holding.{IsBounded}
 use Rattle.psu_session.specs.Proceeding.{IsNext}
 use Rattle.psu_session.specs.Serving.{Runs}
-use Rattle.psu_session.specs.State.{Running, State}
+use Rattle.psu_session.specs.Step.{IsReceived}
+use Rattle.psu_session.specs.State.{Release, Running, State, Work, added}
+use Rattle.psu_session.specs.declared.phase.EndCause.{EndCause}
+use Rattle.psu_session.specs.declared.phase.EndCause.TheVariants.{Memory, TooMuchHeld, Disconnected}
 
 -- Of some such events, the device was called for a prefix, in order, and for nothing else.
 pub record CallsPrefix {X : Type 0} (does : X → Call → X → Type 0) (Are : List Event → Type 0) (x : X) (y : X) : Type 0 where
@@ -19,9 +24,24 @@ pub record CallsPrefix {X : Type 0} (does : X → Call → X → Type 0) (Are : 
   pub are : Are (done ++ left)
   pub runs : Runs does x (calls done) y
 
--- A step was not completed: the device was called for a prefix of its events, in order, and for nothing else.
-abbrev pub StopsIn : {X : Type 0} → (X → Call → X → Type 0) → (State → List Event → State → Type 0) → State → X → X → Type 0
-StopsIn does Is s x y = CallsPrefix does (λ done. (t : State) × Is s done t) x y
+-- What the cause says of the state to which a whole step would have led: more would be held there than may be.
+abbrev pub IsEndCause : EndCause → State → Type 0
+IsEndCause Memory t = Unit {0}
+IsEndCause TooMuchHeld t = IsBounded t → ⊥
+IsEndCause Disconnected t = ⊥
+
+-- A step was not completed, for this cause: the device was called for a prefix of its events, in order, and for nothing
+-- else.
+abbrev pub StopsIn : {X : Type 0} → (X → Call → X → Type 0) → (State → List Event → State → Type 0) → EndCause → State → X → X → Type 0
+StopsIn does Is cause s x y = CallsPrefix does (λ done. (t : State) × Is s done t × IsEndCause cause t) x y
+
+-- what it says of what is to be queued
+abbrev pub IsQueueCause : EndCause → List Work → List Release → State → Type 0
+IsQueueCause cause works requested s = IsEndCause cause (added s works requested [])
+
+-- Bytes were not received: memory was refused for the messages that they complete, or the step was not completed.
+abbrev pub StopsReceiving : {X : Type 0} → (X → Call → X → Type 0) → ℕ → Side → List ℕ → EndCause → State → X → X → Type 0
+StopsReceiving does now side bytes cause s x y = ((y ≡ x) × (cause ≡ Memory)) ⊎ StopsIn does (IsReceived now side bytes) cause s x y
 
 -- The device was called for effects that advance a transmission from a point of its progress, in order, and for nothing
 -- else.

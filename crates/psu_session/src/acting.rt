@@ -1,5 +1,5 @@
 // What is done immediately for an action of a message.
-ghost use Rattle.std.specs.Prelude.{◌≡◌, ◌+◌, ◌<◌, OnOk, OnErr, [], ◌∷◌, Some, false};
+ghost use Rattle.std.specs.Prelude.{◌≡◌, ◌+◌, ◌<◌, IfErr, OnOk, OnErr, [], ◌∷◌, Some, false};
 ghost use Rattle.psu_hislip.specs.Action.{act};
 ghost use Rattle.psu_hislip.specs.Header.{header_bytes};
 ghost use Rattle.psu_hislip.specs.declared.side.Side.TheVariants.{Async};
@@ -11,9 +11,11 @@ ghost use Rattle.psu_session.specs.Serving.{Appends, Runs};
 ghost use Rattle.psu_session.specs.Room.{HasReplyRoom, HasRoom, KeepsCapacity};
 ghost use Rattle.psu_session.specs.Shown.{order_of, state_of};
 ghost use Rattle.psu_session.specs.State.{Execute, added};
+ghost use Rattle.psu_session.specs.Stopping.{IsQueueCause};
+ghost use Rattle.psu_session.specs.declared.phase.EndCause.TheVariants.{Memory, TooMuchHeld};
 
 use crate::locking::lock_kind;
-use crate::{Device, Ended, Order, Parts, Release, Work};
+use crate::{Device, EndCause, Order, Parts, Release, Work};
 use psu_hislip::{
     Action, Header, LockResponse, MessageType, Origin, Side, lock_info_response, lock_response,
 };
@@ -33,8 +35,9 @@ fn deliver<D: Device>(device: &mut D, is_delivered: bool)
 
 impl Parts {
     // Appends frames to the output of a connection.
-    pub(crate) fn put(&mut self, side: Side, frames: &[u8]) -> Result<(), Ended>
+    pub(crate) fn put(&mut self, side: Side, frames: &[u8]) -> Result<(), EndCause>
         ensures done { OnOk result (state_of self.new ≡ added (state_of self.old) [] [] (Put side frames.now ∷ [])) }
+        ensures cause { IfErr result (λ cause. cause ≡ Memory) }
         ensures capacity { KeepsCapacity self.old self.new }
     {
         match side {
@@ -61,10 +64,10 @@ impl Parts {
 
     // Queues a transmission, unless more would be held than a session may hold.
     #[inline(always)]
-    fn order(&mut self, origin: Origin, input: Input<Global>) -> Result<(), Ended>
+    fn order(&mut self, origin: Origin, input: Input<Global>) -> Result<(), EndCause>
         requires { HasRoom self.old }
         ensures done { OnOk result (state_of self.new ≡ added (state_of self.old) (Execute (order_of (record { origin = origin; input = input })) ∷ []) [] []) }
-        ensures refused { OnErr result (4194304 < (state_of self.old).held + cost_of (order_of (record { origin = origin; input = input }))) }
+        ensures refused { IfErr result (λ cause. (cause ≡ TooMuchHeld) × (4194304 < (state_of self.old).held + cost_of (order_of (record { origin = origin; input = input })))) }
         ensures capacity { KeepsCapacity self.old self.new }
     {
         self.held.take(input.size())?;
@@ -74,10 +77,10 @@ impl Parts {
     }
 
     // Adds a release that waits for the message of a number, unless more would be held than a session may hold.
-    fn ask_release(&mut self, now: u64, number: u32) -> Result<(), Ended>
+    fn ask_release(&mut self, now: u64, number: u32) -> Result<(), EndCause>
         requires { HasRoom self.old }
         ensures done { OnOk result (state_of self.new ≡ added (state_of self.old) [] (record { number = number; requested_at = now } ∷ []) []) }
-        ensures refused { OnErr result (4194304 < (state_of self.old).owed + cost 0) }
+        ensures refused { IfErr result (λ cause. (cause ≡ TooMuchHeld) × (4194304 < (state_of self.old).owed + cost 0)) }
         ensures capacity { KeepsCapacity self.old self.new }
     {
         self.owed.take(0)?;
@@ -147,10 +150,11 @@ impl Parts {
         now: u64,
         number: u32,
         action: Action<Global>,
-    ) -> Result<(), Ended>
+    ) -> Result<(), EndCause>
         requires { HasRoom self.old }
         ensures done { OnOk result (Appends D.does (Does (state_of self.old).lock_waits (act action)) (works_in (act action)) (release_in now number (act action)) (state_of self.old) device.old (state_of self.new) device.new) }
         ensures uncalled { OnErr result (device.new ≡ device.old) }
+        ensures cause { IfErr result (λ cause. IsQueueCause cause (works_in (act action)) (release_in now number (act action)) (state_of self.old)) }
         ensures capacity { KeepsCapacity self.old self.new }
     {
         match action {

@@ -1,8 +1,9 @@
 // How much a session holds of what it has received and not executed.
-ghost use Rattle.std.specs.Prelude.{◌≡◌, ◌+◌, ◌-◌, ◌≤◌, ◌<◌, ◌↔◌, IsTrue, OnOk, OnErr};
+ghost use Rattle.std.specs.Prelude.{◌≡◌, ◌+◌, ◌-◌, ◌≤◌, ◌<◌, ◌↔◌, IsTrue, IfErr, OnOk};
 ghost use Rattle.psu_session.specs.Credit.{cost};
+ghost use Rattle.psu_session.specs.declared.phase.EndCause.TheVariants.{TooMuchHeld};
 
-use crate::Ended;
+use crate::EndCause;
 
 /// How much may be held before a reader waits, in bytes.
 const LIMIT: usize = 1_048_576;
@@ -37,13 +38,13 @@ impl Credit {
     }
 
     /// Counts an item of so many bytes, if it fits.
-    pub fn take(&mut self, bytes: usize) -> Result<(), Ended>
+    pub fn take(&mut self, bytes: usize) -> Result<(), EndCause>
         ensures taken { OnOk result (self.new.out ≡ self.old.out + cost bytes) }
-        ensures refused { OnErr result ((4194304 < self.old.out + cost bytes) × (self.new ≡ self.old)) }
+        ensures refused { IfErr result (λ cause. (cause ≡ TooMuchHeld) × (4194304 < self.old.out + cost bytes) × (self.new ≡ self.old)) }
     {
         let size = bytes.saturating_add(EACH);
         if size > MOST - self.out {
-            return Err(Ended);
+            return Err(EndCause::TooMuchHeld);
         }
         self.out += size;
         Ok(())

@@ -1,14 +1,15 @@
 // The bytes of a channel.
-ghost use Rattle.std.specs.Prelude.{◌≡◌, ◌⊎◌, List, OnOk, OnErr, [], ◌++◌, map};
+ghost use Rattle.std.specs.Prelude.{◌≡◌, List, IfErr, OnOk, [], ◌++◌, map};
 ghost use Rattle.psu_hislip.specs.Stream.{received};
 ghost use Rattle.psu_session.specs.Feeding.{IsFed};
 ghost use Rattle.psu_session.specs.Room.{KeepsCapacity};
 ghost use Rattle.psu_session.specs.Step.{EachReceived, IsReceived};
 ghost use Rattle.psu_session.specs.Serving.{PerformsStep};
-ghost use Rattle.psu_session.specs.Stopping.{StopsIn};
+ghost use Rattle.psu_session.specs.Stopping.{StopsIn, StopsReceiving};
 ghost use Rattle.psu_session.specs.Shown.{state_of};
+ghost use Rattle.psu_session.specs.declared.phase.EndCause.TheVariants.{Memory};
 
-use crate::{Device, Ended, Parts};
+use crate::{Device, EndCause, Parts};
 use psu_hislip::{Message, Side};
 use std::alloc::Global;
 use std::collections::VecDeque;
@@ -22,9 +23,10 @@ impl Parts {
         side: Side,
         received_bytes: &[u8],
         messages: &mut VecDeque<Message<Global>>,
-    ) -> Result<(), Ended>
+    ) -> Result<(), EndCause>
         requires { messages.old.items ≡ [] }
         ensures fed { OnOk result (IsFed side received_bytes.now (map received messages.new.items) (state_of self.old) (state_of self.new)) }
+        ensures cause { IfErr result (λ cause. cause ≡ Memory) }
         ensures capacity { KeepsCapacity self.old self.new }
     {
         match side {
@@ -41,9 +43,9 @@ impl Parts {
         side: Side,
         messages: &mut VecDeque<Message<Global>>,
         device: &mut D,
-    ) -> Result<(), Ended>
+    ) -> Result<(), EndCause>
         ensures done { OnOk result (PerformsStep D.does (EachReceived now side (map received messages.old.items)) (state_of self.old) device.old (state_of self.new) device.new) }
-        ensures stopped { OnErr result (StopsIn D.does (EachReceived now side (map received messages.old.items)) (state_of self.old) device.old device.new) }
+        ensures stopped { IfErr result (λ cause. StopsIn D.does (EachReceived now side (map received messages.old.items)) cause (state_of self.old) device.old device.new) }
         ensures capacity { KeepsCapacity self.old self.new }
     {
         while let Some(message) = messages.pop_front() {
@@ -60,9 +62,9 @@ impl Parts {
         side: Side,
         received_bytes: &[u8],
         device: &mut D,
-    ) -> Result<(), Ended>
+    ) -> Result<(), EndCause>
         ensures done { OnOk result (PerformsStep D.does (IsReceived now side received_bytes.now) (state_of self.old) device.old (state_of self.new) device.new) }
-        ensures stopped { OnErr result ((device.new ≡ device.old) ⊎ StopsIn D.does (IsReceived now side received_bytes.now) (state_of self.old) device.old device.new) }
+        ensures stopped { IfErr result (λ cause. StopsReceiving D.does now side received_bytes.now cause (state_of self.old) device.old device.new) }
         ensures capacity { KeepsCapacity self.old self.new }
     {
         let mut messages = mem::replace(&mut self.messages, VecDeque::new(self.alloc));

@@ -4,7 +4,7 @@ ghost use Rattle.psu_session.specs.History.{HistoriesExtend, HistoriesAreExchang
 ghost use Rattle.psu_session.specs.Holding.{EachReleaseIsCounted, EachTransmissionIsCounted};
 ghost use Rattle.psu_session.specs.Releases.{EachReleaseIsDone, EachReleaseIsInPlace};
 ghost use Rattle.psu_session.specs.Requests.{EachRequestIsServed};
-ghost use Rattle.psu_session.specs.Served.{EachSessionIsServed};
+ghost use Rattle.psu_session.specs.Served.{EachSessionAnswersInOrder};
 ghost use Rattle.psu_session.specs.Waiting.{EachWaitIsAnsweredOnce, OneRequestWaits, TheWaitIsKnown};
 ghost use Rattle.psu_session.specs.Writing.{EachTakeIsWritten, TheWriterIsKnown};
 
@@ -23,8 +23,8 @@ pub fn histories_extend()
 /// A session from the bytes that are received to those that are sent: its messages are those of the bytes, in one way;
 /// each transmission that is over is answered whole under its MessageID, message by message; and nothing else is sent
 /// on the synchronous connection but the core's replies.
-pub fn each_session_is_served()
-    ensures { EachSessionIsServed }
+pub fn each_session_answers_in_order()
+    ensures { EachSessionAnswersInOrder }
 {
     histories_are_exchanges();
     from_bytes_to_bytes();
@@ -69,5 +69,5 @@ pub fn each_clear_is_acknowledged_last()
     ensures { EachClearIsAcknowledgedLast }
 {
     histories_are_exchanges();
-    each_session_is_served();
+    each_session_answers_in_order();
 }

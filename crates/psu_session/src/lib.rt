@@ -6,7 +6,6 @@
 mod acting;
 mod credit;
 mod device;
-mod ended;
 mod exchange_laws;
 mod execution;
 mod feeding;
@@ -19,6 +18,7 @@ mod numbers;
 mod opening;
 mod order;
 mod parts;
+mod phase;
 mod proceeded;
 mod proceeding;
 mod receiving;
@@ -32,15 +32,16 @@ mod work;
 
 use credit::Credit;
 pub use device::Device;
-pub use ended::Ended;
 pub use exchange_laws::{a_session_that_is_answered, from_bytes_to_bytes};
 pub use laws::{
     each_clear_is_acknowledged_last, each_item_is_counted, each_release_is_done,
-    each_request_is_served, each_session_is_served, each_take_is_written, each_wait_is_answered,
-    histories_are_exchanges, histories_extend,
+    each_request_is_served, each_session_answers_in_order, each_take_is_written,
+    each_wait_is_answered, histories_are_exchanges, histories_extend,
 };
+pub use opening::OpeningError;
 use order::Order;
 use parts::Parts;
+pub use phase::{EndCause, Phase};
 pub use proceeded::Proceeded;
 use release::Release;
 use running::Running;

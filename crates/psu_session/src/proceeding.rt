@@ -1,8 +1,8 @@
 // The execution of what is queued.
-ghost use Rattle.std.specs.Prelude.{◌≡◌, ◌↔◌, ◌-◌, IsTrue, Some, None, IfOk, OnOk, OnErr};
+ghost use Rattle.std.specs.Prelude.{◌≡◌, ◌↔◌, ◌-◌, ◌<◌, IsTrue, Some, None, IfErr, IfOk, OnErr};
 ghost use Rattle.psu_messages.specs.Executions.{beginning};
 ghost use Rattle.psu_session.specs.Credit.{cost_of};
-ghost use Rattle.psu_session.specs.Proceeding.{Awaits, Frees, Proceeds, IsNext, IsNextWork};
+ghost use Rattle.psu_session.specs.Proceeding.{Awaits, Counts, Frees, IsNext, IsNextWork};
 ghost use Rattle.psu_session.specs.Room.{HasReplyRoom, KeepsCapacity};
 ghost use Rattle.psu_session.specs.Serving.{PerformsStep};
 ghost use Rattle.psu_session.specs.Shown.{order_of, state_of};
@@ -10,10 +10,11 @@ ghost use Rattle.psu_session.specs.Stopping.{StopsNext};
 ghost use Rattle.psu_session.specs.State as state;
 ghost use Rattle.psu_session.specs.State.{HasWork, State, with_held, with_work};
 ghost use Rattle.psu_session.specs.Step.{running};
+ghost use Rattle.psu_session.specs.declared.phase.EndCause.TheVariants.{Memory};
 
 use crate::execution::advance;
 use crate::next::Next;
-use crate::{Device, Ended, Order, Parts, Proceeded, Running, Work};
+use crate::{Device, EndCause, Order, Parts, Proceeded, Running, Work};
 use psu_answers::ResponseBuffer;
 use psu_hislip::release_response;
 use psu_messages::Transmission;
@@ -81,12 +82,14 @@ impl Parts {
         }
     }
 
-    // Continues the transmission in execution, if there is one.
+    // Continues the transmission in execution, if there is one. So many units may be tried.
     #[inline(always)]
-    fn execute<D: Device>(&mut self, device: &mut D) -> Result<Proceeded, Ended>
+    fn execute<D: Device>(&mut self, device: &mut D, left: &mut u32) -> Result<Proceeded, EndCause>
+        requires { 0 < left.old }
         ensures waits { IfOk result (λ proceeded. Awaits D.does proceeded device.new) }
-        ensures done { IfOk result (λ proceeded. (s : State) (next : state.Running) → IsNext s next (state_of self.old) → PerformsStep D.does (Proceeds proceeded) s device.old (state_of self.new) device.new) }
+        ensures done { IfOk result (λ proceeded. (s : State) (next : state.Running) → IsNext s next (state_of self.old) → PerformsStep D.does (Counts left.old proceeded left.new) s device.old (state_of self.new) device.new) }
         ensures stopped { OnErr result ((s : State) (next : state.Running) → IsNext s next (state_of self.old) → StopsNext D.does s device.old device.new) }
+        ensures cause { IfErr result (λ cause. cause ≡ Memory) }
         ensures capacity { KeepsCapacity self.old self.new }
     {
         let Some(running) = &mut self.running else {
@@ -102,6 +105,7 @@ impl Parts {
             &mut self.sync_output,
             device,
             running,
+            left,
         )?;
         match need {
             None => {
@@ -120,17 +124,24 @@ impl Parts {
     }
 
     /// Continues the transmission in execution, or begins the first item of the queue, until a unit has to wait or
-    /// others are let in. A transmission that a device clear or a FatalError has ended is dropped.
-    pub fn proceed<D: Device>(&mut self, device: &mut D) -> Result<Proceeded, Ended>
-        requires { HasReplyRoom self.old }
+    /// others are let in. A transmission that a device clear or a FatalError has ended is dropped. So many units may be
+    /// tried, at least one; how many are left is counted.
+    pub fn proceed<D: Device>(
+        &mut self,
+        device: &mut D,
+        left: &mut u32,
+    ) -> Result<Proceeded, EndCause>
+        requires room { HasReplyRoom self.old }
+        requires left { 0 < left.old }
         ensures waits { IfOk result (λ proceeded. Awaits D.does proceeded device.new) }
-        ensures done { IfOk result (λ proceeded. PerformsStep D.does (Proceeds proceeded) (state_of self.old) device.old (state_of self.new) device.new) }
+        ensures done { IfOk result (λ proceeded. PerformsStep D.does (Counts left.old proceeded left.new) (state_of self.old) device.old (state_of self.new) device.new) }
         ensures stopped { OnErr result (StopsNext D.does (state_of self.old) device.old device.new) }
+        ensures cause { IfErr result (λ cause. cause ≡ Memory) }
         ensures capacity { KeepsCapacity self.old self.new }
     {
         match self.begin_next() {
             Next::Nothing => Ok(Proceeded::Idle),
-            Next::Transmission => self.execute(device),
+            Next::Transmission => self.execute(device, left),
             Next::Release => {
                 self.release_lock(device);
                 Ok(Proceeded::Completed)

@@ -1,16 +1,16 @@
 // The messages of a channel.
-ghost use Rattle.std.specs.Prelude.{◌≡◌, OnOk, OnErr, flat_map};
+ghost use Rattle.std.specs.Prelude.{◌≡◌, IfErr, OnOk, OnErr, flat_map};
 ghost use Rattle.psu_hislip.specs.Action.{acts};
 ghost use Rattle.psu_hislip.specs.Stream.{received};
 ghost use Rattle.psu_session.specs.Room.{KeepsCapacity};
 ghost use Rattle.psu_session.specs.Step.{Each, IsMessageReceived, release_in, works_in};
 ghost use Rattle.psu_session.specs.Serving.{Appends, PerformsStep};
-ghost use Rattle.psu_session.specs.Stopping.{CallsPrefix, StopsIn};
+ghost use Rattle.psu_session.specs.Stopping.{CallsPrefix, IsQueueCause, StopsIn};
 ghost use Rattle.psu_session.specs.Shown.{state_of};
 ghost use Rattle.psu_session.specs.State.{numbered};
 
 use crate::numbers::{clears, number_on, parameter};
-use crate::{Device, Ended, Parts};
+use crate::{Device, EndCause, Parts};
 use psu_hislip::{Actions, Message, Side};
 use std::alloc::Global;
 
@@ -23,10 +23,11 @@ impl Parts {
         now: u64,
         number: u32,
         actions: Actions<Global>,
-    ) -> Result<(), Ended>
+    ) -> Result<(), EndCause>
         ensures done { OnOk result (Appends D.does (Each (state_of self.old).lock_waits (acts actions.items)) (flat_map works_in (acts actions.items)) (flat_map (release_in now number) (acts actions.items)) (state_of self.old) device.old
             (state_of self.new) device.new) }
         ensures stopped { OnErr result (CallsPrefix D.does (Each (state_of self.old).lock_waits (acts actions.items)) device.old device.new) }
+        ensures cause { IfErr result (λ cause. IsQueueCause cause (flat_map works_in (acts actions.items)) (flat_map (release_in now number) (acts actions.items)) (state_of self.old)) }
         ensures capacity { KeepsCapacity self.old self.new }
     {
         let mut rest = actions.into_iter();
@@ -55,9 +56,9 @@ impl Parts {
         side: Side,
         message: Message<Global>,
         device: &mut D,
-    ) -> Result<(), Ended>
+    ) -> Result<(), EndCause>
         ensures done { OnOk result (PerformsStep D.does (IsMessageReceived now side (received message)) (state_of self.old) device.old (state_of self.new) device.new) }
-        ensures stopped { OnErr result (StopsIn D.does (IsMessageReceived now side (received message)) (state_of self.old) device.old device.new) }
+        ensures stopped { IfErr result (λ cause. StopsIn D.does (IsMessageReceived now side (received message)) cause (state_of self.old) device.old device.new) }
         ensures capacity { KeepsCapacity self.old self.new }
     {
         let number = number_on(side, &message);

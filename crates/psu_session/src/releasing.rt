@@ -1,12 +1,13 @@
 // Releases of locks, each after the message that its client sent last.
-ghost use Rattle.std.specs.Prelude.{◌≡◌, OnOk};
+ghost use Rattle.std.specs.Prelude.{◌≡◌, IfErr, OnOk};
 ghost use Rattle.psu_session.specs.Releasing.{due_at, is_first_due};
 ghost use Rattle.psu_session.specs.Room.{KeepsCapacity};
 ghost use Rattle.psu_session.specs.Shown.{release_of, releases_of, state_of};
 ghost use Rattle.psu_session.specs.State.{is_due, settled};
+ghost use Rattle.psu_session.specs.declared.phase.EndCause.TheVariants.{Memory};
 
 use crate::numbers::is_ahead;
-use crate::{Ended, Parts, Release, Work};
+use crate::{EndCause, Parts, Release, Work};
 
 /// The time that a release waits for a message, in milliseconds.
 const PATIENCE: u64 = 100;
@@ -40,13 +41,14 @@ impl Parts {
     }
 
     /// Queues the releases whose wait is over.
-    pub(crate) fn settle(&mut self, all: bool, now: u64) -> Result<(), Ended>
+    pub(crate) fn settle(&mut self, all: bool, now: u64) -> Result<(), EndCause>
         ensures done { OnOk result (state_of self.new ≡ settled all now (state_of self.old)) }
+        ensures cause { IfErr result (λ cause. cause ≡ Memory) }
         ensures capacity { KeepsCapacity self.old self.new }
     {
         while self.is_first_due(all, now) {
             if self.waiting.push_back(Work::Release).is_err() {
-                return Err(Ended);
+                return Err(EndCause::Memory);
             }
             let _ = self.releases.pop_front();
         }

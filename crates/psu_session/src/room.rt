@@ -1,9 +1,11 @@
 // Room that a session has before a step, so that the step itself cannot fail.
-ghost use Rattle.std.specs.Prelude.{◌≡◌, ◌↔◌, IsTrue, true, false, OnOk, OnErr, is_err};
+ghost use Rattle.std.specs.Prelude.{◌≡◌, ◌⊎◌, ◌↔◌, IfErr, IsTrue, OnOk, OnErr};
 ghost use Rattle.psu_session.specs.Room.{HasReplyRoom, HasRoom, KeepsCapacity};
 ghost use Rattle.psu_session.specs.Shown.{state_of};
+ghost use Rattle.psu_session.specs.declared.phase.EndCause.TheVariants.{Memory};
+ghost use Rattle.psu_session.specs.declared.phase.Phase.TheVariants.{Over};
 
-use crate::{Ended, Parts};
+use crate::{EndCause, Parts, Phase};
 
 /// The size of a message without payload, in bytes.
 const FRAME: usize = 16;
@@ -32,9 +34,10 @@ impl Parts {
     }
 
     // Allocates the room that is missing.
-    fn reserve(&mut self) -> Result<(), Ended>
+    fn reserve(&mut self) -> Result<(), EndCause>
         ensures same { state_of self.new ≡ state_of self.old }
         ensures room { OnOk result (HasRoom self.new) }
+        ensures cause { IfErr result (λ cause. cause ≡ Memory) }
         ensures capacity { KeepsCapacity self.old self.new }
     {
         self.async_output.reserve(FRAMES)?;
@@ -46,7 +49,7 @@ impl Parts {
     /// Makes room for one message without payload in the output of the asynchronous connection. Nothing is allocated, so
     /// nothing can fail, where there is room already.
     #[inline(always)]
-    pub fn make_reply_room(&mut self) -> Result<(), Ended>
+    pub fn make_reply_room(&mut self) -> Result<(), EndCause>
         ensures same { state_of self.new ≡ state_of self.old }
         ensures room { OnOk result (HasReplyRoom self.new) }
         ensures needed { OnErr result (HasReplyRoom self.old → ⊥) }
@@ -57,24 +60,39 @@ impl Parts {
         Ok(())
     }
 
-    /// Makes room for the next reply after a step with this result. Returns whether the session is over then: the step was
-    /// not completed, or memory is refused.
+    /// Makes room for the next reply after a step that was completed. Returns the phase of the session then: this one,
+    /// unless memory is refused.
     #[inline(always)]
-    pub fn end_step<T>(&mut self, done: &Result<T, Ended>) -> bool
+    pub fn keep(&mut self, phase: Phase) -> Phase
         ensures same { state_of self.new ≡ state_of self.old }
-        ensures continues { result ≡ false → (is_err done.now ≡ false) × HasReplyRoom self.new }
-        ensures over { is_err done.now ≡ true → result ≡ true }
-        ensures needed { result ≡ true → is_err done.now ≡ false → HasReplyRoom self.old → ⊥ }
+        ensures phase { ((result ≡ phase) × HasReplyRoom self.new) ⊎ ((result ≡ Over Memory) × (HasReplyRoom self.old → ⊥)) }
     {
-        done.is_err() || self.make_reply_room().is_err()
+        match self.make_reply_room() {
+            Ok(()) => phase,
+            Err(_) => Phase::Over(EndCause::Memory),
+        }
+    }
+
+    /// Returns the phase of a session after a step with this result: this one if the step was completed.
+    #[inline(always)]
+    pub fn end_step<T>(&mut self, done: &Result<T, EndCause>, phase: Phase) -> Phase
+        ensures same { state_of self.new ≡ state_of self.old }
+        ensures ended { IfErr done.now (λ cause. result ≡ Over cause) }
+        ensures phase { OnOk done.now (((result ≡ phase) × HasReplyRoom self.new) ⊎ ((result ≡ Over Memory) × (HasReplyRoom self.old → ⊥))) }
+    {
+        match done {
+            Ok(_) => self.keep(phase),
+            Err(cause) => Phase::Over(*cause),
+        }
     }
 
     /// Makes room for such a message, for one item of the queue and for one release that waits. Nothing is allocated where
     /// there is room already.
     #[inline(always)]
-    pub fn make_room(&mut self) -> Result<(), Ended>
+    pub fn make_room(&mut self) -> Result<(), EndCause>
         ensures same { state_of self.new ≡ state_of self.old }
         ensures room { OnOk result (HasRoom self.new) }
+        ensures cause { IfErr result (λ cause. cause ≡ Memory) }
         ensures capacity { KeepsCapacity self.old self.new }
     {
         if self.has_room() {

@@ -1,31 +1,35 @@
 // A session.
-ghost use Rattle.std.specs.Prelude.{◌≡◌, ◌⊎◌, ◌↔◌, ◌+◌, IsTrue, true, false, [], ◌∷◌, IfOk, OnOk, OnErr, IfSome, IsNone};
+ghost use Rattle.std.specs.Prelude.{◌≡◌, ◌⊎◌, ◌↔◌, ◌+◌, IsTrue, true, false, [], ◌∷◌, IfErr, IfOk, OnOk, OnErr, IfSome, IsNone};
 ghost use Rattle.psu_hislip.specs.Channel.{Fed};
 ghost use Rattle.psu_hislip.specs.Frame.{header_of};
-ghost use Rattle.psu_hislip.specs.Stream.{Received};
+ghost use Rattle.psu_hislip.specs.Stream.{IsStream, Received};
 ghost use Rattle.psu_hislip.specs.declared.message_type.MessageType.TheVariants.{InitializeResponse};
 ghost use Rattle.psu_session.specs.Events.{Took, Wrote};
 ghost use Rattle.psu_session.specs.History.{HasExchangeHistory};
 ghost use Rattle.psu_session.specs.Holding.{IsBounded, IsFull};
+ghost use Rattle.psu_session.specs.Phases.{disconnected, is_over};
 ghost use Rattle.psu_session.specs.Releasing.{due_at};
-ghost use Rattle.psu_session.specs.Step.{IsReceived, IsServiceRequested, IsTaken, IsTicked, IsLockGranted, IsWritten};
-ghost use Rattle.psu_session.specs.Proceeding.{Awaits, Proceeds};
+ghost use Rattle.psu_session.specs.Step.{IsServiceRequested, IsReceived, IsTaken, IsTicked, IsLockGranted, IsWritten};
+ghost use Rattle.psu_session.specs.Proceeding.{Awaits, PassesTo};
 ghost use Rattle.psu_session.specs.Serving.{Appends, PerformsStep};
-ghost use Rattle.psu_session.specs.Stopping.{StopsIn, StopsNext};
+ghost use Rattle.psu_session.specs.Stopping.{StopsNext, StopsReceiving};
 ghost use Rattle.psu_session.specs.State.{Continues, HasWork, Start, fresh, output, writes};
+ghost use Rattle.psu_session.specs.declared.opening.OpeningError.TheVariants.{NotOneMessage};
+ghost use Rattle.psu_session.specs.declared.phase.EndCause.TheVariants.{Memory};
+ghost use Rattle.psu_session.specs.declared.phase.Phase.TheVariants.{Open, Over};
 
 use crate::laws::histories_are_exchanges;
-use crate::opening::opened;
-use crate::{Device, Ended, Parts, Proceeded};
+use crate::opening::{OpeningError, opened};
+use crate::{Device, EndCause, Parts, Phase, Proceeded};
 use psu_hislip::{Header, Side};
 use psu_locks::Grant;
 use std::alloc::Global;
 use std::marker::Model;
 
-/// A session. Contracts see its state. At any time there is a history that leads to this state, unless memory was refused
-/// or a connection has ended: then the session is over, no call changes it or calls the device, and each call that can
-/// return an error does. A call that returns an error where the session was not over has called the device for a prefix
-/// of what it is to do.
+/// A session. Contracts see its phase and its state. At any time there is a history that leads to this state, unless the
+/// session is over: then no call changes it or calls the device, and each call that can return an error returns its
+/// cause. A call that returns an error where the session was not over has called the device for a prefix of what it is
+/// to do.
 ///
 /// A session has room for one reply, so a step that needs no more memory is always completed. A step that was completed
 /// leaves the session over only where it has changed the output of the asynchronous connection and memory for the next
@@ -33,45 +37,52 @@ use std::marker::Model;
 #[derive(Drop)]
 pub struct Session {
     parts: Parts,
-    over: bool,
+    phase: Phase,
 }
 
 impl Model for Session {
-    ghost use Rattle.std.specs.Prelude.{◌≡◌, false};
+    ghost use Rattle.std.specs.Prelude.{◌≡◌, ◌<◌, false};
     ghost use Rattle.psu_session.specs.State.{Shown};
 
     ghost Value = { Shown };
 
+    ghost use Rattle.psu_session.specs.Phases.{is_over, units_in};
     ghost use Rattle.psu_session.specs.Room.{HasReplyRoom};
     ghost use Rattle.psu_session.specs.Step.{IsReachable};
     ghost use Rattle.psu_session.specs.Shown.{state_of};
 
-    ghost view = { λ s. record { over = s.over; state = state_of s.parts } };
+    ghost view = { λ s. record { phase = s.phase; state = state_of s.parts } };
 
-    ghost invariant = { λ s. s.over ≡ false → IsReachable (state_of s.parts) × HasReplyRoom s.parts };
+    ghost invariant = { λ s. is_over s.phase ≡ false → IsReachable (state_of s.parts) × HasReplyRoom s.parts × (0 < units_in s.phase) };
 }
 
 impl Session {
     /// Returns a session of this number, which has only its synchronous connection. The bytes received there are one
-    /// message, its Initialize.
-    pub fn open(alloc: Global, session: u16, opening: &[u8]) -> Result<Session, Ended>
-        ensures { IfOk result (λ opened. (start : Start) × (first : Received) × Fed start.sync opening.now (first ∷ []) × Fed start.async [] [] × (start.session ≡ session)
-            × (opened ≡ record { over = false; state = fresh start })) }
+    /// message, its Initialize; other bytes are refused.
+    pub fn open(alloc: Global, session: u16, opening: &[u8]) -> Result<Session, OpeningError>
+        ensures opened { IfOk result (λ opened. (start : Start) × (first : Received) × Fed start.sync opening.now (first ∷ []) × Fed start.async [] [] × (start.session ≡ session)
+            × (opened ≡ record { phase = Open; state = fresh start })) }
+        ensures refused { IfErr result (λ error. error ≡ NotOneMessage → (first : Received) → IsStream opening.now (first ∷ []) → ⊥) }
     {
         let channel = opened(alloc, opening)?;
         let mut parts = Parts::new(alloc, session, channel);
-        parts.make_reply_room()?;
-        Ok(Session { parts, over: false })
+        if parts.make_reply_room().is_err() {
+            return Err(OpeningError::Memory);
+        }
+        Ok(Session {
+            parts,
+            phase: Phase::Open,
+        })
     }
 
-    /// Whether the session is over, since memory was refused or a connection ended. Until then a history leads to its
-    /// state, and this history is an exchange of its two streams of bytes.
-    pub fn has_ended(&self) -> bool
-        ensures is { result ≡ self.now.over }
-        ensures history { self.now.over ≡ false → HasExchangeHistory self.now.state }
+    /// Returns its phase. Until it is over a history leads to its state, and this history is an exchange of its two
+    /// streams of bytes.
+    pub fn phase(&self) -> Phase
+        ensures is { result ≡ self.now.phase }
+        ensures history { is_over self.now.phase ≡ false → HasExchangeHistory self.now.state }
     {
         histories_are_exchanges();
-        self.over
+        self.phase
     }
 
     /// Whether it has its second connection.
@@ -96,90 +107,93 @@ impl Session {
         side: Side,
         received_bytes: &[u8],
         device: &mut D,
-    ) -> Result<(), Ended>
-        ensures was { OnOk result (self.old.over ≡ false) }
+    ) -> Result<(), EndCause>
+        ensures was { OnOk result (is_over self.old.phase ≡ false) }
         ensures done { OnOk result (PerformsStep D.does (IsReceived now side received_bytes.now) self.old.state device.old self.new.state device.new) }
         ensures continues { OnOk result (Continues self.old self.new) }
-        ensures ended { OnErr result (self.new.over ≡ true) }
-        ensures stopped { OnErr result ((device.new ≡ device.old) ⊎ StopsIn D.does (IsReceived now side received_bytes.now) self.old.state device.old device.new) }
-        ensures over { self.old.over ≡ true → device.new ≡ device.old }
+        ensures ended { IfErr result (λ cause. self.new.phase ≡ Over cause) }
+        ensures stopped { IfErr result (λ cause. is_over self.old.phase ≡ false → StopsReceiving D.does now side received_bytes.now cause self.old.state device.old device.new) }
+        ensures over { is_over self.old.phase ≡ true → (self.new ≡ self.old) × (device.new ≡ device.old) }
     {
-        if self.over {
-            return Err(Ended);
+        if let Phase::Over(cause) = self.phase {
+            return Err(cause);
         }
         let done = self.parts.receive_bytes(now, side, received_bytes, device);
-        self.over = self.parts.end_step(&done);
+        self.phase = self.parts.end_step(&done, self.phase);
         done
     }
 
     /// Answers the lock request that waits, if there is one, with its result. Where the session is over, nothing is done.
     pub fn lock_granted<D: Device>(&mut self, grant: Grant, device: &mut D)
-        ensures done { self.old.over ≡ false → Appends D.does (IsLockGranted self.old.state.lock_waits grant) [] [] self.old.state device.old self.new.state device.new }
-        ensures continues { self.old.over ≡ false → Continues self.old self.new }
-        ensures over { self.old.over ≡ true → self.new ≡ self.old }
+        ensures done { is_over self.old.phase ≡ false → Appends D.does (IsLockGranted self.old.state.lock_waits grant) [] [] self.old.state device.old self.new.state device.new }
+        ensures continues { is_over self.old.phase ≡ false → Continues self.old self.new }
+        ensures over { is_over self.old.phase ≡ true → self.new ≡ self.old }
         ensures uncalled { device.new ≡ device.old }
     {
-        if self.over {
+        if let Phase::Over(_) = self.phase {
             return;
         }
         self.parts.lock_granted(grant, device);
-        self.over = self.parts.make_reply_room().is_err();
+        self.phase = self.parts.keep(self.phase);
     }
 
     /// Sends the session's service request, if the device has one. Where the session is over, nothing is done.
     pub fn service_requested<D: Device>(&mut self, device: &mut D)
-        ensures done { self.old.over ≡ false → Appends D.does IsServiceRequested [] [] self.old.state device.old self.new.state device.new }
-        ensures continues { self.old.over ≡ false → Continues self.old self.new }
-        ensures over { self.old.over ≡ true → (self.new ≡ self.old) × (device.new ≡ device.old) }
+        ensures done { is_over self.old.phase ≡ false → Appends D.does IsServiceRequested [] [] self.old.state device.old self.new.state device.new }
+        ensures continues { is_over self.old.phase ≡ false → Continues self.old self.new }
+        ensures over { is_over self.old.phase ≡ true → (self.new ≡ self.old) × (device.new ≡ device.old) }
     {
-        if self.over {
+        if let Phase::Over(_) = self.phase {
             return;
         }
         self.parts.service_requested(device);
-        self.over = self.parts.make_reply_room().is_err();
+        self.phase = self.parts.keep(self.phase);
     }
 
     /// Continues the transmission in execution, or begins the first one in the queue, until a unit has to wait or
     /// others are let in. A transmission that a device clear or a FatalError has ended is dropped. A release that is
-    /// first in the queue is done.
-    pub fn proceed<D: Device>(&mut self, device: &mut D) -> Result<Proceeded, Ended>
-        ensures was { OnOk result (self.old.over ≡ false) }
+    /// first in the queue is done. After the end of a connection at most so many units are tried as the phase says, in
+    /// all calls together, and the session is over once they are tried, or where a unit has to wait.
+    pub fn proceed<D: Device>(&mut self, device: &mut D) -> Result<Proceeded, EndCause>
+        ensures was { OnOk result (is_over self.old.phase ≡ false) }
         ensures waits { IfOk result (λ proceeded. Awaits D.does proceeded device.new) }
-        ensures done { IfOk result (λ proceeded. PerformsStep D.does (Proceeds proceeded) self.old.state device.old self.new.state device.new) }
-        ensures continues { OnOk result (Continues self.old self.new) }
-        ensures ended { OnErr result (self.new.over ≡ true) }
-        ensures stopped { OnErr result (self.old.over ≡ false → StopsNext D.does self.old.state device.old device.new) }
-        ensures over { self.old.over ≡ true → device.new ≡ device.old }
+        ensures done { IfOk result (λ proceeded. PerformsStep D.does (PassesTo self.old.phase proceeded self.new.phase) self.old.state device.old self.new.state device.new) }
+        ensures ended { IfErr result (λ cause. self.new.phase ≡ Over cause) }
+        ensures stopped { IfErr result (λ cause. is_over self.old.phase ≡ false → (cause ≡ Memory) × StopsNext D.does self.old.state device.old device.new) }
+        ensures over { is_over self.old.phase ≡ true → (self.new ≡ self.old) × (device.new ≡ device.old) }
     {
-        if self.over {
-            return Err(Ended);
+        if let Phase::Over(cause) = self.phase {
+            return Err(cause);
         }
-        let done = self.parts.proceed(device);
-        self.over = self.parts.end_step(&done);
+        let mut left = self.phase.units();
+        let done = self.parts.proceed(device, &mut left);
+        let phase = self.phase.after(left, &done);
+        self.phase = self.parts.end_step(&done, phase);
         done
     }
 
     /// Queues the releases that have waited long enough at this time in milliseconds.
-    pub fn tick(&mut self, now: u64) -> Result<(), Ended>
-        ensures was { OnOk result (self.old.over ≡ false) }
+    pub fn tick(&mut self, now: u64) -> Result<(), EndCause>
+        ensures was { OnOk result (is_over self.old.phase ≡ false) }
         ensures done { OnOk result (IsTicked now self.old.state [] self.new.state) }
-        ensures continues { OnOk result (self.new.over ≡ false) }
-        ensures ended { OnErr result (self.new.over ≡ true) }
+        ensures continues { OnOk result (self.new.phase ≡ self.old.phase) }
+        ensures ended { IfErr result (λ cause. self.new.phase ≡ Over cause) }
+        ensures stopped { IfErr result (λ cause. is_over self.old.phase ≡ false → cause ≡ Memory) }
+        ensures over { is_over self.old.phase ≡ true → self.new ≡ self.old }
     {
-        if self.over {
-            return Err(Ended);
+        if let Phase::Over(cause) = self.phase {
+            return Err(cause);
         }
         let done = self.parts.settle(false, now);
-        self.over = self.parts.end_step(&done);
+        self.phase = self.parts.end_step(&done, self.phase);
         done
     }
 
-    /// Ends the session: a connection has ended.
-    pub fn end(&mut self)
-        ensures over { self.new.over ≡ true }
-        ensures state { self.new.state ≡ self.old.state }
+    /// A connection has ended, or is to end since its FatalError is sent. What was sent before may still be executed.
+    pub fn disconnect(&mut self)
+        ensures { self.new ≡ record self.old { phase = disconnected self.old.phase } }
     {
-        self.over = true;
+        self.phase = self.phase.disconnected();
     }
 
     /// Returns when the wait of the first release is over at the latest, in milliseconds, if a release waits. `tick` is
@@ -230,29 +244,34 @@ impl Session {
 
     /// Takes all bytes that are to be sent on a connection, for the caller to write. There are none where a thread
     /// still writes there, until `written` is called, or where nothing is to be sent.
-    pub fn take_output(&mut self, side: Side) -> Result<Option<Vec<u8>>, Ended>
-        ensures was { OnOk result (self.old.over ≡ false) }
+    pub fn take_output(&mut self, side: Side) -> Result<Option<Vec<u8>>, EndCause>
+        ensures was { OnOk result (is_over self.old.phase ≡ false) }
         ensures some { IfOk result (λ taken. IfSome taken (λ bytes. IsTaken side bytes.items self.old.state (Took side bytes.items ∷ []) self.new.state)) }
         ensures none { IfOk result (λ taken. IsNone taken → (self.new.state ≡ self.old.state) × ((writes side self.old.state ≡ true) ⊎ (output side self.old.state ≡ []))) }
         ensures continues { OnOk result (Continues self.old self.new) }
-        ensures ended { OnErr result ((self.old.over ≡ true) × (self.new ≡ self.old)) }
+        ensures ended { IfErr result (λ cause. (self.old.phase ≡ Over cause) × (self.new ≡ self.old)) }
     {
-        if self.over {
-            return Err(Ended);
+        if let Phase::Over(cause) = self.phase {
+            return Err(cause);
         }
         let taken = self.parts.take(side);
-        self.over = self.parts.make_reply_room().is_err();
+        self.phase = self.parts.keep(self.phase);
         Ok(taken)
     }
 
-    /// The bytes that were taken for a connection are written. Where the session is over, nothing changes.
+    /// The bytes that were taken for a connection are written. Where no thread writes there, or the session is over,
+    /// nothing changes.
     pub fn written(&mut self, side: Side)
-        ensures done { self.old.over ≡ false → IsWritten side self.old.state (Wrote side ∷ []) self.new.state × (self.new.over ≡ false) }
-        ensures over { self.old.over ≡ true → self.new ≡ self.old }
+        ensures done { is_over self.old.phase ≡ false → writes side self.old.state ≡ true → IsWritten side self.old.state (Wrote side ∷ []) self.new.state }
+        ensures none { writes side self.old.state ≡ false → self.new ≡ self.old }
+        ensures over { is_over self.old.phase ≡ true → self.new ≡ self.old }
+        ensures phase { self.new.phase ≡ self.old.phase }
     {
-        if self.over {
+        if let Phase::Over(_) = self.phase {
             return;
         }
-        self.parts.written(side);
+        if self.parts.is_writing(side) {
+            self.parts.written(side);
+        }
     }
 }

@@ -71,8 +71,9 @@ impl Parts {
         Some(bytes)
     }
 
-    /// The bytes that were taken for a connection are written.
+    /// The bytes that were taken for a connection are written, by the thread that writes there.
     pub fn written(&mut self, side: Side)
+        requires { writes side (state_of self.old) ≡ true }
         ensures done { IsWritten side (state_of self.old) (Wrote side ∷ []) (state_of self.new) }
         ensures room { HasReplyRoom self.old → HasReplyRoom self.new }
     {

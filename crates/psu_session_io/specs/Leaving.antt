@@ -6,9 +6,11 @@ use Rattle.psu_messages.specs.declared.need.Need.{Need}
 use Rattle.psu_messages.specs.declared.need.Need.TheVariants.{Flush, Lock, Room, Turn}
 use Rattle.psu_session.specs.Events.{Took, Wrote}
 use Rattle.psu_session.specs.Holding.{IsFull}
+use Rattle.psu_session.specs.Phases.{disconnected, is_over}
 use Rattle.psu_session.specs.Releasing.{due_at}
 use Rattle.psu_session.specs.State.{State, HasWork, output, writes}
 use Rattle.psu_session.specs.Step.{IsTaken, IsWritten}
+use Rattle.psu_session_io.specs.Shared.{Keeps, Shared, with_phase, with_value}
 use Rattle.psu_session_io.specs.declared.linear.AfterWrite.{AfterWrite}
 use Rattle.psu_session_io.specs.declared.linear.Closing.{Closing}
 use Rattle.psu_session_io.specs.declared.linear.Disconnected.{Disconnected}
@@ -21,11 +23,15 @@ use Rattle.psu_session_io.specs.declared.linear.Written.{Written}
 
 -- The write on a connection, if there is one, may be noted as over.
 abbrev pub MayBeNoted : Side → State → State → Type 0
-MayBeNoted side s t = (t ≡ s) ⊎ ((writes side s ≡ true) × IsWritten side s (Wrote side ∷ []) t)
+MayBeNoted side s t = (t ≡ s) ⊎ IsWritten side s (Wrote side ∷ []) t
 
 -- so may be the writes on both
 abbrev pub AreNoted : State → State → Type 0
 AreNoted s t = (mid : State) × MayBeNoted Sync s mid × MayBeNoted Async mid t
+
+-- and nothing else has changed
+abbrev pub Notes : Shared → Shared → Type 0
+Notes s t = AreNoted s.state t.state × (t ≡ with_value s s.phase t.state)
 
 -- ---- output
 
@@ -40,10 +46,6 @@ HasSent side s = (output side s ≡ []) × (writes side s ≡ false)
 -- The session has failed, and all its output is written: its connections end.
 abbrev pub HasSentAll : State → Type 0
 HasSentAll s = (s.core.failed ≡ true) × HasSent Sync s × HasSent Async s
-
--- it is so once the writes that are over are noted
-abbrev pub EndsSent : State → Type 0
-EndsSent s = (known : State) × AreNoted s known × HasSentAll known
 
 -- A thread that writes on a connection is to continue the session after that: for output there, to execute, or since the
 -- session ends once all is sent.
@@ -67,21 +69,40 @@ waits_for_room (Some Turn) = false
 abbrev pub HasRoom : Bool → Side → State → Type 0
 HasRoom waits side s = IsTrue waits × (IsFull side s → ⊥)
 
--- The thread itself continues the session where there is more to execute, or once it has written what a session sends
--- last. The other threads are notified of just this.
-pub record Leaves {S : Type 0} (side : Side) (more : Bool) (waits : Option Need) (sync_waits async_waits : Bool) (remainder : Remainder S) (s : State) : Type 0 where
-  pub more_left : IsTrue remainder.more ↔ (IsTrue more ⊎ ((is_some remainder.bytes ≡ true) × (s.core.failed ≡ true)))
-  pub late : remainder.late ≡ waits_for_room waits
-  pub other : IsTrue remainder.other ↔ IsForOthers side waits s
-  pub sync_room : IsTrue remainder.sync_room ↔ HasRoom sync_waits Sync s
-  pub async_room : IsTrue remainder.async_room ↔ HasRoom async_waits Async s
-  pub due : remainder.due ≡ due_at s.releases
+-- a reader waits for room, and there is none
+abbrev pub StillWaits : Bool → Side → State → Type 0
+StillWaits waits side s = IsTrue waits × IsFull side s
 
--- The bytes of the output are taken, where there are any and no thread writes, and the rest is left to others.
-pub record Takes {S : Type 0} (side : Side) (more : Bool) (waits : Option Need) (sync_waits async_waits : Bool) (remainder : Remainder S) (s t : State) : Type 0 where
-  pub some : IfSome remainder.bytes (λ bytes. IsTaken side bytes.items s (Took side bytes.items ∷ []) t)
-  pub none : IsNone remainder.bytes → (t ≡ s) × ((writes side s ≡ true) ⊎ (output side s ≡ []))
-  pub leaves : Leaves side more waits sync_waits async_waits remainder t
+-- The thread itself continues the session where there is more to execute, or once it has written what a session sends
+-- last. The other threads are notified of just this; a reader that is notified of room waits for it no longer, and one that
+-- waits while the session is full still waits.
+pub record Leaves {S : Type 0} (side : Side) (more : Bool) (remainder : Remainder S) (s t : Shared) : Type 0 where
+  pub more_left : IsTrue remainder.more ↔ (IsTrue more ⊎ ((is_some remainder.bytes ≡ true) × (s.state.core.failed ≡ true)))
+  pub late : remainder.late ≡ waits_for_room s.waits
+  pub other : IsTrue remainder.other ↔ IsForOthers side s.waits s.state
+  pub sync_room : IsTrue remainder.sync_room ↔ HasRoom s.sync_waits Sync s.state
+  pub async_room : IsTrue remainder.async_room ↔ HasRoom s.async_waits Async s.state
+  pub due : remainder.due ≡ due_at s.state.releases
+  pub sync_waits : IsTrue t.sync_waits ↔ StillWaits s.sync_waits Sync s.state
+  pub async_waits : IsTrue t.async_waits ↔ StillWaits s.async_waits Async s.state
+  pub rest : t ≡ record s { sync_waits = t.sync_waits; async_waits = t.async_waits }
+
+-- The bytes of the output are taken, where there are any and no thread writes.
+pub record IsTakenAs {S : Type 0} (side : Side) (remainder : Remainder S) (s t : Shared) : Type 0 where
+  pub some : IfSome remainder.bytes (λ bytes. IsTaken side bytes.items s.state (Took side bytes.items ∷ []) t.state)
+  pub none : IsNone remainder.bytes → (t.state ≡ s.state) × ((writes side s.state ≡ true) ⊎ (output side s.state ≡ []))
+  pub phase : Keeps s t
+  pub rest : t ≡ with_value s t.phase t.state
+
+-- They are taken, and the rest is left to others.
+pub record Takes {S : Type 0} (side : Side) (more : Bool) (remainder : Remainder S) (s t : Shared) : Type 0 where
+  pub taken : Shared
+  pub takes : IsTakenAs side remainder s taken
+  pub leaves : Leaves side more remainder taken t
+
+-- Nothing is taken: the session is over; or it has sent its FatalError and all before it, so its connections end.
+abbrev pub EndsTaking : Shared → Shared → Type 0
+EndsTaking s t = ((is_over s.phase ≡ true) × (t ≡ s)) ⊎ (HasSentAll s.state × (t ≡ with_phase s (disconnected s.phase)))
 
 -- ---- what a thread does then
 

@@ -1,3 +1,5 @@
+pub mod Shared
 pub mod Sharing
 pub mod Leaving
+pub mod Ending
 pub mod Reading

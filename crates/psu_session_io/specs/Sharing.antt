@@ -1,32 +1,70 @@
 -- What a thread does to a session while it holds it.
-use Rattle.std.specs.Prelude.{◌≡◌, ◌⊎◌, ◌↔◌, IsTrue, ℕ, Bool, true, false, Option, Some, None, List, [], ⊤}
+use Rattle.std.specs.Prelude.{◌≡◌, ◌⊎◌, ◌↔◌, ◌&&◌, not, IsTrue, ℕ, Bool, true, false, Option, Some, None, List, []}
 use Rattle.psu_hislip.specs.declared.side.Side.{Side}
 use Rattle.psu_hislip.specs.declared.side.Side.TheVariants.{Sync, Async}
+use Rattle.psu_locks.specs.declared.grant.Grant.{Grant}
 use Rattle.psu_locks.specs.declared.grant.Grant.TheVariants as grant
 use Rattle.psu_messages.specs.declared.need.Need.{Need}
 use Rattle.psu_messages.specs.declared.need.Need.TheVariants.{Flush, Lock, Room, Turn}
-use Rattle.psu_session.specs.Events.{Call, Event, calls}
+use Rattle.psu_session.specs.Events.{Call}
+use Rattle.psu_session.specs.Phases.{is_over}
 use Rattle.psu_session.specs.Proceeding.{Proceeds}
 use Rattle.psu_session.specs.Serving.{Appends, PerformsStep}
 use Rattle.psu_session.specs.State.{State, HasWork, writes}
 use Rattle.psu_session.specs.Holding.{IsFull}
-use Rattle.psu_session.specs.Stopping.{StopsNext}
-use Rattle.psu_session.specs.Step.{IsLockGranted, IsReceived, IsServiceRequested, IsTicked, Steps}
+use Rattle.psu_session.specs.Stopping.{StopsNext, StopsReceiving}
+use Rattle.psu_session.specs.Step.{IsLockGranted, IsReceived, IsServiceRequested, IsTicked}
+use Rattle.psu_session.specs.declared.phase.EndCause.{EndCause}
+use Rattle.psu_session.specs.declared.phase.EndCause.TheVariants.{Memory}
+use Rattle.psu_session.specs.declared.phase.Phase.TheVariants.{Open, Over}
 use Rattle.psu_session.specs.declared.proceeded.Proceeded.{Proceeded}
 use Rattle.psu_session.specs.declared.proceeded.Proceeded.TheVariants.{Idle, Completed, Waits}
-use Rattle.psu_session_io.specs.declared.ending.Drained.{Drained}
 use Rattle.psu_session_io.specs.declared.ending.Drained.TheVariants.{More, AllDone}
 use Rattle.psu_session_io.specs.declared.notice.Notice.{Notice}
 use Rattle.psu_session_io.specs.declared.notice.Notice.TheVariants as notice
 use Rattle.psu_session_io.specs.declared.linear.Received.{Received}
 use Rattle.psu_session_io.specs.declared.linear.Remainder.{Remainder}
-use Rattle.psu_session_io.specs.declared.linear.Received.TheVariants.{All, Full}
-use Rattle.psu_session_io.specs.Leaving.{AreNoted, Takes}
+use Rattle.psu_session_io.specs.declared.linear.Received.TheVariants.{All, Full, Again}
+use Rattle.psu_session_io.specs.Ending.{Drains, IsEnding}
+use Rattle.psu_session_io.specs.Leaving.{EndsTaking, Notes, Takes}
+use Rattle.psu_session_io.specs.Shared.{Keeps, Shared, with_reader, with_value, with_waits}
 
--- The bytes are received, or the session is full and they are returned.
-abbrev pub Receives : {X S : Type 0} → (X → Call → X → Type 0) → ℕ → Side → List ℕ → Received S → State → X → State → X → Type 0
-Receives does now side bytes (All pending) s x t y = (IsFull side s → ⊥) × PerformsStep does (IsReceived now side bytes) s x t y
-Receives does now side bytes (Full returned) s x t y = IsFull side s × (returned.bytes.now ≡ bytes) × (t ≡ s) × (y ≡ x)
+-- ---- bytes that were read
+
+-- a service request is sent once the asynchronous connection is there
+abbrev pub MayRequestService : {X : Type 0} → (X → Call → X → Type 0) → Bool → Shared → X → Shared → X → Type 0
+MayRequestService does true s x t y = Appends does IsServiceRequested [] [] s.state x t.state y × Keeps s t × (t ≡ with_value s t.phase t.state)
+MayRequestService does false s x t y = (t ≡ s) × (y ≡ x)
+
+-- these bytes have joined the asynchronous connection to the session, which is not over
+abbrev pub has_joined : Bool → Shared → Bool
+has_joined was s = not was && s.state.core.joined && not (is_over s.phase)
+
+-- The bytes are received. Where they join the asynchronous connection, a service request of before is sent behind them.
+pub record ReceivesAll {X : Type 0} (does : X → Call → X → Type 0) (now : ℕ) (side : Side) (bytes : List ℕ) (s : Shared) (x : X) (t : Shared) (y : X) : Type 0 where
+  pub room : IsFull side s.state → ⊥
+  pub mid : Shared
+  pub at : X
+  pub receives : PerformsStep does (IsReceived now side bytes) s.state x mid.state at
+  pub phase : Keeps s mid
+  pub rest : mid ≡ with_value s mid.phase mid.state
+  pub requests : MayRequestService does (has_joined s.state.core.joined mid) mid at t y
+
+-- The bytes are received; or the session is full and they are returned: it is open, and its reader is noted to wait for
+-- room; or a connection has ended, and a part of what was sent before was executed, so that there may be room.
+abbrev pub Receives : {X S : Type 0} → (X → Call → X → Type 0) → ℕ → Side → List ℕ → Received S → Shared → X → Shared → X → Type 0
+Receives does now side bytes (All pending) s x t y = ReceivesAll does now side bytes s x t y × (pending.again ≡ false)
+Receives does now side bytes (Full returned) s x t y = IsFull side s.state × (s.phase ≡ Open) × (returned.bytes.now ≡ bytes) × (t ≡ with_reader side s) × (y ≡ x)
+Receives does now side bytes (Again returned) s x t y = IsFull side s.state × (side ≡ Sync) × (returned.bytes.now ≡ bytes) × Drains does More s x t y
+
+-- The bytes are not received: the session is over for a cause; or a connection has ended, and there is no room for them,
+-- also once what need not wait was executed.
+abbrev pub EndsReceiving : {X : Type 0} → (X → Call → X → Type 0) → ℕ → Side → List ℕ → Shared → X → Shared → X → Type 0
+EndsReceiving does now side bytes s x t y =
+    ((is_over s.phase ≡ true) × (t ≡ s) × (y ≡ x))
+    ⊎ ((IsFull side s.state → ⊥) × (cause : EndCause) × StopsReceiving does now side bytes cause s.state x y × (t ≡ with_value s (Over cause) t.state))
+    ⊎ (IsFull side s.state × IsEnding s.phase × (side ≡ Async) × (t ≡ s) × (y ≡ x))
+    ⊎ (IsFull side s.state × IsEnding s.phase × (side ≡ Sync) × Drains does AllDone s x t y)
 
 -- ---- execution
 
@@ -50,77 +88,64 @@ waits_for (Waits Room) = Some Room
 waits_for (Waits Turn) = None
 
 -- the execution is continued
-abbrev pub Continues : {X : Type 0} → (X → Call → X → Type 0) → Proceeded → Option Need → State → X → State → X → Type 0
-Continues does proceeded waits s x t y = PerformsStep does (Proceeds proceeded) s x t y × (waits ≡ waits_for proceeded)
+abbrev pub Continues : {X : Type 0} → (X → Call → X → Type 0) → Proceeded → Shared → X → Shared → X → Type 0
+Continues does proceeded s x t y = PerformsStep does (Proceeds proceeded) s.state x t.state y × Keeps s t × (t ≡ record s { phase = t.phase; state = t.state; waits = waits_for proceeded })
 
 -- The execution is continued, unless a unit waits and is not to be tried again.
-abbrev pub MayContinue : {X : Type 0} → (X → Call → X → Type 0) → Bool → Proceeded → Option Need → Option Need → State → X → State → X → Type 0
-MayContinue does again proceeded None new s x t y = Continues does proceeded new s x t y
-MayContinue does true proceeded (Some need) new s x t y = Continues does proceeded new s x t y
-MayContinue does false proceeded (Some need) new s x t y = (t ≡ s) × (y ≡ x) × (proceeded ≡ Idle) × (new ≡ Some need)
+abbrev pub MayContinue : {X : Type 0} → (X → Call → X → Type 0) → Bool → Proceeded → Option Need → Shared → X → Shared → X → Type 0
+MayContinue does again proceeded None s x t y = Continues does proceeded s x t y
+MayContinue does true proceeded (Some need) s x t y = Continues does proceeded s x t y
+MayContinue does false proceeded (Some need) s x t y = (t ≡ s) × (y ≡ x) × (proceeded ≡ Idle)
 
 -- The execution is continued, and what is to be written on the synchronous connection is taken. Meanwhile writes of other
 -- threads may be over.
-pub record Executes {X S : Type 0} (does : X → Call → X → Type 0) (again : Bool) (waits : Option Need) (sync_waits async_waits : Bool) (remainder : Remainder S) (s : State) (x : X) (t : State) (y : X) : Type 0 where
+pub record Executes {X S : Type 0} (does : X → Call → X → Type 0) (again : Bool) (remainder : Remainder S) (s : Shared) (x : X) (t : Shared) (y : X) : Type 0 where
+  pub open_before : s.phase ≡ Open
   pub proceeded : Proceeded
-  pub later : Option Need
   pub more : Bool
-  pub after : State
-  pub known : State
-  pub continues : MayContinue does again proceeded waits later s x after y
-  pub noted : AreNoted after known
-  pub has_more : IsTrue more ↔ HasMore proceeded known
-  pub takes : Takes Sync more later sync_waits async_waits remainder known t
+  pub after : Shared
+  pub known : Shared
+  pub continues : MayContinue does again proceeded s.waits s x after y
+  pub noted : Notes after known
+  pub has_more : IsTrue more ↔ HasMore proceeded known.state
+  pub takes : Takes Sync more remainder known t
 
--- The session is over, and was not executed; or the execution was not completed; or it was continued, and all is sent
--- after a FatalError.
-abbrev pub EndsExecuting : {X : Type 0} → (X → Call → X → Type 0) → State → X → X → Type 0
-EndsExecuting does s x y = (y ≡ x) ⊎ StopsNext does s x y ⊎ ((proceeded : Proceeded) × (t : State) × PerformsStep does (Proceeds proceeded) s x t y)
+-- The session was not open, and is not executed; or memory was refused in the execution; or it was continued, and then the
+-- session is over, as memory is refused for the next reply, or has sent all after a FatalError.
+abbrev pub EndsExecuting : {X : Type 0} → (X → Call → X → Type 0) → Bool → Shared → X → Shared → X → Type 0
+EndsExecuting does again s x t y =
+    ((s.phase ≡ Open → ⊥) × (t ≡ s) × (y ≡ x))
+    ⊎ ((s.phase ≡ Open) × StopsNext does s.state x y × (t ≡ with_value s (Over Memory) t.state))
+    ⊎ ((s.phase ≡ Open) × (proceeded : Proceeded) × (after : Shared) × (known : Shared) × MayContinue does again proceeded s.waits s x after y × Notes after known × EndsTaking known t)
 
 -- What is to be written on the asynchronous connection is taken. Meanwhile writes of other threads may be over.
-abbrev pub Responds : {S : Type 0} → Option Need → Bool → Bool → Remainder S → State → State → Type 0
-Responds waits sync_waits async_waits remainder s t = (known : State) × AreNoted s known × Takes Async false waits sync_waits async_waits remainder known t
+abbrev pub Responds : {S : Type 0} → Remainder S → Shared → Shared → Type 0
+Responds remainder s t = (s.phase ≡ Open) × (known : Shared) × Notes s known × Takes Async false remainder known t
+
+-- The session was not open; or it has sent all after a FatalError.
+abbrev pub EndsResponding : Shared → Shared → Type 0
+EndsResponding s t = ((s.phase ≡ Open → ⊥) × (t ≡ s)) ⊎ ((s.phase ≡ Open) × (known : Shared) × Notes s known × EndsTaking known t)
 
 -- ---- notices
 
--- a service request is sent once the asynchronous connection is there
-abbrev pub MayRequestService : {X : Type 0} → (X → Call → X → Type 0) → Bool → State → X → State → X → Type 0
-MayRequestService does true s x t y = Appends does IsServiceRequested [] [] s x t y
-MayRequestService does false s x t y = (t ≡ s) × (y ≡ x)
+-- the lock request that waits has this result
+abbrev pub IsGranted : {X : Type 0} → (X → Call → X → Type 0) → Grant → Shared → X → Shared → X → Type 0
+IsGranted does grant s x t y = Appends does (IsLockGranted s.state.lock_waits grant) [] [] s.state x t.state y × Keeps s t × (t ≡ with_value s t.phase t.state)
 
--- what a notice does to the session
-abbrev pub Notifies : {X : Type 0} → (X → Call → X → Type 0) → ℕ → Notice → State → X → State → X → Type 0
-Notifies does now notice.Continue s x t y = (t ≡ s) × (y ≡ x)
-Notifies does now notice.Granted s x t y = Appends does (IsLockGranted s.lock_waits grant.Granted) [] [] s x t y
-Notifies does now notice.Failed s x t y = Appends does (IsLockGranted s.lock_waits grant.Failed) [] [] s x t y
-Notifies does now notice.Service s x t y = MayRequestService does s.core.joined s x t y
+-- What a notice does to a session. A unit that waits is tried again after one that says that what it waits for may have
+-- come.
+abbrev pub Notifies : {X : Type 0} → (X → Call → X → Type 0) → ℕ → Notice → Shared → X → Shared → X → Type 0
+Notifies does now notice.Continue s x t y = (t ≡ with_waits s None) × (y ≡ x)
+Notifies does now notice.Granted s x t y = IsGranted does grant.Granted s x t y
+Notifies does now notice.Failed s x t y = IsGranted does grant.Failed s x t y
+Notifies does now notice.Service s x t y = MayRequestService does s.state.core.joined s x t y
 Notifies does now notice.Output s x t y = (t ≡ s) × (y ≡ x)
 Notifies does now notice.Room s x t y = (t ≡ s) × (y ≡ x)
-Notifies does now notice.Time s x t y = IsTicked now s [] t × (y ≡ x)
+Notifies does now notice.Time s x t y = IsTicked now s.state [] t.state × (t ≡ with_value s s.phase t.state) × (y ≡ x)
 Notifies does now notice.End s x t y = (t ≡ s) × (y ≡ x)
 
--- a unit that waits is tried again after this notice
-abbrev pub waits_after : Notice → Option Need → Option Need
-waits_after notice.Continue waits = None
-waits_after notice.Granted waits = waits
-waits_after notice.Failed waits = waits
-waits_after notice.Service waits = waits
-waits_after notice.Output waits = waits
-waits_after notice.Room waits = waits
-waits_after notice.Time waits = waits
-waits_after notice.End waits = waits
-
--- ---- after the end
-
--- the output of a connection is discarded, by steps of the session without a call of the device
-abbrev pub Discards : State → State → Type 0
-Discards s t = (done : List Event) × Steps s done t × (calls done ≡ [])
-
--- What a session that is over was sent before is executed by steps of it, and its output is discarded.
-abbrev pub IsDrained : {X : Type 0} → (X → Call → X → Type 0) → State → X → State → X → Type 0
-IsDrained does s x t y = (one : State) × (two : State) × PerformsStep does Steps s x one y × Discards one two × Discards two t
-
--- where there is more
-abbrev pub OnMore : Drained → Type 0 → Type 0
-OnMore (More units) P = P
-OnMore AllDone P = ⊤
+-- The session was not open; or memory was refused as time passes.
+abbrev pub EndsNotified : ℕ → Notice → Shared → Shared → Type 0
+EndsNotified now given s t =
+    ((s.phase ≡ Open → ⊥) × (t ≡ s))
+    ⊎ ((s.phase ≡ Open) × (given ≡ notice.Time) × (t ≡ with_value s (Over Memory) t.state))

@@ -1,89 +1,101 @@
-// A session after its end: what it was sent before is received and executed.
-ghost use Rattle.std.specs.Prelude.{◌≡◌, true, false, IfOk, IfSome, OnOk};
+// A session after the end of a connection: what it was sent before is received and executed.
+ghost use Rattle.std.specs.Prelude.{◌≡◌, ◌↔◌, IsTrue, IfOk, OnErr};
 ghost use Rattle.psu_session.specs.Holding.{IsFull};
-ghost use Rattle.psu_session.specs.Serving.{PerformsStep};
-ghost use Rattle.psu_session.specs.Step.{IsReceived};
-ghost use Rattle.psu_session_io.specs.Sharing.{Discards, IsDrained, OnMore};
+ghost use Rattle.psu_session.specs.declared.phase.Phase.TheVariants.{Open};
+ghost use Rattle.psu_session_io.specs.Ending.{Discards, Drains, IsEnding};
+ghost use Rattle.psu_session_io.specs.Sharing.{EndsReceiving, Receives};
 
-use crate::linear::{BytesRead, Closing};
+use crate::linear::{BytesRead, Closing, Received};
 use crate::{ConnectionSide, SharedSession, StepDevice};
 use psu_hislip::Side;
-use psu_messages::Need;
-use psu_session::{Device, Ended, Proceeded};
+use psu_session::{Device, Phase, Proceeded};
 
-/// At most how many units a call that continues a session tries.
-const TRIES: u32 = 4_096;
-
-/// The result of a step of the execution of what a session that is over was sent before.
+/// The result of a step of the execution of what a session was sent before a connection ended.
 #[derive(Clone, Copy, Debug, PartialEq, Eq)]
 pub enum Drained {
-    /// There is more, and what was executed counts as so many tries of a unit.
-    More(u32),
-    /// Nothing is left that need not wait.
+    /// There may be more.
+    More,
+    /// Nothing is left to execute, or a unit has to wait, or as many units are tried as may be.
     AllDone,
 }
 
 impl SharedSession {
-    /// Receives bytes that were read from a connection of a session that is over, unless it holds too much.
-    pub fn receive_last<S: ConnectionSide, D: Device>(
+    // Whether a connection has ended, and units of what was sent before may still be tried.
+    fn is_ending(&self) -> bool
+        ensures { IsTrue result ↔ IsEnding self.now.phase }
+    {
+        matches!(self.session.phase(), Phase::Ending(_))
+    }
+
+    // Notes that nothing is written on a connection any more.
+    fn end_last_write(&mut self, side: Side)
+        ensures { Discards self.old self.new }
+    {
+        self.session.written(side);
+    }
+
+    // Takes the output of a connection, and drops it.
+    fn drop_output(&mut self, side: Side)
+        ensures { Discards self.old self.new }
+    {
+        let _dropped = self.session.take_output(side);
+    }
+
+    // Discards the output of both connections.
+    fn discard(&mut self)
+        ensures { Discards self.old self.new }
+    {
+        self.end_last_write(Side::Sync);
+        self.drop_output(Side::Sync);
+        self.end_last_write(Side::Async);
+        self.drop_output(Side::Async);
+    }
+
+    // Executes what is next.
+    fn execute_last<D: Device>(&mut self, device: &mut D) -> Drained
+        ensures { Drains D.does result self.old device.old self.new device.new }
+    {
+        if !self.is_ending() {
+            return Drained::AllDone;
+        }
+        self.discard();
+        match self.session.proceed(device) {
+            Ok(Proceeded::Completed | Proceeded::Waits(_)) if self.is_ending() => Drained::More,
+            Ok(_) | Err(_) => Drained::AllDone,
+        }
+    }
+
+    /// Executes a part of what a session was sent before a connection ended. Its responses are discarded. At most 65,536
+    /// units are tried in all calls together.
+    pub fn drain<D: StepDevice>(&mut self, device: &mut D) -> Drained
+        ensures { Drains D.does result self.old device.old self.new device.new }
+    {
+        let drained = self.execute_last(device);
+        device.end_step();
+        drained
+    }
+
+    // Executes a part of what a full session was sent before a connection ended, so that there may be room for bytes that
+    // were read from its synchronous connection. Where there will be none, they are dropped.
+    pub(crate) fn make_room<'a, S: ConnectionSide, D: StepDevice>(
         &mut self,
         now: u64,
-        bytes: BytesRead<'_, S>,
+        bytes: BytesRead<'a, S>,
         device: &mut D,
-    ) -> Closing
-        ensures full { IsFull S.SIDE self.old.session.state → (self.new.session ≡ self.old.session) × (device.new ≡ device.old) }
-        ensures received { (IsFull S.SIDE self.old.session.state → ⊥) → self.new.session.over ≡ false
-            → PerformsStep D.does (IsReceived now S.SIDE bytes.entry.bytes.now) self.old.session.state device.old self.new.session.state device.new }
-        ensures ended { self.new.lost ≡ true }
+    ) -> Result<Received<'a, S>, Closing>
+        requires full { IsFull S.SIDE self.old.state }
+        requires ends { self.old.phase ≡ Open → ⊥ }
+        ensures received { IfOk result (λ received. Receives D.does now S.SIDE bytes.entry.bytes.now received self.old device.old self.new device.new) }
+        ensures ended { OnErr result (EndsReceiving D.does now S.SIDE bytes.entry.bytes.now self.old device.old self.new device.new) }
     {
+        if S::SIDE == Side::Sync && self.drain(device) == Drained::More {
+            return Ok(Received::Again(bytes));
+        }
         let BytesRead {
-            bytes,
+            bytes: _,
             duty,
             side: _,
         } = bytes;
-        if !self.session.is_full(S::SIDE) {
-            let _received = self.session.receive(now, S::SIDE, bytes, device);
-        }
-        self.over(duty)
-    }
-
-    // Discards the output of a connection.
-    fn discard(&mut self, side: Side) -> Result<(), Ended>
-        ensures { OnOk result (Discards self.old.session.state self.new.session.state) }
-    {
-        if self.session.has_ended() {
-            return Err(Ended);
-        }
-        self.session.written(side);
-        match self.session.take_output(side)? {
-            Some(_bytes) => Ok(()),
-            None => Ok(()),
-        }
-    }
-
-    // Continues the execution, and discards the output of both connections. Returns as how many tries that counts.
-    fn execute_last<D: Device>(&mut self, device: &mut D) -> Result<Option<u32>, Ended>
-        ensures { IfOk result (λ units. IfSome units (λ _. IsDrained D.does self.old.session.state device.old self.new.session.state device.new)) }
-    {
-        let units = match self.session.proceed(device)? {
-            Proceeded::Completed => 1,
-            Proceeded::Waits(Need::Turn) => TRIES,
-            Proceeded::Idle | Proceeded::Waits(_) => return Ok(None),
-        };
-        self.discard(Side::Sync)?;
-        self.discard(Side::Async)?;
-        Ok(Some(units))
-    }
-
-    /// Continues the execution of what a session that is over was sent before. Its responses are discarded.
-    pub fn drain<D: StepDevice>(&mut self, device: &mut D) -> Drained
-        ensures { OnMore result (IsDrained D.does self.old.session.state device.old self.new.session.state device.new) }
-    {
-        let executed = self.execute_last(device);
-        device.end_step();
-        match executed {
-            Ok(Some(units)) => Drained::More(units),
-            Ok(None) | Err(Ended) => Drained::AllDone,
-        }
+        Err(Closing { duty })
     }
 }

@@ -9,6 +9,7 @@
 
 mod connection;
 mod ending;
+mod first_reply;
 mod line;
 mod linear;
 mod link;
@@ -25,6 +26,7 @@ mod writes;
 
 pub use connection::{Connection, Incoming};
 pub use ending::Drained;
+pub use first_reply::FirstReply;
 pub use linear::{
     Arrived, BytesRead, Closed, Closing, Disconnected, Next, Outgoing, Pending, Received,
     Remainder, Written,

@@ -30,6 +30,9 @@ pub enum Received<'a, S> {
     All(Pending<S>),
     /// The session holds too much. The reader has to wait until there is room, and then try again.
     Full(BytesRead<'a, S>),
+    /// The session holds too much, and a connection has ended: there may be room now, since a part of what was sent before
+    /// was executed.
+    Again(BytesRead<'a, S>),
 }
 
 /// The session has changed, and its thread must continue it.
@@ -104,16 +107,16 @@ pub struct Arrived<S> {
     pub(crate) side: PhantomData<S>,
 }
 
-/// A connection has ended. The session must be notified.
+/// A connection has ended, or is to end. The session must be notified.
 pub struct Disconnected {
     pub(crate) duty: Duty,
 }
 
-/// The session is over. Its connections must be shut, and its threads notified.
+/// The session is not open any more. Its connections must be shut, and its threads notified.
 pub struct Closing {
     pub(crate) duty: Duty,
 }
 
-/// The session is over, its connections are shut and its threads notified. Only with this value a thread may end.
+/// The session is not open, its connections are shut and its threads notified. Only with this value a thread may end.
 #[derive(Drop)]
 pub struct Closed(pub(crate) ());

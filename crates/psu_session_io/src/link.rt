@@ -2,6 +2,7 @@
 ghost use Rattle.std.specs.Prelude.{◌≡◌, ◌≤◌, ℕ, Ok, length};
 ghost use Rattle.psu_session_io.specs.declared.link.ReadResult.TheVariants.{Bytes};
 
+use crate::FirstReply;
 use std::io::{self, ErrorKind, Read, Write};
 use std::net::{Shutdown, TcpStream};
 use std::time::Duration;
@@ -35,7 +36,8 @@ impl ReadResult {
     }
 }
 
-/// A connection as a stream of bytes. One thread reads it, and one thread at a time writes.
+/// A connection as a stream of bytes. One thread reads it, and one thread at a time writes. It sends a `FirstReply`, and
+/// what was taken from a session for it (`Connection::write`), and nothing else.
 #[derive(Drop)]
 pub struct Link {
     stream: TcpStream,
@@ -47,8 +49,13 @@ impl Link {
         Link { stream }
     }
 
+    /// Sends the first message on the connection.
+    pub fn answer(&self, reply: FirstReply) -> io::Result<()> {
+        self.write(&reply.bytes)
+    }
+
     /// Writes bytes.
-    pub fn write(&self, bytes: &[u8]) -> io::Result<()> {
+    pub(crate) fn write(&self, bytes: &[u8]) -> io::Result<()> {
         (&self.stream).write_all(bytes)
     }
 
@@ -64,6 +71,12 @@ impl Link {
     /// Sets how long a read waits at most.
     pub fn wait_at_most(&self, limit: Option<Duration>) -> io::Result<()> {
         self.stream.set_read_timeout(limit)
+    }
+
+    /// Ends waits for what comes: reads that begin from now on return at once. What the client has sent and the system has
+    /// not passed on yet still comes then; a connection that is shut refuses it.
+    pub(crate) fn end_waits(&self) {
+        let _ = self.stream.set_nonblocking(true);
     }
 
     /// Ends the connection: reads and writes of it return.

@@ -4,6 +4,7 @@ ghost use Rattle.psu_session_io.specs.Leaving.{IsAfter, IsAfterWrite};
 use crate::linear::{AfterWrite, Closing, Disconnected, Duty, Next, Pending, Written};
 use crate::writes::Writes;
 use crate::{ConnectionSide, SharedSession, Token};
+use psu_hislip::Side;
 use psu_session::Session;
 use std::alloc::{AllocError, Global};
 use std::sync::{Arc, Mutex, MutexGuard, Wait};
@@ -57,6 +58,11 @@ impl SessionLock {
                 Err(session.disconnect(disconnected))
             }
         }
+    }
+
+    // Whether a thread writes on a connection, or is about to.
+    pub(crate) fn is_writing(&self, side: Side) -> bool {
+        !self.writes.is_complete(side)
     }
 
     // Ends a write. Returns what its thread does then.

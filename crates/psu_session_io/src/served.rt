@@ -1,13 +1,21 @@
 // A session that threads serve.
+ghost use Rattle.std.specs.Prelude.{◌≡◌, IfOk};
+
 use crate::linear::{Closed, Closing};
 use crate::link::Link;
 use crate::{Mailbox, SessionLock};
+use psu_hislip::Side;
 use psu_locks::Session as Number;
 use psu_session::Session;
 use std::alloc::{AllocError, Global};
 use std::io::{self, ErrorKind};
+use std::rt::Clock;
 use std::sync::{Arc, Condvar, Mutex, Wait};
+use std::thread;
 use std::time::Duration;
+
+/// How long the first connection of a session that is closed may still be read, in milliseconds.
+const GRACE: u64 = 50;
 
 // The second connection of a session.
 #[derive(Drop)]
@@ -36,13 +44,16 @@ pub struct ServedSession {
 }
 
 impl ServedSession {
-    /// Returns a session that waits for its second connection.
+    /// Returns the session of a number, which waits for its second connection.
     pub fn new(
         alloc: Global,
         number: Number,
         session: Session,
         first: Arc<Link>,
-    ) -> Result<ServedSession, AllocError> {
+    ) -> Result<ServedSession, AllocError>
+        requires number { session.state.core.session ≡ number }
+        ensures number { IfOk result (λ served. served.number ≡ number) }
+    {
         Ok(ServedSession {
             number,
             session: SessionLock::new(alloc, session)?,
@@ -77,9 +88,15 @@ impl ServedSession {
         Ok(())
     }
 
-    /// Closes a session that is over: shuts both connections, and notifies all threads.
+    /// Closes a session that is not open any more: its second connection ends, and all threads are notified. On the first
+    /// one no thread waits from now on for what comes; what the client has sent there can still be read, unless a thread
+    /// writes there, which has to return.
     pub fn close<R: Wait>(&self, rt: &R, closing: Closing) -> Closed {
-        self.first.shut();
+        if self.session.is_writing(Side::Sync) {
+            self.first.shut();
+        } else {
+            self.first.end_waits();
+        }
         let mut second = self.second.lock(rt);
         match &*second {
             Second::Open(link) => link.shut(),
@@ -88,6 +105,13 @@ impl ServedSession {
         }
         drop(second);
         self.mailbox.end(rt, closing)
+    }
+
+    /// Ends the first connection once its reader has had the time to read what was sent there before: so it returns also
+    /// where it waited already.
+    pub fn end_first<R: Clock>(&self, rt: &R) {
+        thread::sleep(rt, Duration::from_millis(GRACE));
+        self.first.shut();
     }
 
     /// Returns the first connection.

@@ -1,11 +1,12 @@
 // The value of a session that threads share.
-ghost use Rattle.std.specs.Prelude.{◌≡◌, ◌⊎◌, ◌↔◌, true, false, None, IsTrue, IfOk, OnOk, OnErr};
-ghost use Rattle.psu_hislip.specs.declared.side.Side.TheVariants.{Sync, Async};
-ghost use Rattle.psu_session_io.specs.declared.notice.Notice.TheVariants.{Time};
-ghost use Rattle.psu_session.specs.Step.{IsReceived};
-ghost use Rattle.psu_session.specs.Stopping.{StopsIn, StopsNext};
-ghost use Rattle.psu_session_io.specs.Sharing.{EndsExecuting, Executes, HasMore, MayContinue, MayRequestService, Notifies, Receives, Responds, waits_after, waits_for};
-ghost use Rattle.psu_session_io.specs.Leaving.{EndsSent};
+ghost use Rattle.std.specs.Prelude.{◌≡◌, ◌↔◌, ◌&&◌, not, false, None, IsTrue, IfOk, OnOk, OnErr, IfSome, IsNone};
+ghost use Rattle.psu_session.specs.Holding.{IsFull};
+ghost use Rattle.psu_session.specs.Phases.{disconnected, is_over};
+ghost use Rattle.psu_session.specs.Stopping.{StopsNext};
+ghost use Rattle.psu_session.specs.declared.phase.EndCause.TheVariants.{Memory};
+ghost use Rattle.psu_session.specs.declared.phase.Phase.TheVariants.{Open, Over};
+ghost use Rattle.psu_session_io.specs.Shared.{Shared, with_phase, with_reader, with_value};
+ghost use Rattle.psu_session_io.specs.Sharing.{EndsExecuting, EndsNotified, EndsReceiving, EndsResponding, Executes, HasMore, MayContinue, MayRequestService, Notifies, Receives, ReceivesAll, Responds, waits_for};
 
 use crate::linear::{
     Arrived, BytesRead, Closing, Disconnected, Duty, Pending, Received, Remainder,
@@ -16,15 +17,15 @@ use crate::{Asynchronous, ConnectionSide, StepDevice, Synchronous};
 use psu_hislip::Side;
 use psu_locks::Grant;
 use psu_messages::Need;
-use psu_session::{Device, Ended, Proceeded, Session};
+use psu_session::{Device, Phase, Proceeded, Session};
+use std::marker::Model;
 use std::sync::Arc;
 
-/// A session as its threads share it: what they bring and take are linear values.
+/// A session as its threads share it: what they bring and take are linear values. Contracts see its phase and its state,
+/// what its next unit waits for, and which readers wait for room.
 #[derive(Drop)]
 pub struct SharedSession {
     pub(crate) session: Session,
-    // A connection has ended, or memory was refused: nothing is received or sent any more.
-    lost: bool,
     // What the next unit waits for. It is tried again once that may have come.
     pub(crate) waits: Option<Need>,
     // Whether the readers wait for room.
@@ -32,6 +33,14 @@ pub struct SharedSession {
     pub(crate) async_reader_waits: bool,
     // Which writes are over.
     pub(crate) writes: Arc<Writes>,
+}
+
+impl Model for SharedSession {
+    ghost use Rattle.psu_session_io.specs.Shared.{Shared};
+
+    ghost Value = { Shared };
+
+    ghost view = { λ s. record { phase = s.session.phase; state = s.session.state; waits = s.waits; sync_waits = s.sync_reader_waits; async_waits = s.async_reader_waits } };
 }
 
 // Returns what the next unit waits for; none where others are only let in.
@@ -47,13 +56,10 @@ fn need_of(proceeded: Proceeded) -> Option<Need>
 impl SharedSession {
     /// Returns a session that no thread serves yet.
     pub(crate) fn new(session: Session, writes: Arc<Writes>) -> SharedSession
-        ensures session { result.session ≡ session }
-        ensures lost { result.lost ≡ false }
-        ensures waits { result.waits ≡ None }
+        ensures { result ≡ record { phase = session.phase; state = session.state; waits = None; sync_waits = false; async_waits = false } }
     {
         SharedSession {
             session,
-            lost: false,
             waits: None,
             sync_reader_waits: false,
             async_reader_waits: false,
@@ -61,19 +67,24 @@ impl SharedSession {
         }
     }
 
-    // Returns that the session is over.
-    pub(crate) fn over(&mut self, duty: Duty) -> Closing
-        ensures { self.new ≡ record self.old { lost = true } }
+    // Whether the session is received, executed and answered.
+    fn is_open(&self) -> bool
+        ensures { IsTrue result ↔ (self.now.phase ≡ Open) }
     {
-        self.lost = true;
+        matches!(self.session.phase(), Phase::Open)
+    }
+
+    // Ends the session, since a connection has ended or is to end.
+    pub(crate) fn end(&mut self, duty: Duty) -> Closing
+        ensures { self.new ≡ with_phase self.old (disconnected self.old.phase) }
+    {
+        self.session.disconnect();
         Closing { duty }
     }
 
     // Notes that the reader of a connection waits for room.
-    fn wait_for_room(&mut self, side: Side)
-        ensures session { self.new.session ≡ self.old.session }
-        ensures sync { side ≡ Sync → self.new.sync_reader_waits ≡ true }
-        ensures asynchronous { side ≡ Async → self.new.async_reader_waits ≡ true }
+    pub(crate) fn wait_for_room(&mut self, side: Side)
+        ensures { self.new ≡ with_reader side self.old }
     {
         match side {
             Side::Sync => self.sync_reader_waits = true,
@@ -81,50 +92,81 @@ impl SharedSession {
         }
     }
 
-    /// Receives bytes that were read from a connection, unless the session holds too much.
-    pub fn receive<'a, S: ConnectionSide, D: Device>(
+    // Sends the session's service request behind the response that has joined the asynchronous connection.
+    fn request_at_join<D: Device>(&mut self, was_joined: bool, device: &mut D)
+        ensures { MayRequestService D.does (not was_joined && self.old.state.core.joined && not (is_over self.old.phase)) self.old device.old self.new device.new }
+    {
+        if !was_joined && self.session.is_joined() {
+            self.session.service_requested(device);
+        }
+    }
+
+    // Receives bytes, for which there is room.
+    fn receive_all<'a, S: ConnectionSide, D: Device>(
         &mut self,
         now: u64,
         bytes: BytesRead<'a, S>,
         device: &mut D,
     ) -> Result<Received<'a, S>, Closing>
-        ensures received { IfOk result (λ received. Receives D.does now S.SIDE bytes.entry.bytes.now received self.old.session.state device.old self.new.session.state device.new) }
-        ensures ended { OnErr result (self.new.lost ≡ true) }
-        ensures stopped { OnErr result ((device.new ≡ device.old) ⊎ StopsIn D.does (IsReceived now S.SIDE bytes.entry.bytes.now) self.old.session.state device.old device.new) }
+        requires { IsFull S.SIDE self.old.state → ⊥ }
+        ensures received { IfOk result (λ received. Receives D.does now S.SIDE bytes.entry.bytes.now received self.old device.old self.new device.new) }
+        ensures ended { OnErr result (EndsReceiving D.does now S.SIDE bytes.entry.bytes.now self.old device.old self.new device.new) }
     {
-        if self.session.is_full(S::SIDE) {
-            if !self.lost {
-                self.wait_for_room(S::SIDE);
-                return Ok(Received::Full(bytes));
-            }
-            // No room comes any more.
-            let BytesRead {
-                bytes: _,
-                duty,
-                side: _,
-            } = bytes;
-            return Err(self.over(duty));
-        }
         let BytesRead { bytes, duty, side } = bytes;
-        match self.session.receive(now, S::SIDE, bytes, device) {
-            Ok(()) => Ok(Received::All(Pending {
-                again: false,
-                duty,
-                side,
-            })),
-            Err(Ended) => Err(self.over(duty)),
+        let was_joined = self.session.is_joined();
+        if self.session.receive(now, S::SIDE, bytes, device).is_err() {
+            return Err(Closing { duty });
         }
+        self.request_at_join(was_joined, device);
+        Ok(Received::All(Pending {
+            again: false,
+            duty,
+            side,
+        }))
+    }
+
+    /// Receives bytes that were read from a connection, unless the session holds too much. After the end of a connection
+    /// what was sent before is executed until there is room for them.
+    pub fn receive<'a, S: ConnectionSide, D: StepDevice>(
+        &mut self,
+        now: u64,
+        bytes: BytesRead<'a, S>,
+        device: &mut D,
+    ) -> Result<Received<'a, S>, Closing>
+        ensures received { IfOk result (λ received. Receives D.does now S.SIDE bytes.entry.bytes.now received self.old device.old self.new device.new) }
+        ensures ended { OnErr result (EndsReceiving D.does now S.SIDE bytes.entry.bytes.now self.old device.old self.new device.new) }
+    {
+        if !self.session.is_full(S::SIDE) {
+            return self.receive_all(now, bytes, device);
+        }
+        if self.is_open() {
+            self.wait_for_room(S::SIDE);
+            return Ok(Received::Full(bytes));
+        }
+        self.make_room(now, bytes, device)
     }
 
     // Sends the session's service request, if the device has one and the asynchronous connection is there.
     fn request_service<D: Device>(&mut self, device: &mut D)
-        requires { self.old.session.over ≡ false }
-        ensures requested { MayRequestService D.does self.old.session.state.core.joined self.old.session.state device.old self.new.session.state device.new }
-        ensures waits { self.new.waits ≡ self.old.waits }
+        requires { self.old.phase ≡ Open }
+        ensures { MayRequestService D.does self.old.state.core.joined self.old device.old self.new device.new }
     {
         if self.session.is_joined() {
             self.session.service_requested(device);
         }
+    }
+
+    /// Looks whether the session is still open, for a thread to which nothing has come.
+    pub fn look(&self) -> Result<(), Closing>
+        ensures open { OnOk result (self.now.phase ≡ Open) }
+        ensures ended { OnErr result (self.now.phase ≡ Open → ⊥) }
+    {
+        if self.is_open() {
+            return Ok(());
+        }
+        Err(Closing {
+            duty: Duty::begin(),
+        })
     }
 
     /// Notifies the session of what others have caused, at a time in milliseconds.
@@ -134,16 +176,13 @@ impl SharedSession {
         arrived: Arrived<S>,
         device: &mut D,
     ) -> Result<Pending<S>, Closing>
-        ensures notified { OnOk result (Notifies D.does now arrived.notice self.old.session.state device.old self.new.session.state device.new) }
-        ensures waits { OnOk result (self.new.waits ≡ waits_after arrived.notice self.old.waits) }
-        ensures was { OnOk result (self.old.lost ≡ false) }
-        ensures ended { OnErr result (self.new.lost ≡ true) }
-        ensures cause { OnErr result ((self.old.lost ≡ true) ⊎ (self.old.session.over ≡ true) ⊎ (arrived.notice ≡ Time)) }
+        ensures notified { IfOk result (λ pending. (self.old.phase ≡ Open) × Notifies D.does now arrived.notice self.old device.old self.new device.new × (pending.again ≡ false)) }
+        ensures ended { OnErr result (EndsNotified now arrived.notice self.old self.new) }
         ensures uncalled { OnErr result (device.new ≡ device.old) }
     {
         let Arrived { notice, duty, side } = arrived;
-        if self.lost || self.session.has_ended() {
-            return Err(self.over(duty));
+        if !self.is_open() {
+            return Err(Closing { duty });
         }
         match notice {
             Notice::Continue => self.waits = None,
@@ -152,7 +191,7 @@ impl SharedSession {
             Notice::Service => self.request_service(device),
             Notice::Time => {
                 if self.session.tick(now).is_err() {
-                    return Err(self.over(duty));
+                    return Err(Closing { duty });
                 }
             }
             Notice::Output | Notice::Room | Notice::End => {}
@@ -164,29 +203,26 @@ impl SharedSession {
         })
     }
 
-    // Continues the execution, unless a unit waits and is not to be tried again.
-    fn proceed<D: Device>(&mut self, again: bool, device: &mut D) -> Result<Proceeded, Ended>
-        ensures continues { IfOk result (λ proceeded. MayContinue D.does again proceeded self.old.waits self.new.waits self.old.session.state device.old self.new.session.state device.new) }
-        ensures was { OnOk result (self.old.lost ≡ false) }
-        ensures stopped { OnErr result ((device.new ≡ device.old) ⊎ StopsNext D.does self.old.session.state device.old device.new) }
-        ensures sync { self.new.sync_reader_waits ≡ self.old.sync_reader_waits }
-        ensures asynchronous { self.new.async_reader_waits ≡ self.old.async_reader_waits }
+    // Continues the execution of a session that is open, unless a unit waits and is not to be tried again; `None` where
+    // memory is refused.
+    fn proceed<D: Device>(&mut self, again: bool, device: &mut D) -> Option<Proceeded>
+        requires { self.old.phase ≡ Open }
+        ensures continues { IfSome result (λ proceeded. MayContinue D.does again proceeded self.old.waits self.old device.old self.new device.new) }
+        ensures stopped { IsNone result → StopsNext D.does self.old.state device.old device.new × (self.new ≡ with_value self.old (Over Memory) self.new.state) }
     {
-        if self.lost {
-            return Err(Ended);
-        }
         if self.waits.is_some() && !again {
-            return Ok(Proceeded::Idle);
+            return Some(Proceeded::Idle);
         }
-        self.waits = None;
-        let proceeded = self.session.proceed(device)?;
+        let Ok(proceeded) = self.session.proceed(device) else {
+            return None;
+        };
         self.waits = need_of(proceeded);
-        Ok(proceeded)
+        Some(proceeded)
     }
 
     // Whether this thread executes more at once. Where others are let in, it leaves that to the thread that writes.
     fn has_more(&self, proceeded: Proceeded) -> bool
-        ensures { IsTrue result ↔ HasMore proceeded self.now.session.state }
+        ensures { IsTrue result ↔ HasMore proceeded self.now.state }
     {
         match proceeded {
             Proceeded::Completed => self.session.has_work(),
@@ -201,25 +237,27 @@ impl SharedSession {
         pending: Pending<Synchronous>,
         device: &mut D,
     ) -> Result<Remainder<Synchronous>, Closing>
-        ensures executed { IfOk result (λ remainder. Executes D.does pending.again self.old.waits self.old.sync_reader_waits self.old.async_reader_waits remainder self.old.session.state device.old self.new.session.state device.new) }
-        ensures was { OnOk result (self.old.lost ≡ false) }
-        ensures ended { OnErr result (self.new.lost ≡ true) }
-        ensures stopped { OnErr result (EndsExecuting D.does self.old.session.state device.old device.new) }
+        ensures executed { IfOk result (λ remainder. Executes D.does pending.again remainder self.old device.old self.new device.new) }
+        ensures ended { OnErr result (EndsExecuting D.does pending.again self.old device.old self.new device.new) }
     {
         let Pending {
             again,
             duty,
             side: _,
         } = pending;
+        if !self.is_open() {
+            device.end_step();
+            return Err(Closing { duty });
+        }
         let proceeded = self.proceed(again, device);
         device.end_step();
         match proceeded {
-            Ok(proceeded) => {
+            Some(proceeded) => {
                 self.leave_to_writers();
                 let more = self.has_more(proceeded);
                 self.take(more, duty)
             }
-            Err(Ended) => Err(self.over(duty)),
+            None => Err(Closing { duty }),
         }
     }
 
@@ -228,28 +266,26 @@ impl SharedSession {
         &mut self,
         pending: Pending<Asynchronous>,
     ) -> Result<Remainder<Asynchronous>, Closing>
-        ensures responded { IfOk result (λ remainder. Responds self.old.waits self.old.sync_reader_waits self.old.async_reader_waits remainder self.old.session.state self.new.session.state) }
-        ensures was { OnOk result (self.old.lost ≡ false) }
-        ensures ended { OnErr result (self.new.lost ≡ true) }
-        ensures cause { OnErr result ((self.old.lost ≡ true) ⊎ (self.old.session.over ≡ true) ⊎ EndsSent self.old.session.state) }
+        ensures responded { IfOk result (λ remainder. Responds remainder self.old self.new) }
+        ensures ended { OnErr result (EndsResponding self.old self.new) }
     {
         let Pending {
             again: _,
             duty,
             side: _,
         } = pending;
-        if self.lost {
-            return Err(self.over(duty));
+        if !self.is_open() {
+            return Err(Closing { duty });
         }
         self.leave_to_writers();
         self.take(false, duty)
     }
 
-    /// Notes that a connection has ended: the session is over.
-    pub fn disconnect(&mut self, disconnected: Disconnected) -> Closing
-        ensures { self.new ≡ record self.old { lost = true } }
+    /// Notes that a connection has ended.
+    pub fn disconnect(&mut self, connection: Disconnected) -> Closing
+        ensures { self.new ≡ with_phase self.old (disconnected self.old.phase) }
     {
-        let Disconnected { duty } = disconnected;
-        self.over(duty)
+        let Disconnected { duty } = connection;
+        self.end(duty)
     }
 }

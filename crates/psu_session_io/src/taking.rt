@@ -1,13 +1,13 @@
 // The output of a session that threads share: what is to be written, by whom, and what is left to other threads.
-ghost use Rattle.std.specs.Prelude.{◌≡◌, ◌≢◌, ◌⊎◌, ◌↔◌, true, None, [], IsTrue, IfOk, OnErr};
+ghost use Rattle.std.specs.Prelude.{◌≡◌, ◌≢◌, ◌↔◌, true, None, [], IsTrue, IfOk, OnErr};
 ghost use Rattle.psu_session.specs.State.{HasWork, writes};
-ghost use Rattle.psu_session_io.specs.Leaving.{AreNoted, EndsSent, HasRoom, HasSent, HasSentAll, IsAwaited, IsForOthers, IsUnwritten, Leaves, MayBeNoted, Takes};
+ghost use Rattle.psu_session_io.specs.Leaving.{EndsTaking, HasRoom, HasSent, HasSentAll, IsAwaited, IsForOthers, IsUnwritten, Leaves, MayBeNoted, Notes, Takes};
+ghost use Rattle.psu_session_io.specs.Shared.{with_value};
 
 use crate::linear::{Closing, Duty, Remainder};
 use crate::{ConnectionSide, SharedSession};
 use psu_hislip::Side;
 use psu_messages::Need;
-use psu_session::Ended;
 use std::marker::PhantomData;
 
 impl SharedSession {
@@ -15,19 +15,17 @@ impl SharedSession {
 
     // Notes that the write on a connection is over.
     fn end_write(&mut self, side: Side)
-        requires { writes side self.old.session.state ≡ true }
-        ensures noted { MayBeNoted side self.old.session.state self.new.session.state }
-        ensures others { self.new ≡ record self.old { session = self.new.session } }
-        ensures over { self.new.session.over ≡ self.old.session.over }
+        requires { writes side self.old.state ≡ true }
+        ensures noted { MayBeNoted side self.old.state self.new.state }
+        ensures rest { self.new ≡ with_value self.old self.old.phase self.new.state }
     {
         self.session.written(side);
     }
 
     // Notes that the write on a connection is over, if it is.
     fn note_write(&mut self, side: Side)
-        ensures noted { MayBeNoted side self.old.session.state self.new.session.state }
-        ensures others { self.new ≡ record self.old { session = self.new.session } }
-        ensures over { self.new.session.over ≡ self.old.session.over }
+        ensures noted { MayBeNoted side self.old.state self.new.state }
+        ensures rest { self.new ≡ with_value self.old self.old.phase self.new.state }
     {
         if self.session.writes(side) && self.writes.is_complete(side) {
             self.end_write(side);
@@ -36,9 +34,7 @@ impl SharedSession {
 
     /// Notes which writes are over.
     pub(crate) fn note_writes(&mut self)
-        ensures noted { AreNoted self.old.session.state self.new.session.state }
-        ensures others { self.new ≡ record self.old { session = self.new.session } }
-        ensures over { self.new.session.over ≡ self.old.session.over }
+        ensures { Notes self.old self.new }
     {
         self.note_write(Side::Sync);
         self.note_write(Side::Async);
@@ -47,7 +43,7 @@ impl SharedSession {
     // Whether the thread that writes on a connection, if there is one, is to continue the session after that: for output
     // there, to execute, or since the session ends once all is sent.
     fn is_awaited(&self, side: Side) -> bool
-        ensures { IsTrue result ↔ IsAwaited side self.now.waits self.now.session.state }
+        ensures { IsTrue result ↔ IsAwaited side self.now.waits self.now.state }
     {
         self.session.has_failed()
             || self.session.has_output(side)
@@ -57,9 +53,8 @@ impl SharedSession {
     // Leaves the session to the thread that writes on a connection, if there is one and it is to continue it; or notes
     // that its write is over.
     fn leave_to_writer(&mut self, side: Side)
-        ensures noted { MayBeNoted side self.old.session.state self.new.session.state }
-        ensures others { self.new ≡ record self.old { session = self.new.session } }
-        ensures over { self.new.session.over ≡ self.old.session.over }
+        ensures noted { MayBeNoted side self.old.state self.new.state }
+        ensures rest { self.new ≡ with_value self.old self.old.phase self.new.state }
     {
         if self.session.writes(side) && self.is_awaited(side) && !self.writes.leave(side) {
             self.end_write(side);
@@ -68,9 +63,7 @@ impl SharedSession {
 
     /// Leaves the session to the threads that write, where they are to continue it; or notes that their writes are over.
     pub(crate) fn leave_to_writers(&mut self)
-        ensures noted { AreNoted self.old.session.state self.new.session.state }
-        ensures others { self.new ≡ record self.old { session = self.new.session } }
-        ensures over { self.new.session.over ≡ self.old.session.over }
+        ensures { Notes self.old self.new }
     {
         self.leave_to_writer(Side::Sync);
         self.leave_to_writer(Side::Async);
@@ -80,14 +73,14 @@ impl SharedSession {
 
     // Whether there are bytes to be sent on a connection, and no thread writes there.
     fn is_unwritten(&self, side: Side) -> bool
-        ensures { IsTrue result ↔ IsUnwritten side self.now.session.state }
+        ensures { IsTrue result ↔ IsUnwritten side self.now.state }
     {
         self.session.has_output(side) && !self.session.writes(side)
     }
 
     // Whether something is to be executed, and need not wait.
     fn is_executable(&self) -> bool
-        ensures { IsTrue result ↔ ((self.now.waits ≡ None) × HasWork self.now.session.state) }
+        ensures { IsTrue result ↔ ((self.now.waits ≡ None) × HasWork self.now.state) }
     {
         match self.waits {
             None => self.session.has_work(),
@@ -97,14 +90,14 @@ impl SharedSession {
 
     // Whether a release waits.
     fn has_releases(&self) -> bool
-        ensures { IsTrue result ↔ (self.now.session.state.releases ≢ []) }
+        ensures { IsTrue result ↔ (self.now.state.releases ≢ []) }
     {
         self.session.next_due().is_some()
     }
 
     // Whether there is something for the threads of the other connection.
     fn is_for_others(&self, side: Side) -> bool
-        ensures { IsTrue result ↔ IsForOthers side self.now.waits self.now.session.state }
+        ensures { IsTrue result ↔ IsForOthers side self.now.waits self.now.state }
     {
         match side {
             Side::Sync => self.is_unwritten(Side::Async),
@@ -116,7 +109,7 @@ impl SharedSession {
 
     // Whether the reader of a connection, which may wait for room, waits and has room.
     fn has_room(&self, waits: bool, side: Side) -> bool
-        ensures { IsTrue result ↔ HasRoom waits side self.now.session.state }
+        ensures { IsTrue result ↔ HasRoom waits side self.now.state }
     {
         if !waits || self.session.is_full(side) {
             return false;
@@ -131,10 +124,8 @@ impl SharedSession {
         more: bool,
         duty: Duty,
     ) -> Remainder<S>
-        ensures leaves { Leaves S.SIDE more self.old.waits self.old.sync_reader_waits self.old.async_reader_waits result self.old.session.state }
+        ensures leaves { Leaves S.SIDE more result self.old self.new }
         ensures bytes { result.bytes ≡ bytes }
-        ensures session { self.new.session ≡ self.old.session }
-        ensures waits { self.new.waits ≡ self.old.waits }
     {
         let sync_room = self.has_room(self.sync_reader_waits, Side::Sync);
         let async_room = self.has_room(self.async_reader_waits, Side::Async);
@@ -155,14 +146,14 @@ impl SharedSession {
 
     // Whether all output of a connection is written.
     fn has_sent(&self, side: Side) -> bool
-        ensures { IsTrue result ↔ HasSent side self.now.session.state }
+        ensures { IsTrue result ↔ HasSent side self.now.state }
     {
         !self.session.has_output(side) && !self.session.writes(side)
     }
 
     // Whether the session has failed, and all its output is written.
     fn has_sent_all(&self) -> bool
-        ensures { IsTrue result ↔ HasSentAll self.now.session.state }
+        ensures { IsTrue result ↔ HasSentAll self.now.state }
     {
         self.session.has_failed() && self.has_sent(Side::Sync) && self.has_sent(Side::Async)
     }
@@ -174,10 +165,8 @@ impl SharedSession {
         more: bool,
         duty: Duty,
     ) -> Result<Remainder<S>, Closing>
-        ensures takes { IfOk result (λ remainder. Takes S.SIDE more self.old.waits self.old.sync_reader_waits self.old.async_reader_waits remainder self.old.session.state self.new.session.state) }
-        ensures waits { self.new.waits ≡ self.old.waits }
-        ensures ended { OnErr result (self.new.lost ≡ true) }
-        ensures cause { OnErr result ((self.old.session.over ≡ true) ⊎ HasSentAll self.old.session.state) }
+        ensures takes { IfOk result (λ remainder. Takes S.SIDE more remainder self.old self.new) }
+        ensures ended { OnErr result (EndsTaking self.old self.new) }
     {
         match self.session.take_output(S::SIDE) {
             Ok(Some(bytes)) => {
@@ -185,7 +174,8 @@ impl SharedSession {
                 Ok(self.remainder(Some(bytes), more, duty))
             }
             Ok(None) if !self.has_sent_all() => Ok(self.remainder(None, more, duty)),
-            Ok(None) | Err(Ended) => Err(self.over(duty)),
+            Ok(None) => Err(self.end(duty)),
+            Err(_) => Err(Closing { duty }),
         }
     }
 }

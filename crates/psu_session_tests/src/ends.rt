@@ -124,6 +124,48 @@ fn what_was_said_before_the_end_is_done(rt: HostRuntime) -> Result<(), Fail> {
     Ok(())
 }
 
+// 65,000 units in nine messages are executed though both connections end at once, with no other session at work and with
+// one.
+const HANGS_UP: &str = "
+== hang_up_alone.image 48965
+1 joins
+1 says {VOLT 1;*7221}VOLT 2
+1 says {VOLT 1;*7221}VOLT 2
+1 says {VOLT 1;*7221}VOLT 2
+1 says {VOLT 1;*7221}VOLT 2
+1 says {VOLT 1;*7221}VOLT 2
+1 says {VOLT 1;*7221}VOLT 2
+1 says {VOLT 1;*7221}VOLT 2
+1 says {VOLT 1;*7221}VOLT 2
+1 says {VOLT 1;*7223}VOLT 7
+1 leaves
+1 rejoins
+1 asks VOLT? -> 7.000
+
+== hang_up_beside_another.image 48967
+1 joins
+2 joins
+1 says {VOLT 1;*7221}VOLT 2
+1 says {VOLT 1;*7221}VOLT 2
+1 says {VOLT 1;*7221}VOLT 2
+1 says {VOLT 1;*7221}VOLT 2
+1 says {VOLT 1;*7221}VOLT 2
+1 says {VOLT 1;*7221}VOLT 2
+1 says {VOLT 1;*7221}VOLT 2
+1 says {VOLT 1;*7221}VOLT 2
+1 says {VOLT 1;*7223}VOLT 7
+2 says {CURR 1;*9000}CURR 2
+1 leaves
+2 asks CURR? -> 2.000
+1 rejoins
+1 asks VOLT? -> 7.000
+";
+
+#[test]
+fn what_was_sent_before_a_hang_up_is_executed(rt: HostRuntime) -> Result<(), Mismatch> {
+    plays(rt, rt.alloc(), HANGS_UP)
+}
+
 // Sends a transmission of 32,700 calls of a macro of 204 units.
 fn says_much(client: &mut Client, alloc: Global) -> Result<(), Missed> {
     let Ok(mut body) = b"*DMC \"M\",#41020".to_vec(alloc) else {

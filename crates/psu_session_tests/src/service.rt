@@ -42,6 +42,17 @@ flusher goes
 3 status 0 60
 3 status 0 20
 
+# A session that joins is called for what was there before, also where its AsyncInitialize comes in two parts.
+== called_at_a_long_join.image 48969
+1 joins
+1 says *SRE 4;FOO
+1 called 44
+a begins
+b connects
+b sends 48 53 11 00 00 00 00 02 00*5 01 00 00 00*65536
+b gets 48 53 12 00*13
+b gets 48 53 14 44 00*12
+
 # An error calls by its bit of the status byte, and by its class. Nothing is flushed meanwhile, which would make others look.
 == called_by_errors.image 48921
 1 joins

@@ -5,6 +5,8 @@
 #[cfg(test)]
 mod clears;
 #[cfg(test)]
+mod ending;
+#[cfg(test)]
 mod faults;
 #[cfg(test)]
 mod frames;

@@ -41,10 +41,11 @@ const ENDS: &str = r#"
 == Nothing more is done for a session that is over
 1 opens
 1 joins
-1 asks *TST?
+1 sync DataEnd 0 xffffff00 *SAV 1;*OPC?\n
 1 ends
+1 runs flush
 1 over
-1 runs ended
+1 runs disconnected
 1 written
 1 over
 "#;

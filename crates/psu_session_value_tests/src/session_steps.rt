@@ -12,7 +12,7 @@
 // | `1 takes FRAMES` | these frames are taken from the synchronous connection, and not yet written |
 // | `1 written` | what was taken from the synchronous connection is written |
 // | `1 full sync`, `1 full async` | so much is held of a connection that its reader waits |
-// | `1 overflows FRAMES` | these frames, received on the synchronous connection, are more than is ever held: it is over |
+// | `1 overflows FRAMES` | these frames, received on the synchronous connection, are more than is ever held: it is over for that |
 // | `1 room sync`, `1 room async` | its reader does not wait |
 // | `1 holds` | bytes are to be sent on the synchronous connection |
 // | `1 asks *IDN?` | a query is received in one DataEnd, and executed |
@@ -23,22 +23,22 @@
 // | `1 due 150`, `1 due never` | this is when the first release that waits is due at the latest, none waits |
 // | `1 requested` | a service request is looked for |
 // | `1 failed`, `1 serves` | it has failed with a FatalError, it has not |
-// | `1 ends` | the session is over from now on, as where a connection has ended |
+// | `1 ends` | a connection has ended: what was sent before may still be executed |
 // | `1 over` | the session is over: calls return an error |
 //
 // Any other line is a step of the device, of psu_call_steps. The result of a call is `idle`, `completed`, the need for
-// which a unit waits, as `flush`, `lock` or `room`, or `turn`, where others are let in. Empty lines, and those that
-// begin with `#`, are not steps.
+// which a unit waits, as `flush`, `lock` or `room`, `turn`, where others are let in, or why the session is over:
+// `memory`, `held` for too much that is held, or `disconnected`. Empty lines, and those that begin with `#`, are not steps.
 use crate::frames::{frames, parted};
 use crate::mem_device::MemDevice;
 use psu_exec::Grant;
 use psu_hislip::Side;
 use psu_messages::Need;
-use psu_session::{Ended, Proceeded, Session};
+use psu_session::{EndCause, Phase, Proceeded, Session};
 use std::alloc::Global;
 
 // More calls than the execution of a script's transmissions takes.
-const CALLS: u32 = 1_000;
+const CALLS: u32 = 10_000;
 
 /// The setting of a step: the time in milliseconds, and how many bytes are received at once.
 #[derive(Clone, Copy)]
@@ -46,6 +46,11 @@ pub struct Setting {
     pub alloc: Global,
     pub now: u64,
     pub size: usize,
+}
+
+// Whether a session is over.
+fn has_ended(session: &Session) -> bool {
+    matches!(session.phase(), Phase::Over(_))
 }
 
 // Whether frames are received on a connection.
@@ -71,9 +76,9 @@ fn overflows(
     setting: Setting,
     frames: &[u8],
 ) -> bool {
-    !session.has_ended()
+    !has_ended(session)
         && !receives(session, device, setting, Side::Sync, frames)
-        && session.has_ended()
+        && session.phase() == Phase::Over(EndCause::TooMuchHeld)
 }
 
 // Whether these bytes are taken from a connection, or none where these are none.
@@ -81,7 +86,7 @@ fn takes(session: &mut Session, side: Side, wanted: &[u8]) -> bool {
     match session.take_output(side) {
         Ok(Some(bytes)) => !wanted.is_empty() && bytes.as_slice() == wanted,
         Ok(None) => wanted.is_empty(),
-        Err(Ended) => false,
+        Err(_) => false,
     }
 }
 
@@ -111,17 +116,16 @@ fn side(word: &str) -> Option<Side> {
     }
 }
 
-// Ends a session, as where a connection has ended, and returns whether it is over then.
+// Notes that a connection of an open session has ended. 65,536 units of what was sent before may be tried then.
 fn ends(session: &mut Session) -> bool {
-    session.end();
-    session.has_ended()
+    let was = session.phase();
+    session.disconnect();
+    was == Phase::Open && session.phase() == Phase::Ending(65_536)
 }
 
 // Whether a session is over: calls return an error.
 fn is_over(session: &mut Session, now: u64) -> bool {
-    session.has_ended()
-        && session.tick(now) == Err(Ended)
-        && session.take_output(Side::Sync).is_err()
+    has_ended(session) && session.tick(now).is_err() && session.take_output(Side::Sync).is_err()
 }
 
 // What was taken from the synchronous connection is written.
@@ -143,7 +147,7 @@ fn joins(session: &mut Session, device: &mut MemDevice<'_>, setting: Setting) ->
 }
 
 // Returns the word for the result of a call that continues the execution.
-fn called(proceeded: Result<Proceeded, Ended>) -> &'static str {
+fn called(proceeded: Result<Proceeded, EndCause>) -> &'static str {
     match proceeded {
         Ok(Proceeded::Idle) => "idle",
         Ok(Proceeded::Completed) => "completed",
@@ -151,7 +155,9 @@ fn called(proceeded: Result<Proceeded, Ended>) -> &'static str {
         Ok(Proceeded::Waits(Need::Lock)) => "lock",
         Ok(Proceeded::Waits(Need::Room)) => "room",
         Ok(Proceeded::Waits(Need::Turn)) => "turn",
-        Err(Ended) => "ended",
+        Err(EndCause::Memory) => "memory",
+        Err(EndCause::TooMuchHeld) => "held",
+        Err(EndCause::Disconnected) => "disconnected",
     }
 }
 
@@ -201,13 +207,13 @@ fn answers(session: &mut Session, alloc: Global, text: &str) -> Option<bool> {
 fn is_passed_on(session: &mut Session, device: &mut MemDevice<'_>, grant: Grant) -> bool {
     let is_so = grant == Grant::Failed || device.granted.as_slice().contains(&device.session);
     session.lock_granted(grant, device);
-    is_so && !session.has_ended()
+    is_so && !has_ended(session)
 }
 
 // Whether a service request, if the device has one, is to be sent.
 fn is_requested(session: &mut Session, device: &mut MemDevice<'_>) -> bool {
     session.service_requested(device);
-    !session.has_ended()
+    !has_ended(session)
 }
 
 // Whether a step in which frames are received or are to be sent holds; `None` for any other step.

@@ -37,6 +37,8 @@ mod pools;
 #[cfg(test)]
 mod scenes;
 #[cfg(test)]
+mod scripted_files;
+#[cfg(test)]
 mod spelled;
 #[cfg(test)]
 mod stores;
@@ -44,6 +46,8 @@ mod stores;
 mod strange;
 #[cfg(test)]
 mod trials;
+#[cfg(test)]
+mod unfinished;
 
 pub use forgetting_medium::ForgettingMedium;
 pub use medium_file::MediumFile;

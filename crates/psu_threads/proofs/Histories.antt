@@ -54,7 +54,7 @@ each_response honest session seat makes exchanges answers nothing_else = λ star
     let x = h.exchange opening.0.0 opening.0.1 opening.0.2 opening.1 in
     let sync : List ℕ = opening.0.0 ++ bytes_received Sync history in
     let async : List ℕ = bytes_received Async history in
-    let number : ℕ → ℕ = λ k. session (first k) in
+    let number : ℕ → ℕ = λ k. start.session in
     let are : map (λ (r : Recorded). r.made.event) all.events ≡ history = events_of all.events ∙ ap history_of all.are in
     let turns = turns_of number h.turns all.events (ap (λ (z : List Event). executions (exchange_history z)) are ∙ x.turns_done) (recursion_from_All (HasEntries number) all.events all.each) in
     record {

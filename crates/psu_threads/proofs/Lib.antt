@@ -6,3 +6,4 @@ pub mod Answering
 pub mod Transmissions
 pub mod Replying
 pub mod Histories
+pub mod Places

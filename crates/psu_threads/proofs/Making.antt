@@ -39,8 +39,8 @@ module _ {X : Type 0} {does : X → Call → X → Type 0} where
   call_runs (Takes side bytes is same) = same
   call_runs (Writes side is same) = same
 
-  pub made_history : {start : Start} {first last : ℕ → X} {made : List Made} {s : State} → IsMadeOn does start first made s last → IsHistory start (history_of made) s
-  made_history Opens = Steps.Still
+  pub made_history : {number : X → ℕ} {start : Start} {first last : ℕ → X} {made : List Made} {s : State} → IsMadeOn does number start first made s last → IsHistory start (history_of made) s
+  made_history (Opens own) = Steps.Still
   made_history {start} (Calls {made = made} before thread done t next call others) =
       subst (λ (z : List Event). IsHistory start z t) (sym (history_more made thread done)) (steps_on (made_history before) (call_steps call))
 

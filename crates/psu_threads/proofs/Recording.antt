@@ -66,24 +66,24 @@ module _ {X : Type 0} {does : X → Call → X → Type 0} (honest : Type 0) (se
   same_session x [] y now = ap session now
   same_session x (call ∷ done) y (mid, did, runs) = same_session mid done y runs ∙ (makes x mid call did).0
 
-  -- the events of all calls
-  pub record OfAll (first last : ℕ → X) (made : List Made) : Type 0 where
+  -- the events of all calls, for the session of this start
+  pub record OfAll (start : Start) (first last : ℕ → X) (made : List Made) : Type 0 where
     pub events : List Recorded
     pub are : map (λ r. r.made) events ≡ made
-    pub each : All (HasEntries (λ thread. session (first thread))) events
+    pub each : All (HasEntries (λ thread. start.session)) events
     pub adds : (thread : ℕ) → Adds (AdmitsOn honest) (seat (first thread)) (entries_by thread events) (seat (last thread))
-    pub same : (thread : ℕ) → session (last thread) ≡ session (first thread)
+    pub same : (thread : ℕ) → session (last thread) ≡ start.session
 
-  pub of_all : {start : Start} {first last : ℕ → X} {made : List Made} {s : State} → IsMadeOn does start first made s last → OfAll first last made
-  of_all {first = first} Opens = record {
+  pub of_all : {start : Start} {first last : ℕ → X} {made : List Made} {s : State} → IsMadeOn does session start first made s last → OfAll start first last made
+  of_all {start = start} {first = first} (Opens own) = record {
     events = [];
     are = refl;
-    each = All-nil (HasEntries (λ thread. session (first thread)));
+    each = All-nil (HasEntries (λ thread. start.session));
     adds = λ thread. adds_none (seat (first thread)) (seat (first thread)) refl;
-    same = λ thread. refl;
+    same = own;
   }
-  of_all {first = first} (Calls {made = made} {now = now} before thread done t next call others) =
-      let number : ℕ → ℕ = λ k. session (first k) in
+  of_all {start = start} {first = first} (Calls {made = made} {now = now} before thread done t next call others) =
+      let number : ℕ → ℕ = λ k. start.session in
       let old = of_all before in
       let runs = call_runs call in
       let on_seat = runs_on_seat session seat (IsCalled honest) makes (now thread) (calls done) (next thread) runs in
@@ -106,6 +106,6 @@ module _ {X : Type 0} {does : X → Call → X → Type 0} (honest : Type 0) (se
             (λ same. subst (λ (j : ℕ). Adds (AdmitsOn honest) (seat (first j)) (entries_by j (old.events ++ new.events)) (seat (next j))) (sym same) by_thread)
             (λ apart. by_other k apart);
         same = λ k. dite (ℕ_discrete k thread)
-            (λ same. subst (λ (j : ℕ). session (next j) ≡ session (first j)) (sym same) (same_session (now thread) (calls done) (next thread) runs ∙ old.same thread))
+            (λ same. subst (λ (j : ℕ). session (next j) ≡ start.session) (sym same) (same_session (now thread) (calls done) (next thread) runs ∙ old.same thread))
             (λ apart. ap session (others k apart) ∙ old.same k);
       }

@@ -2,3 +2,4 @@ pub mod Added
 pub mod Called
 pub mod Made
 pub mod Recorded
+pub mod Registered

@@ -33,9 +33,10 @@ made_by thread done = map (λ event. record { thread = thread; event = event }) 
 abbrev pub history_of : List Made → List Event
 history_of made = map (λ m. m.event) made
 
--- Threads call the session, one call after another, each with a device of its own, which no other call changes. The
--- devices were these before the first call and are these after the last one, and the history leads to this state.
-pub data IsMadeOn {X : Type 0} (does : X → Call → X → Type 0) (start : Start) (first : ℕ → X) : List Made → State → (ℕ → X) → Type 0 where
-  Opens : IsMadeOn does start first [] (fresh start) first
-  Calls : {made : List Made} {s : State} {now : ℕ → X} → IsMadeOn does start first made s now → (thread : ℕ) (done : List Event) (t : State) (next : ℕ → X) → IsCallOf does s (now thread) t (next thread) done
-      → ((other : ℕ) → other ≢ thread → next other ≡ now other) → IsMadeOn does start first (made ++ made_by thread done) t next
+-- Threads call the session, one call after another, each with a device of its own, which is that of the session's number,
+-- and which no other call changes. The devices were these before the first call and are these after the last one, and
+-- the history leads to this state.
+pub data IsMadeOn {X : Type 0} (does : X → Call → X → Type 0) (session : X → ℕ) (start : Start) (first : ℕ → X) : List Made → State → (ℕ → X) → Type 0 where
+  Opens : ((thread : ℕ) → session (first thread) ≡ start.session) → IsMadeOn does session start first [] (fresh start) first
+  Calls : {made : List Made} {s : State} {now : ℕ → X} → IsMadeOn does session start first made s now → (thread : ℕ) (done : List Event) (t : State) (next : ℕ → X) → IsCallOf does s (now thread) t (next thread) done
+      → ((other : ℕ) → other ≢ thread → next other ≡ now other) → IsMadeOn does session start first (made ++ made_by thread done) t next

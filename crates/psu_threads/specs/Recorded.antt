@@ -95,14 +95,14 @@ pub record Shows (honest : Type 0) (history : Sight device.State Entry) (seat : 
   pub begins : StartsWith history.seen seat.seen
   pub own : calls_by seat.number history.seen ≡ mine
 
--- The calls of a session's history are recorded in that of the device. The numbers of the session and the seats are
--- those of the threads' devices, before the first call and after the last one.
-pub record IsRecorded (honest : Type 0) (session : ℕ → ℕ) (old new : ℕ → Sight device.State Entry) (start : Start) (made : List Made) (s : State) : Type 0 where
+-- The calls of a session's history are recorded in that of the device, as calls of this very session: they have the number
+-- under which it was opened. The seats are those of the threads' devices, before the first call and after the last one.
+pub record IsRecorded (honest : Type 0) (old new : ℕ → Sight device.State Entry) (start : Start) (made : List Made) (s : State) : Type 0 where
   pub history : IsHistory start (history_of made) s
   -- each call of the device has its entry there, with its reply
   pub events : List Recorded
   pub are : map (λ r. r.made) events ≡ made
-  pub each : All (λ r. AreAllEntries (session r.made.thread) (calls_in r.made.event) r.entries) events
+  pub each : All (λ r. AreAllEntries start.session (calls_in r.made.event) r.entries) events
   -- under the seat of each thread the one legal history that the seat has seen then has these, in their order, after
   -- what the seat had called before, and no others
   pub adds : (thread : ℕ) → Adds (AdmitsOn honest) (old thread) (entries_by thread events) (new thread)
@@ -120,10 +120,10 @@ pub record IsRecorded (honest : Type 0) (session : ℕ → ℕ) (old new : ℕ �
   -- responses
   pub sent : Weaves (replied (exchange_history (history_of made))) (pieces (map (λ r. r.turn) turns)) (taken Sync (history_of made) ++ s.sync)
 
--- So it is for each session whose threads have such devices.
+-- So it is for each session whose threads have devices of its number.
 abbrev pub EachResponseIsOfTheHistory : {X : Type 0} → Type 0 → (X → Call → X → Type 0) → (X → ℕ) → (X → Sight device.State Entry) → Type 0
-EachResponseIsOfTheHistory {X} honest does session seat = (start : Start) (first last : ℕ → X) (made : List Made) (s : State) → IsOpening start → IsMadeOn does start first made s last
-    → IsRecorded honest (λ thread. session (first thread)) (λ thread. seat (first thread)) (λ thread. seat (last thread)) start made s
+EachResponseIsOfTheHistory {X} honest does session seat = (start : Start) (first last : ℕ → X) (made : List Made) (s : State) → IsOpening start → IsMadeOn does session start first made s last
+    → IsRecorded honest (λ thread. seat (first thread)) (λ thread. seat (last thread)) start made s
 
 -- ---- a message with one response, as `*OPC?`
 

@@ -1,20 +1,28 @@
 // The threads of a session that execute: the reader of its synchronous connection, and its worker.
 use crate::serving::Serving;
 use psu_session_io::{Body, Closed, Closing, Drained, Incoming, StepDevice, Synchronous, Token};
-use std::io;
 use std::rt::Clock;
 use std::sync::Wait;
 use std::time::{Duration, Instant};
+use std::{io, thread};
 
 /// How long a connection may take to its first message, and a session to its second connection, in seconds.
 pub const SILENCE: u64 = 10;
 
-/// How many units are tried at most after a session's end: as many as a transmission has bytes, so one without macros
-/// is executed.
-const LAST_UNITS: u32 = 65_536;
+/// How many reads are made at most after the end of a connection.
+const LAST_READS: u32 = 1_024;
 
-/// How many reads are made at most after a session's end. A connection that is shut ends before.
-const LAST_READS: u32 = 65_536;
+/// How long the last pause is between two of these reads where nothing has come, in milliseconds. The first is one
+/// millisecond, and each other one twice as long as the one before it.
+const LAST_PAUSE: u64 = 8;
+
+// What came.
+#[derive(Drop)]
+enum Came {
+    Bytes,
+    Nothing,
+    End,
+}
 
 /// The reader of the synchronous connection.
 #[derive(Drop)]
@@ -51,45 +59,53 @@ impl<'s, 'v, D: StepDevice> SyncReader<'s, 'v, D> {
         self.serving.read(rt, token, self.space.as_mut_slice())
     }
 
-    // Receives what the session was sent before its end and is not read yet. Both connections are shut.
-    fn read_last<R: Wait + Clock>(&mut self, rt: &R, token: &mut Token<Synchronous>) {
-        for _ in 0..LAST_READS {
-            let space = self.space.as_mut_slice();
-            let closing = match self.serving.connection.read(token, space) {
-                Incoming::Bytes(bytes) => {
-                    let now = self.serving.server.now(rt);
-                    let mut session = self.serving.served.session.lock(rt, token);
-                    session.receive_last(now, bytes, &mut self.serving.device)
-                }
-                Incoming::Nothing => continue,
-                Incoming::End(ended) => {
-                    let closing = self.serving.end(rt, token, ended);
-                    let _closed = self.serving.served.close(rt, closing);
-                    return;
-                }
-            };
+    // Receives what comes next of what the session was sent before a connection ended. Returns what came.
+    fn read_last_once<R: Wait + Clock>(&mut self, rt: &R, token: &mut Token<Synchronous>) -> Came {
+        let space = self.space.as_mut_slice();
+        let (received, came) = match self.serving.connection.read(token, space) {
+            Incoming::Bytes(bytes) => (self.serving.serve_bytes(rt, token, bytes), Came::Bytes),
+            Incoming::Nothing => return Came::Nothing,
+            Incoming::End(ended) => (Err(self.serving.end(rt, token, ended)), Came::End),
+        };
+        if let Err(closing) = received {
             let _closed = self.serving.served.close(rt, closing);
+        }
+        came
+    }
+
+    // Receives what the session was sent before a connection ended and is not read yet: until nothing has come for some
+    // milliseconds, as the system passes on what it holds for the client only once there is room.
+    fn read_last<R: Wait + Clock>(&mut self, rt: &R, token: &mut Token<Synchronous>) {
+        let mut pause = 1;
+        for _ in 0..LAST_READS {
+            match self.read_last_once(rt, token) {
+                Came::Bytes => pause = 1,
+                Came::End => return,
+                Came::Nothing if pause > LAST_PAUSE => return,
+                Came::Nothing => {
+                    thread::sleep(rt, Duration::from_millis(pause));
+                    pause *= 2;
+                }
+            }
         }
     }
 
-    // Executes a part of what the session was sent before its end.
+    // Executes a part of what the session was sent before a connection ended.
     fn drain_once<R: Wait>(&mut self, rt: &R, token: &mut Token<Synchronous>) -> Drained {
         let mut session = self.serving.served.session.lock(rt, token);
         session.drain(&mut self.serving.device)
     }
 
-    // Executes what the session was sent before its end, as far as nothing of it has to wait.
+    // Executes what the session was sent before a connection ended, as far as nothing of it has to wait. The session counts
+    // the units that are tried: it is over once they are as many as may be.
     fn drain<R: Wait>(&mut self, rt: &R, token: &mut Token<Synchronous>) {
-        let mut left = LAST_UNITS;
-        for _ in 0..LAST_UNITS {
+        for _ in rt.forever() {
             match self.drain_once(rt, token) {
-                Drained::More(units) => left = left.saturating_sub(units),
+                Drained::More => {}
                 Drained::AllDone => return,
             }
-            if left == 0 {
-                return;
-            }
         }
+        unreachable!()
     }
 }
 

@@ -1,16 +1,17 @@
 // The flusher: it puts changes on the disk, and fails lock requests whose time is over.
-ghost use Rattle.std.specs.Prelude.{◌≡◌};
+ghost use Rattle.std.specs.Prelude.{◌≡◌, ◌<◌, None, Some};
 ghost use Rattle.psu_exec.specs.Calls.{JobEnd, Taken};
 ghost use Rattle.psu_bench.specs.Rounds.{IsEndOf};
 ghost use Rattle.psu_bench.specs.Callers.{GivesBack, MakesRound};
+ghost use Rattle.psu_bench.specs.Reopenings.{after_job};
+ghost use Rattle.psu_bench.specs.Seconds.{left_of_second};
 
 use crate::reporter::Reporter;
 use crate::server::Server;
-use psu_bench::{Caller, Condition, Gate, Others};
+use psu_bench::{Caller, Condition, Gate, Others, Reopenings};
 use psu_disk::Disk;
 use psu_exec::{End, Finished, Job, NoJob};
 use std::alloc::Global;
-use std::io::Eprint;
 use std::rt::Clock;
 use std::sync::Wait;
 
@@ -27,6 +28,9 @@ enum Round {
     Worked,
     /// The disk failed, or memory was refused.
     Failed,
+    /// No job was taken, since the store broke within a second of its reopening. One may be taken after so many
+    /// milliseconds.
+    PutOff(u64),
 }
 
 impl Round {
@@ -37,40 +41,63 @@ impl Round {
             End::Unstarted(_, _, _) | End::Broken(_) => Round::Failed,
         }
     }
+
+    // How long the flusher sleeps at most after the round, in milliseconds; none where it sleeps until there is
+    // something to do.
+    fn limit(self) -> Option<u64> {
+        match self {
+            Round::Idle => None,
+            Round::Worked => Some(0),
+            Round::Failed => Some(PAUSE),
+            Round::PutOff(left) => Some(left),
+        }
+    }
 }
 
 /// The flusher.
 #[derive(Drop)]
-pub struct Flusher<'a, D: Disk, G: Gate, E: Eprint> {
-    pub server: &'a Server,
-    pub caller: Caller<D, G>,
-    /// Where the condition of the store is reported to an operator.
-    pub errors: E,
-    /// What was reported last; that it works where nothing was.
-    pub reported: Condition,
+pub struct Flusher<'a, D: Disk, G: Gate> {
+    server: &'a Server,
+    caller: Caller<D, G>,
+    // The condition that the store has shown last; that it works where it has shown none.
+    condition: Condition,
+    // When a store that broke is opened again.
+    reopenings: Reopenings,
 }
 
-impl<'a, D: Disk + Drop, G: Gate + Drop, E: Eprint> Flusher<'a, D, G, E> {
+impl<'a, D: Disk + Drop, G: Gate + Drop> Flusher<'a, D, G> {
     ghost use Rattle.psu_exec.specs.Jobs.{finished_of};
 
-    // Reports the condition of the store, where that has changed.
-    fn report(&mut self, condition: Condition)
-        ensures reported { self.new.reported ≡ condition }
-        ensures same { self.new.caller ≡ self.old.caller }
+    /// Returns the flusher of a server that has just powered on.
+    pub fn new(server: &'a Server, caller: Caller<D, G>) -> Flusher<'a, D, G>
+        ensures { result.caller ≡ caller }
     {
-        let has_changed = condition != self.reported;
-        self.reported = condition;
-        if has_changed {
-            let _ = eprintln!(self.errors; "psu: {condition}");
+        Flusher {
+            server,
+            caller,
+            condition: Condition::Works,
+            reopenings: Reopenings::new(),
         }
     }
 
-    // Reports what a job's end shows of the store.
-    fn report_end(&mut self, end: &End<D, Global>)
-        ensures { self.new.caller ≡ self.old.caller }
+    // Notes the condition of the store, for an operator too.
+    fn note<R: Wait>(&mut self, rt: &R, condition: Condition)
+        ensures condition { self.new.condition ≡ condition }
+        ensures caller { self.new.caller ≡ self.old.caller }
+        ensures reopenings { self.new.reopenings ≡ self.old.reopenings }
     {
+        self.condition = condition;
+        self.server.operator.note(rt, condition);
+    }
+
+    // Notes what a job's end, at this time, shows of the store.
+    fn note_end<R: Wait>(&mut self, rt: &R, end: &End<D, Global>, now: u64)
+        ensures caller { self.new.caller ≡ self.old.caller }
+        ensures reopenings { self.new.reopenings ≡ after_job self.old.reopenings end.now now }
+    {
+        self.reopenings.note(end, now);
         if let Some(condition) = Condition::shown_by(end) {
-            self.report(condition);
+            self.note(rt, condition);
         }
     }
 
@@ -80,26 +107,27 @@ impl<'a, D: Disk + Drop, G: Gate + Drop, E: Eprint> Flusher<'a, D, G, E> {
     {
         let mut visit = self.server.device.visit();
         let caused = self.caller.give_back(rt, &mut visit, finished);
-        caused.report(&Reporter {
+        caused.report(&mut Reporter {
             rt,
             server: self.server,
         });
     }
 
     // Runs a job outside the device's turn, and gives its result back.
-    fn run<R: Wait>(&mut self, rt: &R, job: Job<D, Global>) -> Round
+    fn run<R: Wait + Clock>(&mut self, rt: &R, job: Job<D, Global>) -> Round
         ensures call { (end : JobEnd) × IsEndOf job end × GivesBack D.honest end self.old.caller.seat self.new.caller.seat }
     {
         self.caller.before_run();
         let finished = job.run();
         let round = Round::of(finished.end());
-        self.report_end(finished.end());
+        let now = self.server.now(rt);
+        self.note_end(rt, finished.end(), now);
         self.give_back(rt, finished);
         round
     }
 
     // One round: a job is taken and run. Where there is none after the store broke, a reopening has found all stored.
-    fn round<R: Wait>(&mut self, rt: &R) -> Round
+    fn round<R: Wait + Clock>(&mut self, rt: &R) -> Round
         ensures calls { (taken : Taken) × MakesRound D.Disk taken self.old.caller.seat self.new.caller.seat }
     {
         match self.caller.take(rt, &mut self.server.device.visit()) {
@@ -107,12 +135,24 @@ impl<'a, D: Disk + Drop, G: Gate + Drop, E: Eprint> Flusher<'a, D, G, E> {
             Err(NoJob::Memory) => Round::Failed,
             Err(NoJob::Out) => Round::Idle,
             Err(NoJob::Nothing) => {
-                if self.reported == Condition::Broken {
-                    self.report(Condition::Works);
+                if self.condition == Condition::Broken {
+                    self.note(rt, Condition::Works);
                 }
                 Round::Idle
             }
         }
+    }
+
+    // Makes a round, unless at this time the store broke less than a second ago, within a second of its reopening.
+    fn round_at<R: Wait + Clock>(&mut self, rt: &R, now: u64) -> Round
+        ensures put_off { 0 < left_of_second self.old.reopenings.broken now → self.new.caller ≡ self.old.caller }
+        ensures calls { left_of_second self.old.reopenings.broken now ≡ 0 → (taken : Taken) × MakesRound D.Disk taken self.old.caller.seat self.new.caller.seat }
+    {
+        let left = self.reopenings.time_left(now);
+        if left > 0 {
+            return Round::PutOff(left);
+        }
+        self.round(rt)
     }
 
     // Milliseconds to the next deadline of a lock request.
@@ -133,30 +173,35 @@ impl<'a, D: Disk + Drop, G: Gate + Drop, E: Eprint> Flusher<'a, D, G, E> {
             rt,
             server: self.server,
         };
-        let registry = others.lock_registry();
+        let mut registry = others.lock_registry();
         let now = self.server.now(rt);
         let mut visit = self.server.device.visit();
-        self.caller.tick(rt, &mut visit, now).pass_on(&registry);
+        self.caller.tick(rt, &mut visit, now).pass_on(&mut registry);
         drop(registry);
         self.left(rt)
     }
 
+    // Sleeps until the bell rings, or for as long as the last round and the next deadline of a lock request allow.
+    fn sleep<R: Wait + Clock>(&self, rt: &R, round: Option<u64>, lock: Option<u64>) {
+        match (round, lock) {
+            (Some(0), _) => {}
+            (None, None) => self.server.bell.sleep(rt),
+            (Some(left), None) | (None, Some(left)) => self
+                .server
+                .bell
+                .sleep_at_most(rt, left.max(1)),
+            (Some(one), Some(other)) => self.server.bell.sleep_at_most(rt, one.min(other).max(1)),
+        }
+    }
+
     /// Flushes and ticks for ever. No clause speaks of a loop that doesn't return: what holds each round to what
-    /// `round` ensures is that a job, and a finished one, can't be let go (`psu_exec::Job`).
+    /// `round_at` ensures is that a job, and a finished one, can't be let go (`psu_exec::Job`).
     pub fn flush<R: Wait + Clock>(&mut self, rt: &R) {
         for _ in rt.forever() {
-            let round = self.round(rt);
-            let left = self.tick(rt);
-            match (round, left) {
-                (Round::Worked, _) => {}
-                (Round::Idle, None) => self.server.bell.sleep(rt),
-                (Round::Idle, Some(left)) => self.server.bell.sleep_at_most(rt, left.max(1)),
-                (Round::Failed, None) => self.server.bell.sleep_at_most(rt, PAUSE),
-                (Round::Failed, Some(left)) => self
-                    .server
-                    .bell
-                    .sleep_at_most(rt, left.clamp(1, PAUSE)),
-            }
+            let now = self.server.now(rt);
+            let round = self.round_at(rt, now);
+            let lock = self.tick(rt);
+            self.sleep(rt, round.limit(), lock);
         }
     }
 }

@@ -1,4 +1,8 @@
 // The sessions that are open.
+ghost use Rattle.std.specs.Prelude.{◌≡◌, IfSome};
+ghost use Rattle.std.specs.Arc.{arc_value};
+ghost use Rattle.psu_threads.specs.Registered.{AreAtTheirPlaces};
+
 use psu_exec::{Grant, Session, Sessions};
 use psu_session_io::ServedSession;
 use std::sync::{Arc, Wait};
@@ -9,6 +13,7 @@ use std::sync::{Arc, Wait};
 #[derive(Drop)]
 pub struct Registry {
     sessions: [Option<Arc<ServedSession>>; 16],
+    ghost own: { AreAtTheirPlaces sessions },
 }
 
 impl Registry {
@@ -22,13 +27,21 @@ impl Registry {
         }
     }
 
-    /// Registers the session of a number, or removes it.
-    pub fn put(&mut self, number: Session, session: Option<Arc<ServedSession>>) {
-        self.sessions[number.place()] = session;
+    /// Registers a session under its number.
+    pub fn put(&mut self, session: Arc<ServedSession>) {
+        let place = usize::from(session.number.number()) - 1;
+        self.sessions[place] = Some(session);
+    }
+
+    /// Removes the session of a number.
+    pub fn remove(&mut self, number: Session) {
+        self.sessions[number.place()] = None;
     }
 
     /// Returns the session of a number.
-    pub fn session(&self, number: Session) -> Option<Arc<ServedSession>> {
+    pub fn session(&self, number: Session) -> Option<Arc<ServedSession>>
+        ensures { IfSome result (λ session. (arc_value session).number ≡ number) }
+    {
         Some(Arc::try_clone(self.sessions[number.place()].as_ref()?).ok()?)
     }
 

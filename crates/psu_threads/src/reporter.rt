@@ -1,4 +1,5 @@
-// The other threads of the server, for a thread that calls the device.
+// The other threads of the server, for a thread that calls the device. This is trusted and not proved: that each method
+// posts the notices that it is named for.
 use crate::registry::Registry;
 use crate::server::Server;
 use psu_bench::{LockedRegistry, Others};
@@ -31,6 +32,8 @@ impl<'a, 'r, R: Wait> Reporter<'a, 'r, R> {
 impl<'a, 'r, R: Wait> Others for Reporter<'a, 'r, R> {
     type Registry = HeldRegistry<'a, 'r, R>;
 
+    ghost tells = { λ _ _ _. Unit {0} };
+
     fn lock_registry(&self) -> HeldRegistry<'a, 'r, R> {
         HeldRegistry {
             rt: self.rt,
@@ -38,7 +41,7 @@ impl<'a, 'r, R: Wait> Others for Reporter<'a, 'r, R> {
         }
     }
 
-    fn service_requested(&self, sessions: &Sessions) {
+    fn service_requested(&mut self, sessions: &Sessions) {
         if !sessions.is_empty() {
             self.server
                 .registry
@@ -47,11 +50,11 @@ impl<'a, 'r, R: Wait> Others for Reporter<'a, 'r, R> {
         }
     }
 
-    fn wake_flusher(&self) {
+    fn wake_flusher(&mut self) {
         self.server.bell.ring(self.rt);
     }
 
-    fn job_ended(&self, over: &Sessions) {
+    fn job_ended(&mut self, over: &Sessions) {
         let registry = self.server.registry.lock(self.rt);
         registry.wake(self.rt, over);
         registry.wake_late(self.rt);
@@ -59,7 +62,9 @@ impl<'a, 'r, R: Wait> Others for Reporter<'a, 'r, R> {
 }
 
 impl<'a, 'r, R: Wait> LockedRegistry for HeldRegistry<'a, 'r, R> {
-    fn pass_on(&self, sessions: &Sessions, grant: Grant) {
+    ghost passes = { λ _ _ _. Unit {0} };
+
+    fn pass_on(&mut self, sessions: &Sessions, grant: Grant) {
         self.registry.grant(self.rt, sessions, grant);
         if grant == Grant::Granted {
             self.registry.wake_all(self.rt);

@@ -13,16 +13,10 @@ pub struct AsyncReader<'s, 'v, D> {
 
 impl<'s, 'v, D: StepDevice> Body<Asynchronous> for AsyncReader<'s, 'v, D> {
     fn serve<R: Wait + Clock>(&mut self, rt: &R, token: &mut Token<Asynchronous>) -> Closed {
-        let mut is_new = true;
         for _ in rt.forever() {
             let space = self.space.as_mut_slice();
             if let Err(closing) = self.serving.read(rt, token, space) {
                 return self.serving.served.close(rt, closing);
-            }
-            // Its first message joined it to the session: a service request of before is to be sent.
-            if is_new {
-                self.serving.served.mailbox.request_service(rt);
-                is_new = false;
             }
         }
         unreachable!()

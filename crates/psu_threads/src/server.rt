@@ -1,5 +1,6 @@
 // What all threads of a server share.
 use crate::bell::Bell;
+use crate::operator::Operator;
 use crate::registry::Registry;
 use psu_bench::DeviceLock;
 use std::alloc::Global;
@@ -7,13 +8,15 @@ use std::rt::Clock;
 use std::sync::{Mutex, Wait};
 use std::time::Instant;
 
-/// What all threads of a server share: the open sessions, the lock of the device, and what the flusher waits on.
+/// What all threads of a server share: the open sessions, the lock of the device, what the flusher waits on,
+/// and what an operator is to read.
 #[derive(Drop)]
 pub struct Server {
     pub alloc: Global,
     pub registry: Mutex<Registry>,
     pub device: DeviceLock,
     pub bell: Bell,
+    pub operator: Operator,
     started: Instant,
 }
 
@@ -25,6 +28,7 @@ impl Server {
             registry: Mutex::new(Registry::new()),
             device: DeviceLock::new(),
             bell: Bell::new(),
+            operator: Operator::new(),
             started,
         }
     }

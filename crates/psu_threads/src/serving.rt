@@ -67,10 +67,13 @@ impl<'s, 'v, S: Continue, D: StepDevice> Serving<'s, 'v, S, D> {
                     pending,
                     &mut self.device,
                 ),
-                Received::Full(again) => bytes = again,
+                Received::Full(returned) => {
+                    drop(session);
+                    bytes = returned;
+                    self.served.mailbox.wait_for_room(rt, token);
+                }
+                Received::Again(returned) => bytes = returned,
             }
-            drop(session);
-            self.served.mailbox.wait_for_room(rt, token);
         }
         unreachable!()
     }
@@ -102,6 +105,18 @@ impl<'s, 'v, S: Continue, D: StepDevice> Serving<'s, 'v, S, D> {
         unreachable!()
     }
 
+    /// Receives bytes, and serves the session up to where it waits.
+    pub fn serve_bytes<R: Wait + Clock>(
+        &mut self,
+        rt: &R,
+        token: &mut Token<S>,
+        bytes: BytesRead<'_, S>,
+    ) -> Result<(), Closing> {
+        let remainder = self.receive(rt, token, bytes)?;
+        let _due = self.finish(rt, token, remainder)?;
+        Ok(())
+    }
+
     /// Reads what comes next on the connection, passes it to the session, and serves it. Its end ends the session.
     pub fn read<R: Wait + Clock>(
         &mut self,
@@ -109,13 +124,11 @@ impl<'s, 'v, S: Continue, D: StepDevice> Serving<'s, 'v, S, D> {
         token: &mut Token<S>,
         space: &mut [u8],
     ) -> Result<(), Closing> {
-        let remainder = match self.connection.read(token, space) {
-            Incoming::Bytes(bytes) => self.receive(rt, token, bytes)?,
-            Incoming::Nothing => return Ok(()),
-            Incoming::End(ended) => return Err(self.end(rt, token, ended)),
-        };
-        let _due = self.finish(rt, token, remainder)?;
-        Ok(())
+        match self.connection.read(token, space) {
+            Incoming::Bytes(bytes) => self.serve_bytes(rt, token, bytes),
+            Incoming::Nothing => self.served.session.lock(rt, token).look(),
+            Incoming::End(ended) => Err(self.end(rt, token, ended)),
+        }
     }
 
     /// Passes a notice to the session, and serves it. Returns when the first release that waits is due.

@@ -5,7 +5,7 @@ use crate::executing::{SyncReader, Worker};
 use crate::responding::{AsyncReader, Notifier};
 use crate::server::Server;
 use crate::serving::Serving;
-use crate::shared_device::SharedDevice;
+use crate::shared_device::{OfSession, SharedDevice};
 use psu_bench::{Caller, Gate};
 use psu_disk::Disk;
 use psu_session_io::{Asynchronous, Connection, Link, ServedSession, StepDevice, Synchronous, run};
@@ -41,17 +41,20 @@ pub enum Role {
     Notify(Arc<Link>),
 }
 
-// What a thread of a session works with.
+// What a thread of a session works with: the device is that of the session's number.
 #[derive(Drop)]
-struct SessionThread<'s, 'v, D> {
+struct SessionThread<'s, 'v, D: OfSession> {
     server: &'s Server,
     served: &'v ServedSession,
     device: D,
+    ghost own: { D.session device ≡ served.now.number },
 }
 
-impl<'s, 'v, D: StepDevice + Drop> SessionThread<'s, 'v, D> {
+impl<'s, 'v, D: StepDevice + OfSession + Drop> SessionThread<'s, 'v, D> {
     // Returns what the thread works with on a connection.
-    fn on<S>(self, connection: Connection<S>) -> Serving<'s, 'v, S, D> {
+    fn on<S>(self, connection: Connection<S>) -> Serving<'s, 'v, S, D>
+        ensures { D.session result.device ≡ result.served.now.number }
+    {
         let SessionThread {
             server,
             served,

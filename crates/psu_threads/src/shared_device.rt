@@ -66,20 +66,20 @@ impl<'s, 'c, 'r, R: Wait + Clock, D: Disk + Drop, G: Gate + Drop> Device
             .caller
             .execute(self.rt, &mut self.visit, self.session, request);
         if let Some(caused) = caused {
-            caused.report(&self.others());
+            caused.report(&mut self.others());
         }
         outcome
     }
 
     fn settle(&mut self) -> Outcome<Global> {
         let (outcome, caused) = self.caller.settle(self.rt, &mut self.visit, self.session);
-        caused.report(&self.others());
+        caused.report(&mut self.others());
         outcome
     }
 
     fn sent(&mut self) {
         let caused = self.caller.sent(self.rt, &mut self.visit, self.session);
-        caused.report(&self.others());
+        caused.report(&mut self.others());
     }
 
     fn deliver(&mut self) {
@@ -104,7 +104,7 @@ impl<'s, 'c, 'r, R: Wait + Clock, D: Disk + Drop, G: Gate + Drop> Device
             .caller
             .lock(self.rt, &mut self.visit, self.session, kind, now, timeout);
         drop(registry);
-        caused.report(&self.others());
+        caused.report(&mut self.others());
         if let Ok(Grant::Granted) = reply {
             self.others().wake(self.session);
         }
@@ -114,9 +114,9 @@ impl<'s, 'c, 'r, R: Wait + Clock, D: Disk + Drop, G: Gate + Drop> Device
     // The registry is locked until the granted locks are passed on: before another lock is requested or released.
     fn release(&mut self) -> Result<Freed, LockRefusal> {
         let others = self.others();
-        let registry = others.lock_registry();
+        let mut registry = others.lock_registry();
         let (freed, granted) = self.caller.release(self.rt, &mut self.visit, self.session)?;
-        granted.pass_on(&registry);
+        granted.pass_on(&mut registry);
         Ok(freed)
     }
 
@@ -128,6 +128,18 @@ impl<'s, 'c, 'r, R: Wait + Clock, D: Disk + Drop, G: Gate + Drop> Device
         self.caller.clear(self.rt, &mut self.visit, self.session);
         self.others().wake(self.session);
     }
+}
+
+/// The device of a session, whose number contracts see.
+pub trait OfSession {
+    ghost use Rattle.std.specs.Prelude.{ℕ};
+
+    /// The session's number.
+    ghost session: { Self → ℕ };
+}
+
+impl<'s, 'c, 'r, R: Wait, D: Disk, G: Gate> OfSession for SharedDevice<'s, 'c, 'r, R, D, G> {
+    ghost session = { λ d. d.session };
 }
 
 impl<'s, 'c, 'r, R: Wait + Clock, D: Disk + Drop, G: Gate + Drop> StepDevice

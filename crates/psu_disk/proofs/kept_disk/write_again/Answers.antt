@@ -1,4 +1,4 @@
-use Rattle.std.proofs.Common.{◌≤◌, ◌∙◌, ap, arith}
+use Rattle.std.proofs.Common.{◌∙◌, ap, arith}
 use Rattle.psu_disk.specs.Disk.{DiskState, is_unsynced}
 use Rattle.psu_disk.proofs.Covered.{covered_at}
 use Rattle.psu_disk.proofs.Rewriting.{ends_inside}

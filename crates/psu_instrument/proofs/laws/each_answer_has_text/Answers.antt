@@ -1,5 +1,5 @@
-use Rattle.psu_instrument.proofs.Speaking.{each_answer_has_text}
+use Rattle.psu_instrument.proofs.Speaking.{each_answer_is_quiet}
 use Rattle.psu_instrument.proofs.laws.each_answer_has_text.Goals as goal
 
 pub returns : goal.returns
-returns c = each_answer_has_text
+returns c s command text new is = (each_answer_is_quiet s command text new is).0

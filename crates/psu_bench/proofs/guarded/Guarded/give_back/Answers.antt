@@ -1,4 +1,4 @@
-use Rattle.std.proofs.Common.{inl, sym, subst}
+use Rattle.std.proofs.Common.{inl, subst}
 use Rattle.psu_exec.specs.Calls.Entry.{GaveBack}
 use Rattle.psu_exec.specs.Jobs.{finished_disk, finished_of}
 use Rattle.psu_exec.specs.Shown.{over_of}

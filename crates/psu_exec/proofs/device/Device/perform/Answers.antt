@@ -4,10 +4,10 @@ use Rattle.psu_tree.specs.Nonvolatile.{is_nonvolatile}
 use Rattle.psu_instrument.specs.Commands.{meaning}
 use Rattle.psu_instrument.specs.Meaning.{Completes, Keeps}
 use Rattle.psu_instrument.proofs.Kept.{kept_are_nonvolatile}
-use Rattle.psu_exec.specs.Device.{Error, State, MayMean, after_meant, here, is_late, refused, wait_of, with_instrument, Answer, Done}
+use Rattle.psu_exec.specs.Device.{Error, State, MayMean, after_meant, here, is_late, refused, with_instrument, Answer, Done}
 use Rattle.psu_exec.specs.Shown.{outcome_of}
 use Rattle.psu_exec.proofs.Acting.{completes, failed, keeps, seen, then_done, answers_so, done_so}
-use Rattle.psu_exec.proofs.Staying.{room_for}
+use Rattle.psu_exec.proofs.Staying.{not_full}
 use Rattle.psu_exec.proofs.device.Device.perform.Goals as goal
 
 pub returns-in-Err-clause-may : goal.returns-in-Err-clause-may
@@ -27,8 +27,8 @@ accept-requires g c =
     let s = seen c.self.view_is in
     let kept = keeps _ (meaning (here s c.args.session) c.args.command.now) _ _ c.in-Ok-Keep.change (rw (c.place.ensures.place, c.in-Ok-Keep.field-0-is) at c.in-Ok-Keep.ensures) in
     let nonvolatile = kept_are_nonvolatile (here s c.args.session) c.args.command.now _ kept.0 in
-    let late = subst (λ (t : State). is_late (wait_of t.flush c.args.session) t.flush.unflushed (is_nonvolatile c.args.command.now (is_none t.flush.contents.enables)) ≡ false) (sym c.self.view_is) c.requires.late in
-    record { room = room_for (wait_of s.flush c.args.session) c.self.inside.unflushed (rw nonvolatile at late) }
+    let late = subst (λ (t : State). is_late t.flush c.args.session (is_nonvolatile c.args.command.now (is_none t.flush.contents.enables)) ≡ false) (sym c.self.view_is) c.requires.late in
+    record { room = not_full s.flush c.args.session (rw nonvolatile at late) }
 
 pub returns-in-Ok-Keep-clause-may : goal.returns-in-Ok-Keep-clause-may
 returns-in-Ok-Keep-clause-may g c =

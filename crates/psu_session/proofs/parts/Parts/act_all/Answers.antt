@@ -1,4 +1,4 @@
-use Rattle.std.proofs.Common.{◌≡◌, List, [], ◌∷◌, arith, refl, subst, sym, flat_map}
+use Rattle.std.proofs.Common.{◌≡◌, ◌∙◌, List, [], ◌∷◌, arith, refl, subst, sym, flat_map}
 use Rattle.std.proofs.lemmas.Grind.{common_steps}
 use Rattle.psu_hislip.specs.Action.{act, acts}
 use Rattle.psu_hislip.specs.declared.action.Action.{Action}
@@ -6,7 +6,10 @@ use Rattle.psu_session.specs.Step.{Each, release_in, works_in}
 use Rattle.psu_session.specs.Shown.{state_of}
 use Rattle.psu_session.specs.State.{State}
 use Rattle.psu_session.proofs.Serving.{DoneSoFar, begins, ends, steps}
-use Rattle.psu_session.proofs.Stopping.{if_err, not_called, stops_at}
+use Rattle.psu_messages.proofs.Going.{passed_on}
+use Rattle.psu_session.specs.Stopping.{IsQueueCause}
+use Rattle.psu_session.specs.declared.phase.EndCause.{EndCause}
+use Rattle.psu_session.proofs.Stopping.{if_err, not_called, queue_cause, stops_at}
 use Rattle.psu_session.proofs.parts.Parts.act_all.Goals as goal
 
 pub loop-action-init : goal.loop-action-init
@@ -85,3 +88,17 @@ returns-in_err-make_room-clause-capacity g c = omega (arith, c.loop-action.invar
 
 pub returns-in_err-act-clause-capacity : goal.returns-in_err-act-clause-capacity
 returns-in_err-act-clause-capacity g c = omega (arith, c.loop-action.invariant.capacity, c.make_room.ensures.capacity, c.act.ensures.capacity)
+
+pub returns-in_err-act-clause-cause : goal.returns-in_err-act-clause-cause
+returns-in_err-act-clause-cause g c =
+    let does = g.D.Device.does in
+    let all = acts c.args.actions.items in
+    let asks = release_in c.args.now c.args.number in
+    let s = state_of c.args.self.now in
+    let here = subst (λ (left : List (Action _)). DoneSoFar does (Each s.lock_waits all) (Each (state_of c.loop-action.self).lock_waits (acts left)) (flat_map works_in all) (flat_map works_in (acts left)) (flat_map asks all) (flat_map asks (acts left)) s c.args.device.now (state_of c.loop-action.self) c.loop-action.device)
+    c.in-Some.ensures.steps c.loop-action.invariant.done in
+    let one = act c.in-Some.action in
+    let rest = acts c.next.new.self in
+    passed_on c.from_residual-in_err-act.result c.in_err-act.field-0.0 (λ (cause : EndCause). IsQueueCause cause (flat_map works_in all) (flat_map asks all) s) c.from_residual-in_err-act.ensures.1
+    (queue_cause c.in_err-act.field-0.0 s (state_of c.make_room.new.self) here.given (works_in one) (flat_map works_in rest) (flat_map works_in all) here.released (asks one) (flat_map asks rest) (flat_map asks all) here.done
+    (c.make_room.ensures.same ∙ here.then) here.all_works here.all_requested c.in_err-act.ensures.cause)

@@ -11,7 +11,7 @@ pub returns-in-Nothing-clause-done : goal.returns-in-Nothing-clause-done
 returns-in-Nothing-clause-done g c =
     let s = state_of c.args.self.now in
     let t = state_of c.begin_next.new.self in
-    idle g.D.Device.does s t c.args.device.now (subst (λ (next : Next). IsNextWork s next t) c.in-Nothing.is c.begin_next.ensures.next)
+    idle g.D.Device.does c.args.left.now s t c.args.device.now (subst (λ (next : Next). IsNextWork s next t) c.in-Nothing.is c.begin_next.ensures.next)
 
 pub returns-in-Transmission-clause-done : goal.returns-in-Transmission-clause-done
 returns-in-Transmission-clause-done g c =
@@ -31,5 +31,5 @@ pub returns-in-Release-clause-done : goal.returns-in-Release-clause-done
 returns-in-Release-clause-done g c =
     let s = state_of c.args.self.now in
     let t = state_of c.begin_next.new.self in
-    freed g.D.Device.does s t (state_of c.release_lock.new.self) c.args.device.now c.release_lock.new.device
+    freed g.D.Device.does c.args.left.now s t (state_of c.release_lock.new.self) c.args.device.now c.release_lock.new.device
     (subst (λ (next : Next). IsNextWork s next t) c.in-Release.is c.begin_next.ensures.next) c.release_lock.ensures.frees

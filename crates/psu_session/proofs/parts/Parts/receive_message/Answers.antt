@@ -1,15 +1,19 @@
-use Rattle.std.proofs.Common.{◌≡◌, ◌∙◌, ℕ, Bool, Option, List, ◌∷◌, ap, refl, subst, flat_map}
+use Rattle.std.proofs.Common.{◌≡◌, ◌∙◌, ℕ, Bool, Option, List, [], ◌∷◌, ap, refl, subst, sym, arith, flat_map}
 use Rattle.psu_hislip.specs.Action.{Act, acts}
 use Rattle.psu_hislip.specs.Core.{Core, outcome_of}
 use Rattle.psu_hislip.specs.Stream.{received}
 use Rattle.psu_hislip.specs.declared.action.Action.{Action}
 use Rattle.psu_session.specs.Numbers.{clears, number_on, parameter}
 use Rattle.psu_session.specs.Events.{Came}
-use Rattle.psu_session.specs.Step.{Each, arrived, release_in, works_in}
+use Rattle.psu_session.specs.Step.{Each, IsMessageReceived, arrived, release_in, works_in}
 use Rattle.psu_session.specs.Shown.{state_of}
 use Rattle.psu_session.specs.State.{State, added, numbered, settled, with_core}
 use Rattle.psu_session.proofs.Serving.{on_ok}
-use Rattle.psu_session.proofs.Stopping.{all_called, if_err, not_passed, passed}
+use Rattle.psu_messages.proofs.Going.{passed_on}
+use Rattle.psu_session.specs.Stopping.{IsQueueCause, StopsIn}
+use Rattle.psu_session.specs.declared.phase.EndCause.{EndCause}
+use Rattle.psu_session.specs.declared.phase.EndCause.TheVariants.{Memory}
+use Rattle.psu_session.proofs.Stopping.{all_called, cause_later, not_passed, on_cause, passed}
 use Rattle.psu_session.proofs.parts.Parts.receive_message.Goals as goal
 
 pub returns-clause-done : goal.returns-clause-done
@@ -41,18 +45,27 @@ returns-clause-done g c =
 
 pub returns-in_err-actions-clause-stopped : goal.returns-in_err-actions-clause-stopped
 returns-in_err-actions-clause-stopped g c =
-    if_err c.from_residual.result (not_passed g.D.Device.does c.args.now c.args.side (received c.args.message) (state_of c.args.self.now) c.args.device.now)
+    passed_on c.from_residual.result Memory (λ (cause : EndCause). StopsIn g.D.Device.does (IsMessageReceived c.args.now c.args.side (received c.args.message)) cause (state_of c.args.self.now) c.args.device.now c.args.device.now) c.from_residual.ensures.1
+    (not_passed g.D.Device.does c.args.now c.args.side (received c.args.message) (state_of c.args.self.now) c.args.device.now)
 
 pub returns-in_err-act_all-clause-stopped : goal.returns-in_err-act_all-clause-stopped
 returns-in_err-act_all-clause-stopped g c =
-    if_err c.from_residual-in_err-act_all.result
-    (passed g.D.Device.does c.args.now c.args.side (received c.args.message) (state_of c.args.self.now) (acts c.in_ok-actions.actions.items) c.args.device.now c.act_all.new.device c.in_ok-actions.ensures.done c.in_err-act_all.ensures.stopped)
+    let s = state_of c.args.self.now in
+    let message = received c.args.message in
+    let requested = acts c.in_ok-actions.actions.items in
+    let cause = c.in_err-act_all.field-0.0 in
+    let queued = subst (λ (z : ℕ). IsQueueCause cause (flat_map works_in requested) (flat_map (release_in c.args.now z) requested) (with_core s c.on.new.self)) c.parameter-id.ensures c.in_err-act_all.ensures.cause in
+    let asks = flat_map (release_in c.args.now (parameter message)) requested in
+    passed_on c.from_residual-in_err-act_all.result cause (λ (cause : EndCause). StopsIn g.D.Device.does (IsMessageReceived c.args.now c.args.side message) cause s c.args.device.now c.act_all.new.device) c.from_residual-in_err-act_all.ensures.1
+    (passed g.D.Device.does c.args.now c.args.side cause message s requested c.args.device.now c.act_all.new.device c.in_ok-actions.ensures.done c.in_err-act_all.ensures.stopped
+    (cause_later cause (added (with_core s c.on.new.self) (flat_map works_in requested) asks []) (added s (flat_map works_in requested) asks []) (omega arith, omega arith) queued))
 
 pub returns-clause-stopped : goal.returns-clause-stopped
 returns-clause-stopped g c =
     let s = state_of c.args.self.now in
+    let message = received c.args.message in
     let requested = acts c.in_ok-actions.actions.items in
     let did = c.in_ok-act_all.ensures.done in
-    if_err c.settle.result
-    (passed g.D.Device.does c.args.now c.args.side (received c.args.message) s requested c.args.device.now c.act_all.new.device c.in_ok-actions.ensures.done
-    (all_called g.D.Device.does (Each s.lock_waits requested) c.args.device.now c.act_all.new.device did.done did.are did.runs))
+    on_cause c.settle.result (λ cause is. subst (λ (z : EndCause). StopsIn g.D.Device.does (IsMessageReceived c.args.now c.args.side message) z s c.args.device.now c.act_all.new.device) (sym is)
+    (passed g.D.Device.does c.args.now c.args.side Memory message s requested c.args.device.now c.act_all.new.device c.in_ok-actions.ensures.done
+    (all_called g.D.Device.does (Each s.lock_waits requested) c.args.device.now c.act_all.new.device did.done did.are did.runs) tt)) c.settle.ensures.cause

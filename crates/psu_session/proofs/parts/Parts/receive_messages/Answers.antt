@@ -4,7 +4,11 @@ use Rattle.psu_hislip.specs.Stream.{received}
 use Rattle.psu_hislip.specs.declared.message.Message.{Message}
 use Rattle.psu_session.specs.Shown.{state_of}
 use Rattle.psu_session.proofs.ReceivedMessages.{Receiving, begins, received_all, receives}
-use Rattle.psu_session.proofs.Stopping.{if_err, message_stops}
+use Rattle.psu_messages.proofs.Going.{passed_on}
+use Rattle.psu_session.specs.Step.{EachReceived}
+use Rattle.psu_session.specs.Stopping.{StopsIn}
+use Rattle.psu_session.specs.declared.phase.EndCause.{EndCause}
+use Rattle.psu_session.proofs.Stopping.{message_stops}
 use Rattle.psu_session.proofs.parts.Parts.receive_messages.Goals as goal
 
 pub loop-message-init : goal.loop-message-init
@@ -39,8 +43,8 @@ returns-in_err-receive_message-clause-stopped g c =
     let s = state_of c.args.self.now in
     let here = subst (λ (left : List (Message _)). Receiving does c.args.now c.args.side all (map received left) s c.args.device.now (state_of c.loop-message.self) c.loop-message.device)
     c.in-Some.ensures.items c.loop-message.invariant.done in
-    if_err c.from_residual.result
-    (message_stops does c.args.now c.args.side all (received c.in-Some.message) (map received c.pop_front.new.self.items) s c.args.device.now (state_of c.loop-message.self) c.loop-message.device c.receive_message.new.device here
+    passed_on c.from_residual.result c.in_err-receive_message.field-0.0 (λ (cause : EndCause). StopsIn does (EachReceived c.args.now c.args.side all) cause s c.args.device.now c.receive_message.new.device) c.from_residual.ensures.1
+    (message_stops does c.args.now c.args.side c.in_err-receive_message.field-0.0 all (received c.in-Some.message) (map received c.pop_front.new.self.items) s c.args.device.now (state_of c.loop-message.self) c.loop-message.device c.receive_message.new.device here
     c.in_err-receive_message.ensures.stopped)
 
 pub returns-clause-capacity : goal.returns-clause-capacity

@@ -1,21 +1,18 @@
-use Rattle.std.proofs.Common.{ap, inl, subst, sym, ◌∙◌}
-use Rattle.psu_session.specs.State.{Shown, State}
+use Rattle.std.proofs.Common.{◌<◌, inl, subst, sym}
+use Rattle.psu_session.specs.Phases.{units_in}
 use Rattle.psu_session.specs.Step.{IsReachable}
 use Rattle.psu_session.specs.Step.Step.{Notifies}
-use Rattle.psu_session.proofs.Stepping.{holds_on_ok, one_step, reached_by}
-use Rattle.psu_session.proofs.Rooms.{goes_on, holds_on_err, room_kept}
+use Rattle.psu_session.specs.declared.phase.Phase.{Phase}
+use Rattle.psu_session.proofs.Stepping.{one_step, reached_by}
+use Rattle.psu_session.proofs.Rooms.{not_over, still}
 use Rattle.psu_session.proofs.session.Session.lock_granted.Goals as goal
 
 pub invariant_of-self : goal.invariant_of-self
-invariant_of-self g c =
+invariant_of-self g c = λ e.
     let m = c.lock_granted.ensures.done in
-    λ e. (
-      subst IsReachable (sym c.make_reply_room.ensures.same) (reached_by (c.self.invariant c.if-self.false).0 (one_step (Notifies (record { is = inl (c.args.grant, m.are); then = m.then })))),
-      holds_on_ok c.make_reply_room.result (sym c.is_err-self-inside.ensures.value ∙ e) c.make_reply_room.ensures.room,
+    let was = c.self.invariant (not_over c.self.inside.phase c.in_default.not-Over) in
+    let kept = still c.lock_granted.new.self c.keep-self-inside.new.self c.self.inside.phase c.keep-self-inside.result c.keep-self-inside.ensures.phase e in (
+      subst IsReachable (sym c.keep-self-inside.ensures.same) (reached_by was.0 (one_step (Notifies (record { is = inl (c.args.grant, m.are); then = m.then })))),
+      kept.1,
+      subst (λ (z : Phase). 0 < units_in z) (sym kept.0) was.2,
     )
-
-pub returns-clause-continues : goal.returns-clause-continues
-returns-clause-continues g c = λ not_over same.
-    goes_on c.is_err-self-inside.result (λ over. holds_on_err c.make_reply_room.result (sym c.is_err-self-inside.ensures.value ∙ over) c.make_reply_room.ensures.needed
-    (room_kept c.self.inside.parts c.lock_granted.new.self c.lock_granted.ensures.capacity
-    (sym (ap (λ (z : State). z.async) c.make_reply_room.ensures.same) ∙ same ∙ sym (ap (λ (z : Shown). z.state.async) c.self.view_is)) (c.self.invariant c.if-self.false).1))

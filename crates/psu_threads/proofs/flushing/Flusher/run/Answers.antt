@@ -8,6 +8,6 @@ returns g c = record {
   call = (
     finished_of c.run-finished.result.end,
     (c.run-finished.result.end, c.run-finished.ensures.end, refl),
-    subst (λ caller. GivesBack g.D.Disk.honest (finished_of c.run-finished.result.end) caller.seat c.give_back.new.self.caller.seat) c.report_end.ensures c.give_back.ensures.call,
+    subst (λ caller. GivesBack g.D.Disk.honest (finished_of c.run-finished.result.end) caller.seat c.give_back.new.self.caller.seat) c.note_end.ensures.caller c.give_back.ensures.call,
   );
 }

@@ -1,0 +1,23 @@
+-- The lines on the store's condition that an operator reads. At most one is due a second. It names the latest condition, and
+-- says how often the condition has changed since the line before it.
+use Rattle.std.specs.Prelude.{◌≡◌, ◌<◌, ◌+◌, ◌-◌, ◌^◌, ℕ, min, Some}
+use Rattle.psu_bench.specs.declared.condition.Condition.{Condition}
+use Rattle.psu_bench.specs.declared.condition_lines.ConditionLines.{ConditionLines}
+use Rattle.psu_bench.specs.declared.condition_line.ConditionLine.{ConditionLine}
+use Rattle.psu_bench.specs.Seconds.{left_of_second}
+
+-- after a change to this condition
+abbrev pub with_change : ConditionLines → Condition → ConditionLines
+with_change lines condition = record lines { latest = condition; changes = min (lines.changes + 1) (2 ^ 64 - 1) }
+
+-- A line is due: the condition has changed since the last one, which was at least a second ago.
+abbrev pub IsDue : ConditionLines → ℕ → Type 0
+IsDue lines now = (0 < lines.changes) × (left_of_second lines.last now ≡ 0)
+
+-- the line that is due
+abbrev pub due_line : ConditionLines → ConditionLine
+due_line lines = record { condition = lines.latest; changes = lines.changes }
+
+-- after a line at this time
+abbrev pub with_line : ConditionLines → ℕ → ConditionLines
+with_line lines now = record lines { changes = 0; last = Some now }

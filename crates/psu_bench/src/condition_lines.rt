@@ -1,0 +1,79 @@
+// The lines on the store's condition that are due.
+ghost use Rattle.std.specs.Prelude.{◌≡◌, ◌≢◌, ◌↔◌, ◌<◌, IfNone, IfSome, IsSome, IsTrue, None};
+ghost use Rattle.psu_bench.specs.Lines.{IsDue, due_line, with_change, with_line};
+ghost use Rattle.psu_bench.specs.Seconds.{left_of_second};
+ghost use Rattle.psu_bench.specs.declared.condition.Condition.TheVariants.{Works};
+
+use crate::second::left_of_second;
+use crate::{Condition, ConditionLine};
+
+/// Which lines on the store's condition an operator is to read, and when: at most one a second, with how often the
+/// condition has changed since the line before.
+#[derive(Clone, Copy, Debug, PartialEq, Eq)]
+pub struct ConditionLines {
+    // The condition at present.
+    latest: Condition,
+    // How often it has changed since the last line.
+    changes: u64,
+    // When the last line was due, in milliseconds.
+    last: Option<u64>,
+}
+
+impl ConditionLines {
+    /// Returns that the store works, and that no line was due yet.
+    pub fn new() -> ConditionLines
+        ensures latest { result.latest ≡ Works }
+        ensures changes { result.changes ≡ 0 }
+        ensures last { result.last ≡ None }
+    {
+        ConditionLines {
+            latest: Condition::Works,
+            changes: 0,
+            last: None,
+        }
+    }
+
+    /// Notes the condition that the store has now.
+    pub fn note(&mut self, condition: Condition)
+        ensures same { condition ≡ self.old.latest → self.new ≡ self.old }
+        ensures change { condition ≢ self.old.latest → self.new ≡ with_change self.old condition }
+    {
+        if condition != self.latest {
+            self.latest = condition;
+            self.changes = self.changes.saturating_add(1);
+        }
+    }
+
+    /// Whether the condition has changed since the last line.
+    pub fn has_changed(&self) -> bool
+        ensures { IsTrue result ↔ (0 < self.now.changes) }
+    {
+        self.changes > 0
+    }
+
+    /// Returns how many milliseconds it is until a line may be due.
+    pub fn time_left(&self, now: u64) -> u64
+        ensures { result ≡ left_of_second self.now.last now }
+    {
+        left_of_second(self.last, now)
+    }
+
+    /// Returns the line that is due at this time, if one is. It is then the last one.
+    pub fn line_due(&mut self, now: u64) -> Option<ConditionLine>
+        ensures due { IsSome result ↔ IsDue self.old now }
+        ensures line { IfSome result (λ line. line ≡ due_line self.old) }
+        ensures last { IfSome result (λ _. self.new ≡ with_line self.old now) }
+        ensures none { IfNone result (self.new ≡ self.old) }
+    {
+        if !self.has_changed() || self.time_left(now) > 0 {
+            return None;
+        }
+        let line = ConditionLine {
+            condition: self.latest,
+            changes: self.changes,
+        };
+        self.changes = 0;
+        self.last = Some(now);
+        Some(line)
+    }
+}

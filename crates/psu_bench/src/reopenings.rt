@@ -1,0 +1,67 @@
+// When a store that broke is opened again.
+ghost use Rattle.std.specs.Prelude.{◌≡◌, None};
+ghost use Rattle.psu_bench.specs.Reopenings.{after_job, broken, reopened};
+ghost use Rattle.psu_bench.specs.Seconds.{left_of_second};
+
+use crate::second::left_of_second;
+use psu_disk::Disk;
+use psu_exec::End;
+use std::alloc::Allocator;
+
+/// When a store that broke is opened again: one that broke within a second of its reopening a second after that, and
+/// any other at once.
+#[derive(Clone, Copy, Debug, PartialEq, Eq)]
+pub struct Reopenings {
+    // When the store was opened again, in milliseconds.
+    reopened: Option<u64>,
+    // When it broke within a second of that.
+    broken: Option<u64>,
+}
+
+impl Reopenings {
+    /// Returns that the store was never opened again.
+    pub fn new() -> Reopenings
+        ensures reopened { result.reopened ≡ None }
+        ensures broken { result.broken ≡ None }
+    {
+        Reopenings {
+            reopened: None,
+            broken: None,
+        }
+    }
+
+    /// Notes that the store was opened again at this time.
+    pub fn note_reopening(&mut self, now: u64)
+        ensures { self.new ≡ reopened self.old now }
+    {
+        self.reopened = Some(now);
+    }
+
+    /// Notes that the store broke at this time, or that a reopening failed.
+    pub fn note_break(&mut self, now: u64)
+        ensures { self.new ≡ broken self.old now }
+    {
+        if left_of_second(self.reopened, now) > 0 {
+            self.broken = Some(now);
+        }
+    }
+
+    /// Notes how a job ended at this time.
+    pub fn note<D: Disk, A: Allocator + Copy>(&mut self, end: &End<D, A>, now: u64)
+        ensures { self.new ≡ after_job self.old end.now now }
+    {
+        match end {
+            End::Reopened(_) => self.note_reopening(now),
+            End::Broken(_) => self.note_break(now),
+            End::Stored(_) | End::Unstarted(_, _, _) => {}
+        }
+    }
+
+    /// Returns how many milliseconds it is until a job may be run: 0 where the store did not break within a second of
+    /// its reopening, or that was a second ago.
+    pub fn time_left(&self, now: u64) -> u64
+        ensures { result ≡ left_of_second self.now.broken now }
+    {
+        left_of_second(self.broken, now)
+    }
+}

@@ -1,0 +1,92 @@
+-- A unit that is answered causes nothing.
+use Rattle.std.proofs.Common.{◌≡◌, inl, inr, ℕ, suc, Bool, true, false, cond, not, ◌==◌, ◌&&◌, ◌||◌, Option, Some, None, Result, Ok, Err, List, [], ◌∷◌, ◌++◌, refl, sym, ap, ap₂}
+use Rattle.psu_lex.specs.declared.scpi_error.ScpiError.{ScpiError}
+use Rattle.psu_lex.specs.declared.scpi_error.ScpiError.TheVariants.{StorageFault}
+use Rattle.psu_nv.specs.Commands as nv
+use Rattle.psu_nv.specs.Commands.{Command as Change}
+use Rattle.psu_nv.specs.Contents.{fits}
+use Rattle.psu_status.specs.Registers.{rising}
+use Rattle.psu_status.specs.Status.{Reported, enabled}
+use Rattle.psu_tree.specs.declared.command.Command.{Command}
+use Rattle.psu_tree.specs.declared.unit_request.Request.{Request}
+use Rattle.psu_instrument.specs.Commands.{meaning}
+use Rattle.psu_instrument.specs.Meaning.{Meaning, Refuses, Does, Keeps, Completes}
+use Rattle.psu_instrument.specs.Speaking.{RaisesNone}
+use Rattle.psu_instrument.specs.declared.completion.Completion.TheVariants as completion
+use Rattle.psu_instrument.proofs.Rising.{none_rises}
+use Rattle.psu_instrument.proofs.Speaking.{each_answer_is_quiet}
+use Rattle.psu_exec.specs.Calls.{Executed, Allows, has_work}
+use Rattle.psu_exec.specs.Device.{Reply, Answer, Error, State, Flush, MayAnswer, MayMean, Runs, Expands, Means, answer_call, answer_completing, answer_meant, change_in, counted, done_by, here, is_broken, is_whole, kept_unless, meant}
+use Rattle.psu_exec.specs.Quiet.{EachAnswerIsQuiet, IsQuiet}
+use Rattle.psu_exec.specs.ServiceStates.{each_rqs_updated, falls, named, released, requested, rises, rqs_updated, unreported_from}
+use Rattle.psu_exec.specs.declared.service_state.ServiceState.{ServiceState}
+
+-- ---- service requests
+
+unreported_at : (rise fall : Bool) (m : ServiceState) → rise ≡ false → (cond rise (requested m) (cond fall (released m) m)).unreported ≡ m.unreported
+unreported_at true fall m e = cc
+unreported_at false true m e = refl
+unreported_at false false m e = refl
+
+unreported_one : (old new : ℕ) (m : ServiceState) → rising old new ≡ 0 → (rqs_updated old new m).unreported ≡ m.unreported
+unreported_one old new m none = unreported_at (rises old new) (falls old new) m (ap (λ (n : ℕ). not (n == 0)) none)
+
+-- where no enabled bit rises, no session requests service
+unreported_same : (old new : Reported) → RaisesNone old new → (n : ℕ) (os : List Bool) (ms : List ServiceState) → unreported_from n os (each_rqs_updated old new ms ms) ≡ unreported_from n os ms
+unreported_same old new none n [] ms = refl
+unreported_same old new none n (o ∷ os) [] = refl
+unreported_same old new none n (o ∷ os) (m ∷ ms) =
+    ap₂ (λ (b : Bool) (rest : List ℕ). named n (o && b) ++ rest) (unreported_one (enabled old m.available) (enabled new m.available) m (none m.available)) (unreported_same old new none (suc n) os ms)
+
+-- ---- what a unit that is answered leaves
+
+-- its meaning raises no bit and asks for no change
+record Leaves (s : State) (m : Meaning) : Type 0 where
+  pub bits : RaisesNone s.volatile.instrument.status (done_by s.flush.unflushed s.volatile.instrument m).status
+  pub none : change_in m ≡ None
+
+never_kept : (found : Option ScpiError) (whole fitting : Bool) (text : List ℕ) → Answer text ≡ kept_unless found whole fitting → ⊥
+never_kept (Some error) whole fitting text e = cc
+never_kept None false fitting text e = cc
+never_kept None true false text e = cc
+never_kept None true true text e = cc
+
+-- the reply to `*OPC` has no text
+never_event : (broken : Bool) (text : List ℕ) → Answer text ≡ cond broken (Error StorageFault) Reply.Done → ⊥
+never_event true text e = cc
+never_event false text e = cc
+
+leaves : (s : State) (session : ℕ) (command : Command) (text : List ℕ) (m : Meaning) → meaning (here s session) command ≡ m → Answer text ≡ answer_meant s.flush m → Leaves s m
+leaves s session command text (Refuses error) is e = absurd (let bad = e in cc)
+leaves s session command text (Does None new) is e = absurd (let bad = e in cc)
+leaves s session command text (Does (Some given) new) is e = record { bits = (each_answer_is_quiet (here s session) command given new is).1; none = refl }
+leaves s session command text (Keeps change) is e = absurd (never_kept (nv.refused s.flush.contents change) (is_whole s.flush.store) (fits s.flush.limit (nv.apply s.flush.contents change)) text e)
+leaves s session command text (Completes completion.Query) is e = record { bits = none_rises s.volatile.instrument.status; none = refl }
+leaves s session command text (Completes completion.Wait) is e = record { bits = none_rises s.volatile.instrument.status; none = refl }
+leaves s session command text (Completes completion.Event) is e = absurd (never_event (not (is_whole s.flush.store)) text e)
+
+means : (s : State) (session : ℕ) (reading : Result Command ScpiError) (text : List ℕ) → MayMean s.flush (meant (here s session) reading) (Answer text) → Leaves s (meant (here s session) reading)
+means s session reading text (inr short) = absurd (let bad = short.0 in cc)
+means s session (Err error) text (inl e) = absurd (let bad = e in cc)
+means s session (Ok command) text (inl e) = leaves s session command text (meaning (here s session) command) refl e
+
+never_call : (given : Result (List ℕ) ScpiError) (text : List ℕ) → Answer text ≡ answer_call given → ⊥
+never_call (Ok expansion) text e = cc
+never_call (Err error) text e = cc
+
+answered : (s : State) (session : ℕ) (request : Request) (text : List ℕ) → MayAnswer s session request (Answer text) → Leaves s (meant (here s session) request.reading)
+answered s session request text (Runs run (Expands body is call)) = absurd (never_call call.given text call.is)
+answered s session request text (Runs run (Means none may)) = means s session request.reading text may
+
+work_same : (f : Flush) (change : Option Change) → change ≡ None → (not f.out && (is_broken f.store || (is_whole f.store && not (counted change f.unflushed == 0)))) ≡ has_work f
+work_same f change none = ap (λ (c : Option Change). not f.out && (is_broken f.store || (is_whole f.store && not (counted c f.unflushed == 0)))) none
+
+pub answer_is_quiet : EachAnswerIsQuiet
+answer_is_quiet s new session request text a =
+    let m = meant (here s session) request.reading in
+    let left = answered s session request text a.1.may in
+    record {
+      bits = rw a.1.is left.bits;
+      requests = rw a.1.is (unreported_same s.volatile.instrument.status (done_by s.flush.unflushed s.volatile.instrument m).status left.bits 1 s.volatile.open_now s.volatile.service_states);
+      work = rw a.1.is (work_same s.flush (change_in m) left.none);
+    }

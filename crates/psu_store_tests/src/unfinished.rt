@@ -1,0 +1,93 @@
+// Files that can't be locked or finished, over a scripted file system: which are refused, and what is left.
+use crate::holds::holds;
+use crate::scripted_files::{Script, ScriptedFile, ScriptedFiles, Step};
+use psu_disk::{KeptDisk, LockAnswer, OpenFault, SystemFile};
+use std::alloc::Global;
+use std::process::Abort;
+
+// The result of opening or making a disk.
+type Outcome = Result<KeptDisk<SystemFile<ScriptedFile>, Global>, OpenFault>;
+
+const NAME: &str = "a.image";
+
+// Checks why a file that is there is not opened, or that it is; it stays in any case.
+fn opens(rt: &impl Abort, alloc: Global, lock: LockAnswer, cause: Option<OpenFault>) {
+    let script = Script { lock, fails: None };
+    let mut files = ScriptedFiles {
+        script,
+        is_there: true,
+    };
+    let opened: Outcome = KeptDisk::of(&mut files, alloc, NAME);
+    holds(rt, opened.err() == cause, &script);
+    holds(rt, files.is_there, &script);
+}
+
+// Checks why a file is not made where none is, or that it is; it is there exactly if it is made.
+fn makes(rt: &impl Abort, alloc: Global, script: Script, cause: Option<OpenFault>) {
+    let mut files = ScriptedFiles {
+        script,
+        is_there: false,
+    };
+    let made: Outcome = KeptDisk::make(&mut files, alloc, NAME, 5_000);
+    holds(rt, made.err() == cause, &script);
+    holds(rt, files.is_there == cause.is_none(), &script);
+}
+
+// Checks both.
+fn is_locked(rt: &impl Abort, alloc: Global, lock: LockAnswer, cause: Option<OpenFault>) {
+    opens(rt, alloc, lock, cause);
+    makes(rt, alloc, Script { lock, fails: None }, cause);
+}
+
+// Only a file system that has no locks is served without one.
+#[test]
+fn a_file_that_is_not_locked_is_refused(rt: HostRuntime) {
+    is_locked(&rt, rt.alloc(), LockAnswer::Locked, None);
+    is_locked(&rt, rt.alloc(), LockAnswer::NoLocks, None);
+    is_locked(
+        &rt,
+        rt.alloc(),
+        LockAnswer::InUse,
+        Some(OpenFault::NotOpened),
+    );
+    is_locked(
+        &rt,
+        rt.alloc(),
+        LockAnswer::Failed,
+        Some(OpenFault::NotOpened),
+    );
+}
+
+// Checks that no file is left where this call fails.
+fn leaves_nothing(rt: &impl Abort, alloc: Global, step: Step) {
+    let script = Script {
+        lock: LockAnswer::Locked,
+        fails: Some(step),
+    };
+    makes(rt, alloc, script, Some(OpenFault::NotOpened));
+}
+
+#[test]
+fn a_file_that_is_not_finished_is_removed(rt: HostRuntime) {
+    leaves_nothing(&rt, rt.alloc(), Step::Write);
+    leaves_nothing(&rt, rt.alloc(), Step::SyncAll);
+    leaves_nothing(&rt, rt.alloc(), Step::SyncFolder);
+}
+
+// Checks that a file that is there is not made, and stays.
+fn stays(rt: &impl Abort, alloc: Global, lock: LockAnswer) {
+    let script = Script { lock, fails: None };
+    let mut files = ScriptedFiles {
+        script,
+        is_there: true,
+    };
+    let made: Outcome = KeptDisk::make(&mut files, alloc, NAME, 5_000);
+    holds(rt, made.err() == Some(OpenFault::Exists), &script);
+    holds(rt, files.is_there, &script);
+}
+
+#[test]
+fn a_file_that_is_there_stays(rt: HostRuntime) {
+    stays(&rt, rt.alloc(), LockAnswer::Locked);
+    stays(&rt, rt.alloc(), LockAnswer::InUse);
+}

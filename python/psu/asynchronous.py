@@ -1,0 +1,200 @@
+"""The asynchronous connection of a session: one thread reads it, and hands out responses and service requests."""
+from __future__ import annotations
+
+import collections
+import sys
+import threading
+import time
+from typing import Callable, Deque, List, NoReturn, Optional
+
+from .channel import Channel
+from .errors import FatalError, HislipError, ProtocolError, ServerError, Timeout
+from .frames import Frame, MessageType, name_of
+
+WITHOUT_END = 3600.0  # seconds that the reading thread waits at once
+JOIN_TIMEOUT = 1.0  # seconds
+MOST_REQUESTS = 1000  # service requests that are kept; of more the oldest are forgotten
+
+Callback = Callable[[int], object]
+
+
+class Ask:
+    """A message that waits for its response."""
+
+    def __init__(self, response_kind: int) -> None:
+        self.response_kind = response_kind
+        self.response: Optional[Frame] = None
+        self.fault: Optional[HislipError] = None
+
+    def is_answered(self) -> bool:
+        return self.response is not None or self.fault is not None
+
+    def result(self) -> Frame:
+        if self.fault is not None:
+            raise self.fault
+        assert self.response is not None
+        return self.response
+
+
+class Asynchronous:
+    """The asynchronous connection. All methods may be called by any thread.
+
+    `end_all` is called with the reason where the session can't continue.
+    """
+
+    def __init__(self, channel: Channel, end_all: Callable[[str], None]) -> None:
+        self._channel = channel
+        self._end_all = end_all
+        self._changed = threading.Condition()
+        self._sending = threading.Lock()
+        self._asks: List[Ask] = []  # in the order in which they were sent
+        self._requests: Deque[int] = collections.deque(maxlen=MOST_REQUESTS)
+        self._callback: Optional[Callback] = None
+        self._fault: Optional[HislipError] = None  # an Error that came while nothing was asked
+        self._end: Optional[Exception] = None
+        self._reader = threading.Thread(target=self._read, name="psu-asynchronous", daemon=True)
+        self._notifier = threading.Thread(target=self._notify, name="psu-service-requests", daemon=True)
+        self._reader.start()
+
+    # Called by the threads of the program
+
+    def ask(self, frame: Frame, response_kind: int, send_timeout: float, timeout: float) -> Frame:
+        """Sends a message and returns the response to it."""
+        ask = Ask(response_kind)
+        deadline = time.monotonic() + timeout
+        self._send(frame, ask, send_timeout)
+        with self._changed:
+            while not ask.is_answered():
+                if self._end is not None:
+                    self._raise_end()
+                if not self._changed.wait(deadline - time.monotonic()) and not ask.is_answered():
+                    break
+        if not ask.is_answered():
+            # The response, if it came later, would be taken for the response to the next message.
+            name = name_of(frame.kind)
+            self._end_all(f"the server did not answer {name} in time")
+            raise Timeout(f"no response to {name} in time; this client closed the session")
+        return ask.result()
+
+    def wait_for_request(self, timeout: float) -> int:
+        """Returns the status byte of the oldest service request."""
+        deadline = time.monotonic() + timeout
+        with self._changed:
+            if self._callback is not None:
+                raise HislipError("a callback takes the service requests: on_service_request(None) first")
+            while not self._requests:
+                if self._end is not None:
+                    self._raise_end()
+                self._raise_fault()
+                remaining = deadline - time.monotonic()
+                if remaining <= 0:
+                    raise Timeout("no service request in time")
+                self._changed.wait(remaining)
+            return self._requests.popleft()
+
+    def set_callback(self, callback: Optional[Callback]) -> None:
+        with self._changed:
+            self._callback = callback
+            if callback is not None and self._notifier.ident is None:
+                self._notifier.start()
+            self._changed.notify_all()
+
+    def join(self) -> None:
+        """Waits for the threads to end, once the connection has ended. A callback that takes long is not waited for."""
+        for thread in (self._reader, self._notifier):
+            if thread.ident is not None and thread is not threading.current_thread():
+                thread.join(JOIN_TIMEOUT)
+
+    def _send(self, frame: Frame, ask: Ask, timeout: float) -> None:
+        # The list of asks is in the order of sending, since responses of a kind come in that order.
+        with self._sending:
+            with self._changed:
+                if self._end is not None:
+                    self._raise_end()
+                self._raise_fault()
+                self._asks.append(ask)
+            try:
+                self._channel.send(frame, timeout)
+            except Timeout:
+                self._end_all("the server did not read")
+                raise
+
+    def _raise_fault(self) -> None:
+        fault, self._fault = self._fault, None
+        if fault is not None:
+            raise fault
+
+    def _raise_end(self) -> NoReturn:
+        assert self._end is not None
+        # Each raise has an exception of its own: several threads may raise it.
+        end = self._end
+        if isinstance(end, FatalError):
+            raise FatalError(end.code, end.text)
+        raise type(end)(*end.args)
+
+    # The reading thread
+
+    def _read(self) -> None:
+        try:
+            while True:
+                self._take(self._receive())
+        except (HislipError, OSError) as end:
+            with self._changed:
+                self._end = end
+                self._changed.notify_all()
+            if isinstance(end, (FatalError, ProtocolError)):
+                self._end_all(str(end))
+
+    def _receive(self) -> Frame:
+        while True:
+            try:
+                return self._channel.receive(WITHOUT_END)
+            except Timeout:
+                continue
+
+    def _take(self, frame: Frame) -> None:
+        text = frame.payload.decode("utf-8", "replace")
+        if frame.kind == MessageType.FATAL_ERROR:
+            raise FatalError(frame.control, text)
+        with self._changed:
+            if frame.kind == MessageType.ASYNC_SERVICE_REQUEST:
+                self._requests.append(frame.control)
+            elif frame.kind == MessageType.ERROR:
+                self._take_error(ServerError(frame.control, text))
+            elif frame.kind != MessageType.ASYNC_INTERRUPTED:
+                self._take_response(frame)
+            self._changed.notify_all()
+
+    def _take_response(self, frame: Frame) -> None:
+        for ask in self._asks:
+            if ask.response_kind == frame.kind:
+                self._asks.remove(ask)
+                ask.response = frame
+                return
+        raise ProtocolError(f"{name_of(frame.kind)} on the asynchronous connection, to which nothing was asked")
+
+    def _take_error(self, error: ServerError) -> None:
+        # A lock request may wait for long, so the error is that of another message where there is one.
+        ordered = sorted(self._asks, key=lambda it: it.response_kind == MessageType.ASYNC_LOCK_RESPONSE)
+        if ordered:
+            self._asks.remove(ordered[0])
+            ordered[0].fault = error
+        else:
+            self._fault = error
+
+    # The thread that calls the callback
+
+    def _notify(self) -> None:
+        while True:
+            with self._changed:
+                while not (self._requests and self._callback):
+                    if self._end is not None:
+                        return
+                    self._changed.wait()
+                callback, status = self._callback, self._requests.popleft()
+            try:
+                callback(status)
+            except BaseException:
+                # As for any thread: it is reported, and the next request is handed out all the same.
+                threading.excepthook(threading.ExceptHookArgs((*sys.exc_info(), threading.current_thread())))
+            del callback

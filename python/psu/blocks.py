@@ -1,0 +1,38 @@
+"""Texts of messages: blocks, bytes of a text, and entries of the error queue."""
+from __future__ import annotations
+
+from .errors import ProtocolError, ScpiError
+
+
+def encoded(text: str) -> bytes:
+    # Bytes of a command line that are not UTF-8 are sent as they were typed.
+    return text.encode("utf-8", "surrogateescape")
+
+
+def definite_block(data: bytes) -> bytes:
+    """Returns a block with its length, as `#15hello`."""
+    length = str(len(data))
+    return f"#{len(length)}{length}".encode() + data
+
+
+def block_content(response: bytes) -> bytes:
+    """Returns the bytes of the definite-length block that a response begins with."""
+    if len(response) < 2 or response[:1] != b"#" or not response[1:2].isdigit():
+        raise ProtocolError("the response is not a block")
+    begin = 2 + int(response[1:2])
+    digits = response[2:begin] or b"0"
+    if not digits.isdigit():
+        raise ProtocolError("the length of the block is no number")
+    end = begin + int(digits)
+    if end > len(response):
+        raise ProtocolError("the block is shorter than its length says")
+    return response[begin:end]
+
+
+def error_of(response: str) -> ScpiError:
+    """Returns the error of a response to SYST:ERR?, as `-113,"Undefined header"`."""
+    number, _, text = response.partition(",")
+    try:
+        return ScpiError(int(number), text.strip().strip('"'))
+    except ValueError:
+        raise ProtocolError(f"no error of a queue: {response!r}") from None

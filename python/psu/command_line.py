@@ -1,0 +1,27 @@
+"""What programs share that use one session: the option --port, and one line on standard error where it fails."""
+from __future__ import annotations
+
+import argparse
+from typing import Callable, Optional, Union
+
+from .errors import HislipError
+from .frames import DEFAULT_PORT
+
+Main = Callable[[argparse.Namespace], Optional[Union[int, str]]]
+
+
+def parser(description: Optional[str]) -> argparse.ArgumentParser:
+    """Returns a parser of the command line with the option --port."""
+    form = argparse.RawDescriptionHelpFormatter
+    made = argparse.ArgumentParser(description=description, formatter_class=form)
+    made.add_argument("--port", type=int, default=DEFAULT_PORT, help="the server's port on 127.0.0.1 (4880)")
+    return made
+
+
+def run(main: Main, made: argparse.ArgumentParser) -> Optional[Union[int, str]]:
+    """Calls `main` with the arguments; returns what `sys.exit` takes, a line where the instrument can't be used."""
+    arguments = made.parse_args()
+    try:
+        return main(arguments)
+    except (HislipError, OSError) as fault:
+        return f"{made.prog}: {fault}"

@@ -1,0 +1,92 @@
+"""What the client and the server of this package raise, beside the OSErrors of sockets and files."""
+from __future__ import annotations
+
+import enum
+from typing import List, NamedTuple
+
+from .frames import ERRORS, FATAL_ERRORS
+
+
+class HislipError(Exception):
+    """The base of what a client raises."""
+
+
+class ServerError(HislipError):
+    """The server's Error: it ignored a message, and the session continues."""
+
+    name = "Error"
+    texts = ERRORS
+
+    def __init__(self, code: int, text: str = "") -> None:
+        super().__init__(f"{self.name} {code} of the server: {text or self.texts.get(code, 'unknown')}")
+        self.code = code
+        self.text = text
+
+
+class FatalError(ServerError):
+    """The server's FatalError: the session has ended."""
+
+    name = "FatalError"
+    texts = FATAL_ERRORS
+
+
+class ProtocolError(HislipError):
+    """The server sent what HiSLIP does not allow here."""
+
+
+class Timeout(HislipError, TimeoutError):
+    """Nothing came in time. A sent message may still be executed: `Instrument.clear` discards it and its response."""
+
+
+class ConnectionLost(HislipError, ConnectionError):
+    """The server's end of a connection was closed."""
+
+
+class SessionClosed(HislipError, ConnectionError):
+    """This client closed the session, and the message says why."""
+
+
+class LockRefusal(enum.Enum):
+    """Why a lock or a release was refused. HiSLIP has one code for all; the client knows what its session holds."""
+
+    EXCLUSIVE_HELD = "this session holds the exclusive lock already"
+    SHARED_HELD = "this session holds a shared lock already"
+    REQUEST_WAITS = "another lock request of this session waits"
+    KEY_TOO_LONG = "the key of a shared lock has at most 256 bytes"
+    NONE_HELD = "this session holds no lock"
+    UNKNOWN = "the server does not say why, and this session holds no lock of that kind"
+
+
+class LockError(HislipError):
+    """A lock or a release was refused; `reason` says why. No lock was changed."""
+
+    def __init__(self, reason: LockRefusal) -> None:
+        super().__init__(f"refused: {reason.value}")
+        self.reason = reason
+
+
+class ScpiError(NamedTuple):
+    """An entry of the error queue."""
+
+    number: int
+    text: str
+
+    def __str__(self) -> str:
+        return f'{self.number},"{self.text}"'
+
+
+class InstrumentError(HislipError):
+    """The instrument's errors, the oldest first; `number` is that of the newest, which the last message caused.
+
+    All sessions share the error queue, so with several clients an error may be another's.
+    """
+
+    def __init__(self, errors: List[ScpiError], message: str = "") -> None:
+        listed = "; ".join(map(str, errors))
+        super().__init__(f"{message}: {listed}" if message else listed)
+        self.errors = errors
+        self.number = errors[-1].number
+
+
+class ServerNotStarted(RuntimeError):
+    """The server program did not start; the message has what it wrote to standard error."""

@@ -1,0 +1,222 @@
+"""What psu-relay and psu-socket share: where they listen, and a server on an asyncio loop, alone or in a thread."""
+from __future__ import annotations
+
+import argparse
+import asyncio
+import ipaddress
+import signal
+import socket
+import struct
+import sys
+import threading
+from typing import Callable, NamedTuple, Optional, Set, Tuple, TypeVar
+
+from .frames import DEFAULT_PORT
+
+SERVER_ADDRESS = "127.0.0.1"
+NO_PROTECTION = "--yes-i-know-it-has-no-protection"
+LINGER_SECONDS = 2.0  # the longest wait for tasks at the end of the program
+SEND_SECONDS = 60.0  # the longest wait for the peer of a closed connection to take what was sent to it
+
+
+class Endpoint(NamedTuple):
+    """An IP address and a port."""
+
+    address: str
+    port: int
+
+    def __str__(self) -> str:
+        return f"[{self.address}]:{self.port}" if ":" in self.address else f"{self.address}:{self.port}"
+
+
+def parse_endpoint(text: str) -> Endpoint:
+    """Reads `ADDRESS:PORT`, `[ADDRESS]:PORT` for IPv6, or `PORT` alone, which means 127.0.0.1."""
+    address, _, port = text.rpartition(":")
+    address = address[1:-1] if address.startswith("[") and address.endswith("]") else address
+    try:
+        return Endpoint(str(ipaddress.ip_address(address or SERVER_ADDRESS)), parse_port(port, least=0))
+    except ValueError:
+        raise argparse.ArgumentTypeError(f"{text!r} is not ADDRESS:PORT, as 127.0.0.1:4881") from None
+
+
+def parse_port(text: str, least: int = 1) -> int:
+    port = int(text)
+    if not least <= port <= 65535:
+        raise ValueError(f"{port} is not a port")
+    return port
+
+
+def parse_server_port(text: str) -> int:
+    try:
+        return parse_port(text)
+    except ValueError:
+        raise argparse.ArgumentTypeError(f"{text!r} is not a port") from None
+
+
+def add_listening_options(parser: argparse.ArgumentParser, port: int) -> None:
+    """Adds --listen, --to and the option that allows another address than a loopback one."""
+    default = Endpoint(SERVER_ADDRESS, port)
+    parser.add_argument("--listen", type=parse_endpoint, default=default, metavar="ADDRESS:PORT",
+                        help=f"where clients connect ({default}); port 0 takes a free one")
+    parser.add_argument("--to", type=parse_server_port, default=DEFAULT_PORT, metavar="PORT",
+                        help=f"the server's port on {SERVER_ADDRESS} ({DEFAULT_PORT})")
+    parser.add_argument(NO_PROTECTION, action="store_true", dest="is_open",
+                        help="listen on an address that other machines reach, where anyone commands the instrument")
+
+
+def check_listening(parser: argparse.ArgumentParser, arguments: argparse.Namespace) -> None:
+    """Ends the program where other machines reach the address and that is not allowed."""
+    if not ipaddress.ip_address(arguments.listen.address).is_loopback and not arguments.is_open:
+        parser.error(f"anyone who reaches {arguments.listen} would command the instrument: add {NO_PROTECTION}")
+
+
+Self = TypeVar("Self", bound="LoopServer")
+
+
+class LoopServer:
+    """A TCP server on an asyncio loop. A subclass serves each connection in `serve`.
+
+    In a test: `with Relay(to=4880) as relay: ... relay.port`. The loop runs in a thread of its own then.
+    """
+
+    connections_at_once = 128
+
+    def __init__(self, listen: Endpoint) -> None:
+        self.listen = listen
+        self.port = listen.port
+        self._tasks: Set["asyncio.Task[None]"] = set()
+        self._server: Optional[asyncio.AbstractServer] = None
+        self._thread: Optional[threading.Thread] = None
+        self._loop: Optional[asyncio.AbstractEventLoop] = None
+        self._stopping: Optional[asyncio.Event] = None
+        self._fault: Optional[BaseException] = None
+
+    async def serve(self, reader: asyncio.StreamReader, writer: asyncio.StreamWriter) -> None:
+        """Serves one connection until it ends."""
+        raise NotImplementedError
+
+    def report_full(self) -> None:
+        """Is called where a connection is closed at once since there are too many."""
+
+    async def start(self) -> None:
+        self._server = await asyncio.start_server(self._take, self.listen.address, self.listen.port, backlog=64)
+        self.port = self._server.sockets[0].getsockname()[1]
+
+    async def stop(self) -> None:
+        """Takes no more connections and ends those that are open."""
+        if self._server is not None:
+            self._server.close()
+        for task in self._tasks:
+            task.cancel()
+        if self._tasks:
+            await asyncio.wait(self._tasks, timeout=LINGER_SECONDS)
+        await asyncio.sleep(0)  # closed connections are given up at the loop's next turn
+
+    async def run(self, ready: Callable[[], None], stopping: asyncio.Event) -> None:
+        """Serves until `stopping` is set; calls `ready` once clients can connect."""
+        try:
+            await self.start()
+            ready()
+            await stopping.wait()
+        finally:
+            await self.stop()
+
+    async def _take(self, reader: asyncio.StreamReader, writer: asyncio.StreamWriter) -> None:
+        # asyncio calls this as a task of its own.
+        task = asyncio.current_task()
+        assert task is not None
+        if len(self._tasks) >= self.connections_at_once:
+            self.report_full()
+            writer.close()
+            return
+        self._tasks.add(task)
+        keep_alive(writer)
+        try:
+            await self.serve(reader, writer)
+        except asyncio.CancelledError:
+            pass  # the server stops; asyncio before 3.12 would report this task as failed
+        finally:
+            self._tasks.discard(task)
+            writer.close()
+
+    # In a thread
+
+    def __enter__(self: Self) -> Self:
+        ready = threading.Event()
+        self._thread = threading.Thread(target=self._run_thread, args=(ready,), daemon=True)
+        self._thread.start()
+        ready.wait()
+        if self._fault is not None:
+            raise self._fault
+        return self
+
+    def __exit__(self, *_: object) -> None:
+        if self._thread is not None and self._loop is not None and self._stopping is not None:
+            self._loop.call_soon_threadsafe(self._stopping.set)
+            self._thread.join()
+            self._thread = None
+
+    def _run_thread(self, ready: threading.Event) -> None:
+        async def run() -> None:
+            self._loop, self._stopping = asyncio.get_running_loop(), asyncio.Event()
+            await self.run(ready.set, self._stopping)
+
+        try:
+            asyncio.run(run())
+        except OSError as fault:
+            self._fault = fault
+        finally:
+            ready.set()
+
+
+async def connect(port: int) -> Tuple[asyncio.StreamReader, asyncio.StreamWriter]:
+    """Connects to the server."""
+    return await asyncio.open_connection(SERVER_ADDRESS, port)
+
+
+def keep_alive(writer: asyncio.StreamWriter) -> None:
+    """Has the kernel look after a silent client: one that has vanished without a word ends within two minutes."""
+    connection = writer.get_extra_info("socket")
+    connection.setsockopt(socket.SOL_SOCKET, socket.SO_KEEPALIVE, 1)
+    for name, value in (("TCP_KEEPIDLE", 60), ("TCP_KEEPINTVL", 10), ("TCP_KEEPCNT", 6)):
+        if hasattr(socket, name):
+            connection.setsockopt(socket.IPPROTO_TCP, getattr(socket, name), value)
+
+
+def reset(writer: asyncio.StreamWriter) -> None:
+    """Closes a connection at once, without what waits to be sent; the peer gets a reset."""
+    connection = writer.get_extra_info("socket")
+    if connection is not None:
+        try:
+            connection.setsockopt(socket.SOL_SOCKET, socket.SO_LINGER, struct.pack("ii", 1, 0))
+        except OSError:
+            pass  # it is closed already
+    writer.transport.abort()
+
+
+def run_until_signal(server: LoopServer, ready: Callable[[], None]) -> None:
+    """Serves until SIGTERM, SIGINT or SIGHUP; raises OSError where the port can't be had."""
+    async def run() -> None:
+        stopping = asyncio.Event()
+        for number in (signal.SIGTERM, signal.SIGINT, signal.SIGHUP):
+            asyncio.get_running_loop().add_signal_handler(number, stopping.set)
+        await server.run(ready, stopping)
+
+    asyncio.run(run())
+
+
+def report(program: str, text: str) -> None:
+    """Writes a line on standard error, as psu does; a closed standard error is no fault."""
+    try:
+        print(f"{program}: {text}", file=sys.stderr, flush=True)
+    except (OSError, ValueError):
+        pass
+
+
+def close_soon(writer: asyncio.StreamWriter) -> None:
+    """Closes a connection once what waits is sent, and without it where the peer takes nothing for a minute."""
+    if writer.is_closing():
+        return
+    if writer.transport.get_write_buffer_size() > 0:
+        asyncio.get_running_loop().call_later(SEND_SECONDS, writer.transport.abort)
+    writer.close()

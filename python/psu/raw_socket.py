@@ -1,0 +1,236 @@
+"""psu-socket: raw SCPI sockets before a server of HiSLIP. Each TCP connection is a session.
+
+    psu-socket --listen 127.0.0.1:5025 --to 4880
+
+A line is a message, and a response is a line; docs/BENCH.md says what takes the place of device clear and service
+requests.
+"""
+from __future__ import annotations
+
+import argparse
+import asyncio
+import sys
+from typing import List, Optional, Tuple
+
+from .frames import (
+    FATAL_ERRORS,
+    FIRST_MESSAGE_ID,
+    PROTOCOL_1_0,
+    Frame,
+    FrameError,
+    MessageType,
+    after,
+    control_in_words,
+    name_of,
+    read_frame,
+)
+from .listening import (
+    Endpoint,
+    LoopServer,
+    SERVER_ADDRESS,
+    add_listening_options,
+    check_listening,
+    close_soon,
+    connect,
+    report,
+    run_until_signal,
+)
+from .raw_messages import LARGEST_PART, Divider
+
+PROGRAM = "psu-socket"
+DEFAULT_PORT = 5025
+VENDOR = int.from_bytes(b"PY", "big")  # two letters by which a client names its maker
+BEGIN_SECONDS = 10.0  # the longest wait for the server to begin a session
+# It changes nothing, and its response comes after those to all messages before it.
+LAST_MESSAGE = b"*STB?\n"
+
+Stream = Tuple[asyncio.StreamReader, asyncio.StreamWriter]
+
+
+class Refused(Exception):
+    """The server begins no session, or ended it."""
+
+
+def say(text: str) -> None:
+    report(PROGRAM, text)
+
+
+async def ask(stream: Stream, frame: Frame, response: MessageType) -> Frame:
+    """Sends a message and returns its response; raises Refused where another message or none comes."""
+    reader, writer = stream
+    writer.write(frame.pack())
+    answer = await asyncio.wait_for(read_frame(reader), BEGIN_SECONDS)
+    if answer is None:
+        raise Refused("the server closed the connection")
+    if answer.kind == MessageType.FATAL_ERROR:
+        raise Refused(FATAL_ERRORS.get(answer.control, f"FatalError {answer.control}"))
+    if answer.kind != response:
+        raise Refused(f"{name_of(answer.kind)} instead of {name_of(response)}")
+    return answer
+
+
+class Session:
+    """A session with the server: both its connections."""
+
+    def __init__(self, port: int) -> None:
+        self._port = port
+        self._writers: List[asyncio.StreamWriter] = []
+        self._next_id = FIRST_MESSAGE_ID
+        # RMT-delivered: a response was passed on whole since the last message was sent.
+        self._is_delivered = False
+
+    async def begin(self) -> None:
+        self._sync = await self._connect()
+        initialize = Frame(MessageType.INITIALIZE, 0, PROTOCOL_1_0 << 16 | VENDOR, b"hislip0")
+        begun = await ask(self._sync, initialize, MessageType.INITIALIZE_RESPONSE)
+        self._async = await self._connect()
+        second = Frame(MessageType.ASYNC_INITIALIZE, 0, begun.parameter & 0xFFFF)
+        await ask(self._async, second, MessageType.ASYNC_INITIALIZE_RESPONSE)
+
+    def close(self) -> None:
+        for writer in self._writers:
+            writer.close()
+
+    async def send(self, data: bytes, is_end: bool) -> int:
+        """Sends bytes of a message; returns their MessageID. Waits while the server takes nothing."""
+        kind = MessageType.DATA_END if is_end else MessageType.DATA
+        message_id, self._next_id = self._next_id, after(self._next_id)
+        writer = self._sync[1]
+        writer.write(Frame(kind, int(self._is_delivered), message_id, data).pack())
+        self._is_delivered = False
+        await writer.drain()
+        return message_id
+
+    async def receive(self) -> Frame:
+        """Returns the next frame of a response."""
+        while True:
+            frame = await read_frame(self._sync[0])
+            if frame is None:
+                raise Refused("the server closed the connection")
+            if frame.kind in (MessageType.DATA, MessageType.DATA_END):
+                return frame
+            if frame.kind == MessageType.FATAL_ERROR:
+                raise Refused(control_in_words(frame.kind, frame.control))
+            say(f"{name_of(frame.kind)} of the server: {control_in_words(frame.kind, frame.control)}")
+
+    def note_delivered(self) -> None:
+        self._is_delivered = True
+
+    async def discard_requests(self) -> None:
+        """Reads the asynchronous connection until it ends: a raw socket has no place for service requests."""
+        while await read_frame(self._async[0]) is not None:
+            pass
+
+    async def _connect(self) -> Stream:
+        stream = await connect(self._port)
+        self._writers.append(stream[1])
+        return stream
+
+
+class Client:
+    """A client at a raw socket, with its session."""
+
+    def __init__(self, reader: asyncio.StreamReader, writer: asyncio.StreamWriter, session: Session) -> None:
+        self._reader = reader
+        self._writer = writer
+        self._session = session
+        self._last_id: Optional[int] = None  # of the message after the client's last one
+        self._is_gone = False  # it takes no more responses
+
+    async def run(self) -> None:
+        """Passes messages and responses on until the client or the server ends."""
+        messages = asyncio.ensure_future(self._pass_messages())
+        responses = asyncio.ensure_future(self._pass_responses())
+        requests = asyncio.ensure_future(self._session.discard_requests())
+        try:
+            await asyncio.wait([messages, responses], return_when=asyncio.FIRST_EXCEPTION)
+            for task in (messages, responses):
+                if task.done():
+                    task.result()
+        finally:
+            for task in (messages, responses, requests):
+                task.cancel()
+            await asyncio.gather(messages, responses, requests, return_exceptions=True)
+
+    async def _pass_messages(self) -> None:
+        divider = Divider()
+        while True:
+            data = await self._reader.read(LARGEST_PART)
+            divider.feed(data)
+            piece = divider.next_piece()
+            while piece is not None:
+                await self._session.send(piece.data, piece.is_end)
+                piece = divider.next_piece()
+            if not data:
+                break
+        rest = divider.rest()
+        if rest:
+            await self._session.send(rest, True)
+        self._last_id = await self._session.send(LAST_MESSAGE, True)
+
+    async def _pass_responses(self) -> None:
+        while True:
+            frame = await self._session.receive()
+            if frame.parameter == self._last_id:
+                return
+            await self._pass_response(frame.payload)
+            if frame.kind == MessageType.DATA_END:
+                self._session.note_delivered()
+
+    async def _pass_response(self, payload: bytes) -> None:
+        # A client that has gone without reading its responses has its messages executed all the same.
+        if self._is_gone:
+            return
+        try:
+            self._writer.write(payload)
+            await self._writer.drain()
+        except ConnectionError:
+            self._is_gone = True
+
+
+class RawSocket(LoopServer):
+    """The raw sockets of a server. In a test: `with RawSocket(to=server.port) as raw: .. raw.port`."""
+
+    def __init__(self, to: int, listen: Endpoint = Endpoint(SERVER_ADDRESS, 0)) -> None:
+        super().__init__(listen)
+        self.to = to
+
+    async def serve(self, reader: asyncio.StreamReader, writer: asyncio.StreamWriter) -> None:
+        session = Session(self.to)
+        try:
+            await session.begin()
+            await Client(reader, writer, session).run()
+        except ConnectionRefusedError:
+            say(f"a client was disconnected: nothing listens on {SERVER_ADDRESS}:{self.to}")
+        except (Refused, FrameError) as fault:
+            say(f"a client was disconnected: {fault}")
+        except asyncio.TimeoutError:
+            say("a client was disconnected: the server did not respond")
+        except OSError as fault:
+            say(f"a connection was lost: {fault.strerror or fault}")
+        finally:
+            session.close()
+            close_soon(writer)
+
+    def report_full(self) -> None:
+        say(f"more than {self.connections_at_once} connections: one was closed")
+
+
+def main(words: Optional[List[str]] = None) -> int:
+    """Runs the program; returns its exit status: 1 for a fault, with a line on standard error."""
+    parser = argparse.ArgumentParser(prog=PROGRAM, description=__doc__,
+                                     formatter_class=argparse.RawDescriptionHelpFormatter)
+    add_listening_options(parser, DEFAULT_PORT)
+    arguments = parser.parse_args(words)
+    check_listening(parser, arguments)
+    raw = RawSocket(arguments.to, arguments.listen)
+    try:
+        run_until_signal(raw, lambda: print(f"listening on {Endpoint(raw.listen.address, raw.port)}", flush=True))
+    except OSError as fault:
+        say(str(fault))
+        return 1
+    return 0
+
+
+if __name__ == "__main__":
+    sys.exit(main())

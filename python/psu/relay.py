@@ -1,0 +1,169 @@
+"""psu-relay: a relay between clients and a server of HiSLIP that shows the traffic and makes faults on request.
+
+    psu-relay --listen 127.0.0.1:4881 --to 4880 --log traffic.log --rule 'delay 2 response to "MEAS:VOLT?"'
+
+docs/BENCH.md has the rules and worked uses.
+"""
+from __future__ import annotations
+
+import argparse
+import asyncio
+import random
+import sys
+import time
+from typing import Iterable, List, Optional, TextIO
+
+from .listening import (
+    SERVER_ADDRESS,
+    Endpoint,
+    LoopServer,
+    add_listening_options,
+    check_listening,
+    connect,
+    report,
+    run_until_signal,
+)
+from .relay_connection import Connection
+from .relay_log import Entry, Event, LogWriter, json_event, json_line, text_event, text_line
+from .relay_rules import Rule, RuleError, Rules, parse_rule, parse_rules
+from .relay_traffic import Traffic
+
+PROGRAM = "psu-relay"
+DEFAULT_PORT = 4881
+
+
+def say(text: str) -> None:
+    report(PROGRAM, text)
+
+
+class Relay(LoopServer):
+    """A relay. In a test: `with Relay(to=server.port, rules=["hold response number 3"]) as relay: .. relay.port`."""
+
+    def __init__(
+        self,
+        to: int,
+        rules: Iterable[str] = (),
+        log: Optional[TextIO] = None,
+        listen: Endpoint = Endpoint(SERVER_ADDRESS, 0),
+        seed: int = 0,
+        is_json: bool = False,
+    ) -> None:
+        super().__init__(listen)
+        self.to = to
+        parsed = [parse_rule(line, f"rule {number}") for number, line in enumerate(rules, 1)]
+        self._traffic = Traffic(Rules(parsed, seed), self._write_entry, self._write_event)
+        self._entry_line, self._event_line = (json_line, json_event) if is_json else (text_line, text_event)
+        self._log = LogWriter(log, say) if log is not None else None
+
+    def take_rules(self, rules: Iterable[Rule], seed: int) -> None:
+        """Takes rules that are read already, instead of those of the constructor."""
+        self._traffic.rules = Rules(rules, seed)
+
+    async def start(self) -> None:
+        await super().start()
+        listen = Endpoint(self.listen.address, self.port)
+        rules = self._traffic.rules
+        self._traffic.event(None, "listening", f"{listen}, to {SERVER_ADDRESS}:{self.to}, seed {rules.seed}, "
+                                               f"{time.strftime('%Y-%m-%d %H:%M:%S %z')}")
+        for rule in rules.rules:
+            self._traffic.event(None, rule.name, rule.line)
+
+    async def stop(self) -> None:
+        await super().stop()
+        if self._log is not None:
+            await asyncio.get_running_loop().run_in_executor(None, self._log.end, 2.0)
+
+    async def serve(self, reader: asyncio.StreamReader, writer: asyncio.StreamWriter) -> None:
+        try:
+            from_server, to_server = await connect(self.to)
+        except OSError as fault:
+            self._traffic.event(None, "no server", f"at {SERVER_ADDRESS}:{self.to}: {fault.strerror or fault}")
+            return
+        await Connection(self._traffic, writer, to_server).run(reader, from_server)
+
+    def report_full(self) -> None:
+        self._traffic.event(None, "too many", f"more than {self.connections_at_once} connections: one was closed")
+
+    def _write_entry(self, entry: Entry) -> None:
+        if self._log is not None:
+            self._write_missing()
+            self._log.add(self._entry_line(entry))
+
+    def _write_event(self, event: Event) -> None:
+        if self._log is not None:
+            self._write_missing()
+            self._log.add(self._event_line(event))
+
+    def _write_missing(self) -> None:
+        assert self._log is not None
+        missing = self._log.take_missing()
+        if missing:
+            self._log.add(self._event_line(Event(time.time(), 0, "missing", f"{missing} lines had no place here")))
+
+
+def make_parser() -> argparse.ArgumentParser:
+    parser = argparse.ArgumentParser(prog=PROGRAM, description=__doc__,
+                                     formatter_class=argparse.RawDescriptionHelpFormatter)
+    add_listening_options(parser, DEFAULT_PORT)
+    parser.add_argument("--log", metavar="FILE", help="where the traffic is written (standard output)")
+    parser.add_argument("--json", action="store_true", help="write each line of the log as a JSON object")
+    parser.add_argument("--quiet", action="store_true", help="write no log")
+    parser.add_argument("--rules", metavar="FILE", help="a file of rules, one a line")
+    parser.add_argument("--rule", action="append", default=[], metavar="RULE", help="a rule, after those of the file")
+    parser.add_argument("--seed", type=int, help="the seed of the rules with a probability (a new one, in the log)")
+    return parser
+
+
+def read_rules(arguments: argparse.Namespace) -> List[Rule]:
+    rules: List[Rule] = []
+    if arguments.rules is not None:
+        with open(arguments.rules, encoding="utf-8") as file:
+            try:
+                rules = parse_rules(file.read())
+            except RuleError as fault:
+                raise RuleError(f"{arguments.rules}, {fault}") from None
+    for number, line in enumerate(arguments.rule, 1):
+        try:
+            rules.append(parse_rule(line, f"option {number}"))
+        except RuleError as fault:
+            raise RuleError(f"--rule {line!r}: {fault}") from None
+    return rules
+
+
+def open_log(arguments: argparse.Namespace) -> Optional[TextIO]:
+    if arguments.quiet:
+        return None
+    if arguments.log is None:
+        return sys.stdout
+    return open(arguments.log, "a", encoding="utf-8")
+
+
+def main(words: Optional[List[str]] = None) -> int:
+    """Runs the program; returns its exit status: 1 for a fault, 2 for a wrong rule, with a line on standard error."""
+    parser = make_parser()
+    arguments = parser.parse_args(words)
+    check_listening(parser, arguments)
+    seed = random.SystemRandom().randrange(1 << 32) if arguments.seed is None else arguments.seed
+    try:
+        rules = read_rules(arguments)
+        log = open_log(arguments)
+        relay = Relay(arguments.to, log=log, listen=arguments.listen, is_json=arguments.json)
+        relay.take_rules(rules, seed)
+        run_until_signal(relay, lambda: announce(relay, log))
+    except RuleError as fault:
+        say(str(fault))
+        return 2
+    except OSError as fault:
+        say(str(fault))
+        return 1
+    return 0
+
+
+def announce(relay: Relay, log: Optional[TextIO]) -> None:
+    """Says where the relay listens, as psu does; where the log is on standard output, its first line says it."""
+    if log is not sys.stdout:
+        print(f"listening on {Endpoint(relay.listen.address, relay.port)}", flush=True)
+
+
+if __name__ == "__main__":
+    sys.exit(main())

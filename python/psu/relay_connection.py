@@ -1,0 +1,370 @@
+"""A connection of psu-relay: the client's and its own to the server, with a task for each direction."""
+from __future__ import annotations
+
+import asyncio
+import time
+from typing import Awaitable, Callable, Dict, List, Optional
+
+from .frames import HEADER_SIZE, Frame, FrameError, Header, MessageType, unpack_header
+from .listening import close_soon, reset
+from .relay_log import Entry, payload_text
+from .relay_rules import Action, Rule, Seen, Side
+from .relay_session import Session, Transmissions
+from .relay_traffic import Outlet, Traffic
+
+# A payload up to this size is read whole before it is passed on: rules and the log see its text. psu takes none beyond.
+WHOLE_PAYLOAD = 65536
+PIECE = 65536
+MOST_REPEATS = 64  # that wait in one connection
+ERROR_TEXT = b"by a rule of psu-relay"
+
+
+class EndOfStream(Exception):
+    """The sender ended its stream in the middle of a long frame, of which everything that came was passed on."""
+
+
+class Dropped(Exception):
+    """A rule ended the session."""
+
+
+class Connection:
+    """One connection of a client with the relay's own to the server."""
+
+    def __init__(self, traffic: Traffic, to_client: asyncio.StreamWriter, to_server: asyncio.StreamWriter) -> None:
+        self.traffic = traffic
+        self.session: Optional[Session] = None
+        self.is_async = False
+        self.outlets = {Side.SERVER: Outlet(to_client), Side.CLIENT: Outlet(to_server)}  # by who sends
+        self._tasks: "List[asyncio.Task[None]]" = []
+        self.timers: List[asyncio.TimerHandle] = []
+        self._is_ending = asyncio.Event()
+
+    async def run(self, from_client: asyncio.StreamReader, from_server: asyncio.StreamReader) -> None:
+        """Passes frames on until the connection ends."""
+        requests = asyncio.ensure_future(self._run_direction(Side.CLIENT, from_client))
+        responses = asyncio.ensure_future(self._run_direction(Side.SERVER, from_server))
+        self._tasks = [requests, responses]
+        try:
+            # When the client has sent its last byte the server may still respond. When the server has, it is over.
+            await asyncio.wait([responses])
+        except asyncio.CancelledError:
+            for outlet in self.outlets.values():
+                outlet.writer.transport.abort()  # the relay stops, and what waits is not sent
+            raise
+        finally:
+            for task in self._tasks:
+                task.cancel()
+            self._end()
+
+    async def wait(self, seconds: Optional[float]) -> None:
+        """Waits so long, or until the session ends."""
+        try:
+            await asyncio.wait_for(self._is_ending.wait(), seconds)
+        except asyncio.TimeoutError:
+            pass
+
+    def wake(self) -> None:
+        self._is_ending.set()
+
+    def join(self, session: Session, is_async: bool) -> None:
+        self.session, self.is_async = session, is_async
+        session.join(self)
+
+    def close(self) -> None:
+        """Closes both sides and ends the tasks, but for the one that calls."""
+        for outlet in self.outlets.values():
+            close_soon(outlet.writer)
+        for task in self._tasks:
+            if task is not asyncio.current_task():
+                task.cancel()
+
+    def _end(self) -> None:
+        for timer in self.timers:
+            timer.cancel()
+        for outlet in self.outlets.values():
+            close_soon(outlet.writer)
+        session = self.session
+        if session is not None and session.leave(self):
+            self.traffic.sessions.remove(session)
+            self.traffic.report_unanswered(session)
+            reason = session.end_reason or "the relay stopped"
+            self.traffic.event(session, "ended", f"{reason}; {session.messages} messages")
+
+    async def _run_direction(self, side: Side, reader: asyncio.StreamReader) -> None:
+        outlet = self.outlets[side]
+        try:
+            await Direction(self, side, reader).run()
+            self._note_end(f"closed by the {side.value}")
+            if side is Side.CLIENT and outlet.writer.can_write_eof():
+                outlet.writer.write_eof()
+        except Dropped:
+            pass
+        except OSError:
+            self._note_end(f"the connection of the {side.value} was lost")
+            reset(outlet.writer)
+        except Exception:
+            self.close()
+            raise
+
+    def _note_end(self, reason: str) -> None:
+        self.wake()
+        if self.session is not None:
+            self.session.end(reason)
+
+
+class Direction:
+    """One direction of a connection: reads frames, notes them, and does what the rules say."""
+
+    def __init__(self, connection: Connection, side: Side, reader: asyncio.StreamReader) -> None:
+        self._connection = connection
+        self._traffic = connection.traffic
+        self._side = side
+        self._reader = reader
+        self._outlet = connection.outlets[side]
+        self._to_client = connection.outlets[Side.SERVER]
+        self._transmissions = Transmissions()
+        self._acts: Dict[Action, Callable[[Rule, Header, bytes], Awaitable[None]]] = {
+            Action.DELAY: self._delay,
+            Action.HOLD: self._hold,
+            Action.DROP_BEFORE: self._drop_before,
+            Action.DROP_AFTER: self._drop_after,
+            Action.CUT: self._cut,
+            Action.REFUSE: self._refuse,
+            Action.STOP_READING: self._stop_reading,
+            Action.FATAL_ERROR: self._fatal_error,
+            Action.ERROR: self._error,
+            Action.REPEAT: self._repeat,
+        }
+
+    async def run(self) -> None:
+        """Passes frames on until the sender's end of the stream."""
+        while True:
+            head = await self._read(HEADER_SIZE)
+            if len(head) < HEADER_SIZE:
+                return await self._pass_end(head)
+            try:
+                header = unpack_header(head)
+            except FrameError:
+                return await self._pass_raw(head)
+            size = header.length if header.length <= WHOLE_PAYLOAD else 0
+            payload = await self._read(size)
+            if len(payload) < size:
+                return await self._pass_end(head + payload)
+            try:
+                await self._take(header, payload)
+            except EndOfStream:
+                return
+
+    async def _read(self, size: int) -> bytes:
+        """Returns so many bytes, or fewer where the stream ends before."""
+        try:
+            return await self._reader.readexactly(size)
+        except asyncio.IncompleteReadError as end:
+            return end.partial
+
+    async def _take(self, header: Header, payload: bytes) -> None:
+        begins = self._transmissions.begins_message(header)
+        seconds = self._note(header, payload)
+        rule, action = self._transmissions.rule, self._transmissions.rest_action()
+        if begins:
+            rule = self._transmissions.rule = self._choose(header, payload)
+            action = rule.action if rule is not None else None
+        if rule is None or action is None:
+            self._write(header, payload)
+            self._log(header, payload, seconds, "")
+            await self._finish(header, payload)
+            return
+        self._log(header, payload, seconds, f"{fault_text(rule, action)}: {rule.name}")
+        await self._acts[action](rule, header, payload)
+
+    # What is known of a message
+
+    def _note(self, header: Header, payload: bytes) -> Optional[float]:
+        """Notes a message in its session; returns the seconds since the message that it responds to."""
+        now = time.monotonic()
+        if self._side is Side.CLIENT:
+            self._pair(header)
+        session = self._connection.session
+        if session is None:
+            return None
+        session.messages += 1
+        if self._side is Side.SERVER:
+            if header.kind == MessageType.INITIALIZE_RESPONSE:
+                self._traffic.sessions.name(header.parameter & 0xFFFF, session)
+            return session.note_response(header, now)
+        if header.kind == MessageType.ASYNC_DEVICE_CLEAR:
+            self._traffic.report_unanswered(session)
+        session.note_request(header, payload, now)
+        return None
+
+    def _pair(self, header: Header) -> None:
+        """The first message of a connection says which session it belongs to."""
+        connection = self._connection
+        if connection.session is not None:
+            return
+        if header.kind == MessageType.INITIALIZE:
+            connection.join(self._traffic.sessions.open(), is_async=False)
+            peer = self._to_client.writer.get_extra_info("peername") or ("?", 0)
+            self._traffic.event(connection.session, "began", f"a client at {peer[0]} port {peer[1]}")
+        elif header.kind == MessageType.ASYNC_INITIALIZE:
+            session = self._traffic.sessions.find(header.parameter)
+            if session is not None:
+                connection.join(session, is_async=True)
+
+    def _choose(self, header: Header, payload: bytes) -> Optional[Rule]:
+        if not self._traffic.rules.rules:
+            return None
+        session = self._connection.session
+        number, counts, query = 0, {}, b""
+        if session is not None:
+            number, counts = session.number, session.counts
+            is_response = self._side is Side.SERVER and header.kind in (MessageType.DATA, MessageType.DATA_END)
+            query = session.query_of(header.parameter) if is_response else b""
+        return self._traffic.rules.choose(Seen(self._side, header.kind, payload, query, number), counts)
+
+    def _log(self, header: Header, payload: bytes, seconds: Optional[float], fault: str) -> None:
+        connection = self._connection
+        number = connection.session.number if connection.session is not None else 0
+        entry = Entry(time.time(), number, connection.is_async, self._side is Side.CLIENT, header.kind,
+                      header.control, header.parameter, header.length, payload, seconds, fault)
+        self._traffic.write_entry(entry)
+
+    # Passing on
+
+    def _write(self, header: Header, payload: bytes) -> None:
+        session = self._connection.session
+        if session is not None and self._side is Side.SERVER:
+            session.note_delivered(header)
+        if header.length == len(payload):
+            self._outlet.write(header.pack() + payload)
+        else:
+            self._outlet.begin()
+            self._outlet.write(header.pack())
+
+    async def _finish(self, header: Header, payload: bytes) -> None:
+        """Passes on what was not read yet, and waits while the receiver takes nothing."""
+        await self._outlet.writer.drain()
+        left = header.length - len(payload)
+        while left > 0:
+            piece = await self._read_piece(left)
+            self._outlet.write(piece)
+            await self._outlet.writer.drain()
+            left -= len(piece)
+        self._outlet.end()
+
+    async def _pass(self, header: Header, payload: bytes) -> None:
+        self._write(header, payload)
+        await self._finish(header, payload)
+
+    async def _read_piece(self, most: int) -> bytes:
+        piece = await self._reader.read(min(most, PIECE))
+        if not piece:
+            raise EndOfStream
+        return piece
+
+    async def _pass_end(self, partial: bytes) -> None:
+        if partial:
+            self._traffic.event(self._connection.session, "cut short", f"{len(partial)} bytes of a frame at the end")
+            self._outlet.write(partial)
+            await self._outlet.writer.drain()
+
+    async def _pass_raw(self, head: bytes) -> None:
+        """What is no HiSLIP is passed on as it is: the server has the answer to it."""
+        text = payload_text(head, len(head))
+        self._traffic.event(self._connection.session, "no HiSLIP", f"from the {self._side.value}: {text}")
+        piece = head
+        while piece:
+            self._outlet.write(piece)
+            await self._outlet.writer.drain()
+            piece = await self._reader.read(PIECE)
+
+    # Faults
+
+    async def _delay(self, rule: Rule, header: Header, payload: bytes) -> None:
+        await self._connection.wait(rule.value or 0)
+        await self._pass(header, payload)
+
+    async def _hold(self, _: Rule, header: Header, payload: bytes) -> None:
+        left = header.length - len(payload)
+        while left > 0:
+            left -= len(await self._read_piece(left))
+
+    async def _drop_before(self, rule: Rule, header: Header, payload: bytes) -> None:
+        self._drop(rule)
+
+    async def _drop_after(self, rule: Rule, header: Header, payload: bytes) -> None:
+        await self._pass(header, payload)
+        if header.kind != MessageType.DATA:
+            self._drop(rule)
+
+    async def _cut(self, rule: Rule, header: Header, payload: bytes) -> None:
+        frame = header.pack() + payload
+        size = len(frame) // 2 if rule.value is None else int(rule.value)
+        self._outlet.write(frame[: min(size, len(frame) - 1)])
+        self._drop(rule)
+
+    async def _refuse(self, rule: Rule, header: Header, payload: bytes) -> None:
+        self._answer(rule, MessageType.FATAL_ERROR, 4)
+        self._drop(rule)
+
+    async def _stop_reading(self, rule: Rule, header: Header, payload: bytes) -> None:
+        await self._pass(header, payload)
+        await self._connection.wait(rule.value)
+
+    async def _fatal_error(self, rule: Rule, header: Header, payload: bytes) -> None:
+        self._answer(rule, MessageType.FATAL_ERROR, int(rule.value or 0))
+        self._drop(rule)
+
+    async def _error(self, rule: Rule, header: Header, payload: bytes) -> None:
+        self._answer(rule, MessageType.ERROR, int(rule.value or 0))
+        await self._hold(rule, header, payload)
+
+    async def _repeat(self, rule: Rule, header: Header, payload: bytes) -> None:
+        await self._pass(header, payload)
+        timers = self._connection.timers = [one for one in self._connection.timers if not one.cancelled()]
+        if len(timers) < MOST_REPEATS:
+            frame = Frame(header.kind, header.control, header.parameter, payload)
+            timers.append(asyncio.get_running_loop().call_later(rule.value or 0, self._add, rule, frame))
+
+    def _answer(self, rule: Rule, kind: MessageType, code: int) -> None:
+        self._add(rule, Frame(kind, code, 0, ERROR_TEXT))
+
+    def _add(self, rule: Rule, frame: Frame) -> None:
+        """Sends the client a frame that the server did not send."""
+        connection = self._connection
+        number = connection.session.number if connection.session is not None else 0
+        self._to_client.add(frame)
+        self._traffic.write_entry(Entry(time.time(), number, connection.is_async, False, frame.kind, frame.control,
+                                        frame.parameter, len(frame.payload), frame.payload, None,
+                                        f"sent by the relay: {rule.name}"))
+
+    def _drop(self, rule: Rule) -> None:
+        session = self._connection.session
+        if session is not None:
+            session.end(f"dropped by {rule}")
+            session.close()
+        self._connection.close()
+        raise Dropped
+
+
+FAULT_TEXTS = {
+    Action.DELAY: "delayed {} s",
+    Action.HOLD: "held back",
+    Action.DROP_BEFORE: "connection dropped before it",
+    Action.DROP_AFTER: "connection dropped after it",
+    Action.CUT: "cut after {} bytes, connection dropped",
+    Action.REFUSE: "session refused",
+    Action.STOP_READING: "nothing more is read",
+    Action.FATAL_ERROR: "FatalError instead, connection dropped",
+    Action.ERROR: "Error instead",
+    Action.REPEAT: "repeated after {} s",
+}
+
+
+def fault_text(rule: Rule, action: Action) -> str:
+    """Returns what a rule does to a message, for its line in the log."""
+    if action is Action.CUT and rule.value is None:
+        return "cut in the middle, connection dropped"
+    if action is Action.STOP_READING and rule.value is not None:
+        return f"nothing more is read for {rule.value:g} s"
+    return FAULT_TEXTS[action].format(f"{rule.value or 0:g}")

@@ -1,0 +1,243 @@
+"""The log of psu-relay: a line a message, as text or as JSON, written by a thread so that the traffic never waits.
+
+    21:15:12.514301    1 --> DataEnd             ffffff00              RMT-delivered  MEAS:VOLT?\\n
+    21:15:12.514822    1 <-- DataEnd             ffffff00     +0.5 ms  5.250\\n
+"""
+from __future__ import annotations
+
+import collections
+import datetime
+import functools
+import json
+import re
+import threading
+import time
+from typing import Callable, Deque, Dict, List, NamedTuple, Optional, TextIO
+
+from .frames import WITH_MESSAGE_ID, MessageType, control_in_words, name_of
+
+SHOWN_PAYLOAD = 120  # the most characters of a payload in a line
+SHOWN_BLOCK = 16  # the most bytes of a block
+WAITING_LINES = 20_000  # beyond so many lines that are not written yet, lines are left out and counted
+BATCH_SECONDS = 0.02
+
+
+class Entry(NamedTuple):
+    """What the log says of a message."""
+
+    time: float
+    session: int  # 0 where the connection belongs to no session yet
+    is_async: bool
+    is_from_client: bool
+    kind: int
+    control: int
+    parameter: int
+    length: int
+    payload: bytes  # its first bytes
+    seconds: Optional[float]  # since the message that this one responds to
+    fault: str  # what a rule does to it; empty where nothing
+
+
+class Event(NamedTuple):
+    """What the log says of a connection, a session or the relay."""
+
+    time: float
+    session: int
+    name: str
+    text: str
+
+
+# Payloads
+
+
+BLOCK = re.compile(rb"#([1-9])")
+
+
+def payload_text(payload: bytes, length: int) -> str:
+    """Returns a payload as text: bytes that are no characters as `\\x00`, blocks and long texts cut short.
+
+    `payload` has the first bytes, and `length` is the number of all.
+    """
+    pieces: List[str] = []
+    at = 0
+    while at < len(payload) and len(pieces) < 8:
+        found = BLOCK.search(payload, at)
+        begin, size = _block_in(payload, found)
+        if begin < 0:
+            break
+        pieces.append(_escaped(payload[at:begin]) + _block_text(payload[begin : begin + size], size))
+        at = begin + size
+    rest = payload[at : at + SHOWN_PAYLOAD]
+    text = "".join(pieces) + _escaped(rest)
+    shown = at + len(rest)
+    is_last_byte_alone = len(payload) < shown == length - 1  # the line feed after a block, whose bytes are left out
+    if len(text) > SHOWN_PAYLOAD or shown < length and not is_last_byte_alone:
+        return f"{text[:SHOWN_PAYLOAD]}..({length} bytes)"
+    return text
+
+
+def _block_in(payload: bytes, found: Optional["re.Match[bytes]"]) -> "tuple[int, int]":
+    """Returns where the content of a block begins and its size; -1 where no block was found."""
+    if found is None:
+        return -1, 0
+    begin = found.end() + int(found.group(1))
+    digits = payload[found.end() : begin]
+    if len(digits) != int(found.group(1)) or not digits.isdigit():
+        return -1, 0
+    return begin, int(digits)
+
+
+def _block_text(content: bytes, size: int) -> str:
+    if size <= SHOWN_BLOCK and len(content) == size:
+        return _escaped(content)
+    return f"{_escaped(content[:SHOWN_BLOCK])}..({size} bytes)"
+
+
+_ESCAPES: Dict[int, str] = {byte: f"\\x{byte:02x}" for byte in [*range(32), *range(127, 256)]}
+_ESCAPES.update({9: "\\t", 10: "\\n", 13: "\\r"})
+
+
+def _escaped(data: bytes) -> str:
+    return data.decode("latin-1").translate(_ESCAPES)
+
+
+# Lines
+
+
+ARROWS = {(False, True): "-->", (False, False): "<--", (True, True): "..>", (True, False): "<.."}
+ERRORS = (int(MessageType.FATAL_ERROR), int(MessageType.ERROR))
+
+
+SIZES = (int(MessageType.ASYNC_MAXIMUM_MESSAGE_SIZE), int(MessageType.ASYNC_MAXIMUM_MESSAGE_SIZE_RESPONSE))
+
+
+def _shown_payload(entry: Entry) -> str:
+    if entry.kind in SIZES and len(entry.payload) == 8:
+        return f"{int.from_bytes(entry.payload, 'big')} bytes"
+    return payload_text(entry.payload, entry.length)
+
+
+def _has_message_id(entry: Entry) -> bool:
+    return entry.kind in WITH_MESSAGE_ID
+
+
+@functools.lru_cache(maxsize=4)
+def _second(moment: int) -> str:
+    return time.strftime("%H:%M:%S", time.localtime(moment))
+
+
+def _clock(moment: float) -> str:
+    return f"{_second(int(moment))}.{int(moment % 1 * 1e6):06d}"
+
+
+def _session(number: int) -> str:
+    return str(number) if number else "-"
+
+
+def text_line(entry: Entry) -> str:
+    """Returns the line of a message. `!` marks the lines of faults and errors."""
+    mark = "!" if entry.fault or entry.kind in ERRORS else " "
+    arrow = ARROWS[entry.is_async, entry.is_from_client]
+    parameter = f"{entry.parameter:08x}" if _has_message_id(entry) or entry.parameter else ""
+    seconds = f"+{entry.seconds * 1000:.1f} ms" if entry.seconds is not None else ""
+    what = [words for words in (control_in_words(entry.kind, entry.control), _shown_payload(entry)) if words]
+    line = (f"{_clock(entry.time)} {mark}{_session(entry.session):>3} {arrow} {name_of(entry.kind):<19} "
+            f"{parameter:<8} {seconds:>11}  {'  '.join(what)}")
+    return (line + f"  [{entry.fault}]" if entry.fault else line).rstrip() + "\n"
+
+
+def text_event(event: Event) -> str:
+    mark = "!" if event.name in MARKED_EVENTS else " "
+    return f"{_clock(event.time)} {mark}{_session(event.session):>3} --- {event.name}: {event.text}\n"
+
+
+MARKED_EVENTS = ("unanswered", "missing", "no server", "no HiSLIP", "too many")
+
+
+def _moment(moment: float) -> str:
+    return datetime.datetime.fromtimestamp(moment, datetime.timezone.utc).isoformat(timespec="microseconds")
+
+
+def json_line(entry: Entry) -> str:
+    """Returns a message as a JSON object. `payload` is the text of `text_line`, `length` the number of its bytes."""
+    item: Dict[str, object] = {
+        "time": _moment(entry.time),
+        "session": entry.session,
+        "from": "client" if entry.is_from_client else "server",
+        "connection": "asynchronous" if entry.is_async else "synchronous",
+        "type": name_of(entry.kind),
+        "control": entry.control,
+        "control_words": control_in_words(entry.kind, entry.control),
+        "message_id" if _has_message_id(entry) else "parameter": entry.parameter,
+        "length": entry.length,
+        "payload": _shown_payload(entry),
+    }
+    if entry.seconds is not None:
+        item["response_ms"] = round(entry.seconds * 1000, 3)
+    if entry.fault:
+        item["fault"] = entry.fault
+    return json.dumps(item) + "\n"
+
+
+def json_event(event: Event) -> str:
+    item = {"time": _moment(event.time), "session": event.session, "event": event.name, "text": event.text}
+    return json.dumps(item) + "\n"
+
+
+# Writing
+
+
+class LogWriter:
+    """Writes lines by a thread of its own. Where the file takes none, lines wait, and beyond a limit are left out."""
+
+    def __init__(self, file: TextIO, report: Callable[[str], None], limit: int = WAITING_LINES) -> None:
+        self._file = file
+        self._report = report
+        self._limit = limit
+        self._lines: Deque[str] = collections.deque()
+        self._missing = 0
+        self._has_lines = threading.Event()
+        self._is_ending = False
+        self._thread = threading.Thread(target=self._run, daemon=True)
+        self._thread.start()
+
+    def add(self, line: str) -> bool:
+        """Takes a line; returns whether it had place."""
+        if len(self._lines) >= self._limit:
+            self._missing += 1
+            return False
+        self._lines.append(line)
+        if not self._has_lines.is_set():
+            self._has_lines.set()
+        return True
+
+    def take_missing(self) -> int:
+        """Returns how many lines were left out since the last call; 0 while there is no place to say so."""
+        if not self._missing or len(self._lines) >= self._limit:
+            return 0
+        missing, self._missing = self._missing, 0
+        return missing
+
+    def end(self, seconds: float) -> None:
+        """Writes what waits; returns after so many seconds at most."""
+        self._is_ending = True
+        self._has_lines.set()
+        self._thread.join(seconds)
+
+    def _run(self) -> None:
+        try:
+            while not self._is_ending:
+                self._has_lines.wait()
+                time.sleep(BATCH_SECONDS)  # so that one write takes many lines
+                self._has_lines.clear()
+                self._write()
+            self._write()
+        except (OSError, ValueError) as fault:
+            self._report(f"the log can't be written, and traffic continues without it: {fault}")
+            self._limit = 0
+
+    def _write(self) -> None:
+        # Lines that come meanwhile wait for the next call, so that each call ends.
+        batch = [self._lines.popleft() for _ in range(len(self._lines))]
+        self._file.write("".join(batch))
+        self._file.flush()

@@ -1,0 +1,318 @@
+"""The rules of psu-relay: which messages get which fault. docs/BENCH.md is their guide.
+
+A rule is a line: an action with its value, a subject, and conditions.
+
+    delay 2 response to "MEAS:VOLT?" times 1
+    drop-before command with "*SAV" number 3
+    refuse session 4
+"""
+from __future__ import annotations
+
+import dataclasses
+import enum
+import random
+import re
+import shlex
+from typing import Callable, Dict, Iterable, List, NamedTuple, Optional, Tuple
+
+from .frames import MessageType, name_of
+
+
+class RuleError(Exception):
+    """A rule that can't be read; the text says which word is wrong."""
+
+
+class Side(enum.Enum):
+    """Who sent a message."""
+
+    CLIENT = "client"
+    SERVER = "server"
+
+
+class Action(enum.Enum):
+    """What happens to a message to which a rule applies."""
+
+    DELAY = "delay"
+    HOLD = "hold"
+    DROP_BEFORE = "drop-before"
+    DROP_AFTER = "drop-after"
+    CUT = "cut"
+    REFUSE = "refuse"
+    STOP_READING = "stop-reading"
+    FATAL_ERROR = "fatal-error"
+    ERROR = "error"
+    REPEAT = "repeat"
+
+
+class Seen(NamedTuple):
+    """What a rule looks at: a message, or the first frame of one that has several."""
+
+    side: Side
+    kind: int
+    text: bytes
+    query: bytes  # where the message is a response: the message that it responds to
+    session: int
+
+
+class Counts:
+    """How often a rule was considered and applied: of all sessions, or of one."""
+
+    def __init__(self, seed: str) -> None:
+        self.matched = 0
+        self.applied = 0
+        self.random = random.Random(seed)
+
+
+@dataclasses.dataclass
+class Rule:
+    """A rule as it was written. Where several messages match, `number`, `skip`, `every` and the others choose."""
+
+    line: str
+    name: str
+    action: Action
+    value: Optional[float] = None
+    side: Optional[Side] = None
+    kinds: Optional[Tuple[int, ...]] = None
+    text: bytes = b""
+    query: bytes = b""
+    pattern: Optional["re.Pattern[bytes]"] = None
+    session: int = 0
+    number: int = 0
+    skip: int = 0
+    every: int = 1
+    times: Optional[int] = None
+    probability: float = 1.0
+    is_per_session: bool = False
+
+    def matches(self, seen: Seen) -> bool:
+        """Returns whether the message is one of those that the rule is about; counts are another matter."""
+        return (
+            self.side in (None, seen.side)
+            and (self.kinds is None or seen.kind in self.kinds)
+            and self.session in (0, seen.session)
+            and (not self.text or self.text in seen.text.upper())
+            and (not self.query or self.query in seen.query.upper())
+            and (self.pattern is None or self.pattern.search(seen.text) is not None)
+        )
+
+    def count(self, counts: Counts) -> bool:
+        """Counts a message that matches; returns whether the rule applies to this one."""
+        counts.matched += 1
+        position = counts.matched - self.skip
+        chosen = position > 0 and position % self.every == 0 and self.number in (0, position)
+        if not chosen or self.times is not None and counts.applied >= self.times:
+            return False
+        if counts.random.random() >= self.probability:
+            return False
+        counts.applied += 1
+        return True
+
+    def __str__(self) -> str:
+        return f"{self.name} ({self.line})"
+
+
+class Rules:
+    """All rules, in order. The first that applies to a message decides; the later ones do not count it."""
+
+    def __init__(self, rules: Iterable[Rule], seed: int) -> None:
+        self.rules = list(rules)
+        self.seed = seed
+        self._counts: Dict[int, Counts] = {}
+
+    def choose(self, seen: Seen, of_session: Dict[int, Counts]) -> Optional[Rule]:
+        """Returns the rule that applies to a message. `of_session` has the counts of its session."""
+        for place, rule in enumerate(self.rules):
+            if rule.matches(seen) and rule.count(self._counts_of(place, rule, seen.session, of_session)):
+                return rule
+        return None
+
+    def _counts_of(self, place: int, rule: Rule, session: int, of_session: Dict[int, Counts]) -> Counts:
+        # Each has random numbers of its own, so that a session's faults do not depend on what others send meanwhile.
+        counts = of_session if rule.is_per_session else self._counts
+        if place not in counts:
+            counts[place] = Counts(f"{self.seed}/{place}/{session if rule.is_per_session else 'all'}")
+        return counts[place]
+
+
+# Reading
+
+
+class Subject(NamedTuple):
+    """What a rule is about."""
+
+    side: Optional[Side]
+    kinds: Optional[Tuple[int, ...]]
+
+
+DATA = (int(MessageType.DATA), int(MessageType.DATA_END))
+SUBJECTS: Dict[str, Subject] = {
+    "command": Subject(Side.CLIENT, DATA),
+    "response": Subject(Side.SERVER, DATA),
+    "client": Subject(Side.CLIENT, None),
+    "server": Subject(Side.SERVER, None),
+    **{name_of(kind).lower(): Subject(None, (int(kind),)) for kind in MessageType},
+}
+# These actions are for one type of message, so that their rules need no subject.
+ONLY_KIND: Dict[Action, MessageType] = {
+    Action.REFUSE: MessageType.INITIALIZE,
+    Action.REPEAT: MessageType.ASYNC_SERVICE_REQUEST,
+}
+
+
+class Value(NamedTuple):
+    """The value of an action: its limits, and whether it may be missing."""
+
+    what: str
+    least: float
+    most: float
+    is_optional: bool
+
+
+CODES = Value("a code", 0, 255, True)
+VALUES: Dict[Action, Value] = {
+    Action.DELAY: Value("seconds", 0, 86400, False),
+    Action.REPEAT: Value("seconds", 0, 86400, False),
+    Action.STOP_READING: Value("seconds", 0, 86400, True),
+    Action.CUT: Value("a number of bytes", 0, 1 << 32, True),
+    Action.FATAL_ERROR: CODES,
+    Action.ERROR: CODES,
+}
+
+
+class Words:
+    """The words of a line, read one after another."""
+
+    def __init__(self, line: str) -> None:
+        try:
+            self._words = shlex.split(line, comments=True)
+        except ValueError:
+            raise RuleError("a quote is missing") from None
+
+    def __bool__(self) -> bool:
+        return bool(self._words)
+
+    def next_is_number(self) -> bool:
+        return bool(self._words) and re.fullmatch(r"[0-9.]+", self._words[0]) is not None
+
+    def take(self, what: str) -> str:
+        if not self._words:
+            raise RuleError(f"{what} is missing at the end")
+        return self._words.pop(0)
+
+    def number(self, what: str, least: float, most: float) -> float:
+        word = self.take(what)
+        try:
+            value = float(word)
+        except ValueError:
+            value = -1
+        if not least <= value <= most:
+            raise RuleError(f"{word!r} is not {what} from {least:g} to {most:g}")
+        return value
+
+    def count(self, what: str) -> int:
+        value = self.number(what, 1, 1_000_000_000)
+        if value != int(value):
+            raise RuleError(f"{what} is a whole number")
+        return int(value)
+
+
+def parse_rule(line: str, name: str) -> Rule:
+    """Reads a rule; raises RuleError where it is not one."""
+    words = Words(line)
+    try:
+        action = Action(words.take("an action"))
+    except ValueError:
+        raise RuleError(f"the first word is one of {', '.join(action.value for action in Action)}") from None
+    rule = Rule(line.strip(), name, action)
+    _read_value(rule, words)
+    _read_subject(rule, words)
+    while words:
+        _read_condition(rule, words)
+    return rule
+
+
+def _read_value(rule: Rule, words: Words) -> None:
+    value = VALUES.get(rule.action)
+    if value is not None and (words.next_is_number() or not value.is_optional):
+        rule.value = words.number(value.what, value.least, value.most)
+
+
+def _read_subject(rule: Rule, words: Words) -> None:
+    only = ONLY_KIND.get(rule.action)
+    if only is not None:
+        rule.kinds = (int(only),)
+        return
+    word = words.take("what the rule is about")
+    if word.lower() not in SUBJECTS:
+        raise RuleError(f"{word!r} is not command, response, client, server or a message type")
+    rule.side, rule.kinds = SUBJECTS[word.lower()]
+
+
+def _read_condition(rule: Rule, words: Words) -> None:
+    word = words.take("a condition")
+    if word not in CONDITIONS:
+        raise RuleError(f"{word!r} is not one of {', '.join(CONDITIONS)}")
+    CONDITIONS[word](rule, words)
+
+
+def _read_to(rule: Rule, words: Words) -> None:
+    if rule.side is not Side.SERVER:
+        raise RuleError("'to' is for a response")
+    rule.query = _read_text(words)
+
+
+def _read_with(rule: Rule, words: Words) -> None:
+    rule.text = _read_text(words)
+
+
+def _read_text(words: Words) -> bytes:
+    return words.take("a text").upper().encode("utf-8", "surrogateescape")
+
+
+def _read_pattern(rule: Rule, words: Words) -> None:
+    try:
+        rule.pattern = re.compile(words.take("a pattern").encode("utf-8", "surrogateescape"))
+    except re.error as fault:
+        raise RuleError(f"the pattern is not one of Python's: {fault}") from None
+
+
+def _count_of(field: str) -> Callable[[Rule, Words], None]:
+    """Returns what reads a whole number into this field of a rule."""
+    def read(rule: Rule, words: Words) -> None:
+        setattr(rule, field, words.count("a number"))
+
+    return read
+
+
+def _read_probability(rule: Rule, words: Words) -> None:
+    rule.probability = words.number("a probability", 0, 1)
+
+
+def _read_per_session(rule: Rule, _: Words) -> None:
+    rule.is_per_session = True
+
+
+CONDITIONS: Dict[str, Callable[[Rule, Words], None]] = {
+    "to": _read_to,
+    "with": _read_with,
+    "matching": _read_pattern,
+    "session": _count_of("session"),
+    "number": _count_of("number"),
+    "skip": _count_of("skip"),
+    "every": _count_of("every"),
+    "times": _count_of("times"),
+    "probability": _read_probability,
+    "per-session": _read_per_session,
+}
+
+
+def parse_rules(text: str) -> List[Rule]:
+    """Reads a rule file: a rule a line, empty lines, and comments that begin with `#`."""
+    rules = []
+    for number, line in enumerate(text.splitlines(), 1):
+        try:
+            if Words(line):
+                rules.append(parse_rule(line, f"rule {number}"))
+        except RuleError as fault:
+            raise RuleError(f"line {number}: {fault}") from None
+    return rules

@@ -1,0 +1,184 @@
+"""A session as psu-relay sees it: its two connections, what waits for a response, and which messages are one.
+
+Nothing here sends or receives: relay.py does.
+"""
+from __future__ import annotations
+
+import collections
+import re
+from typing import Deque, Dict, List, NamedTuple, Optional, Protocol
+
+from .frames import REQUEST_OF, Header, MessageType
+from .relay_rules import Action, Counts, Rule
+
+KEPT_QUERIES = 64  # of a session; beyond it the oldest are no longer known
+KEPT_TEXT = 200  # bytes of a query's text
+
+REQUESTS = frozenset(REQUEST_OF.values())
+
+
+class Query(NamedTuple):
+    """A transmission of the client, whose response is expected."""
+
+    message_id: int
+    text: bytes
+    moment: float
+
+
+STRING_OR_BLOCK = re.compile(rb"\"[^\"]*\"|'[^']*'|#([1-9])")
+
+
+def asks(text: bytes) -> bool:
+    """Returns whether a message has a `?` outside of strings and blocks, as queries have."""
+    at = 0
+    while at < len(text):
+        found = STRING_OR_BLOCK.search(text, at)
+        if b"?" in text[at : found.start() if found else len(text)]:
+            return True
+        if found is None:
+            return False
+        at = found.end()
+        if found.group(1):
+            length = text[at : at + int(found.group(1))]
+            at += len(length) + (int(length) if length.isdigit() else 0)
+    return False
+
+
+class Joined(Protocol):
+    """What a session knows of a connection."""
+
+    def close(self) -> None:
+        """Closes it to the client and to the server."""
+
+    def wake(self) -> None:
+        """Ends the wait of a rule: the session ends."""
+
+
+class Session:
+    """A session: its number in the log, and its messages that wait for a response."""
+
+    def __init__(self, number: int) -> None:
+        self.number = number
+        self.counts: Dict[int, Counts] = {}
+        self.messages = 0
+        self.end_reason = ""
+        self._connections: List[Joined] = []
+        self._parts = b""  # the begin of a transmission that is not whole yet
+        self._queries: "collections.OrderedDict[int, Query]" = collections.OrderedDict()
+        self._unanswered: Dict[int, Query] = {}
+        self._requests: Dict[int, Deque[float]] = {}
+
+    def end(self, reason: str) -> None:
+        """Notes why the session ends; the first reason counts. Its connections no longer wait for a rule."""
+        self.end_reason = self.end_reason or reason
+        for connection in self._connections:
+            connection.wake()
+
+    def join(self, connection: Joined) -> None:
+        self._connections.append(connection)
+
+    def leave(self, connection: Joined) -> bool:
+        """Removes a connection; returns whether it was the last one."""
+        self._connections.remove(connection)
+        return not self._connections
+
+    def close(self) -> None:
+        """Closes all its connections."""
+        for connection in list(self._connections):
+            connection.close()
+
+    def query_of(self, message_id: int) -> bytes:
+        """Returns the text of the client's message with this MessageID, as far as it is known."""
+        query = self._queries.get(message_id)
+        return query.text if query is not None else b""
+
+    def note_request(self, header: Header, payload: bytes, now: float) -> None:
+        """Notes a message of the client that has a response."""
+        kind = header.kind
+        if kind in (MessageType.DATA, MessageType.DATA_END):
+            self._parts = (self._parts + payload[:KEPT_TEXT])[:KEPT_TEXT]
+        if kind == MessageType.DATA_END:
+            self._note_query(Query(header.parameter, self._parts, now))
+            self._parts = b""
+        elif kind == MessageType.DEVICE_CLEAR_COMPLETE:
+            self._parts = b""
+            self._queries.clear()
+            self._unanswered.clear()
+        if kind in REQUESTS:
+            self._requests.setdefault(kind, collections.deque(maxlen=KEPT_QUERIES)).append(now)
+
+    def note_response(self, header: Header, now: float) -> Optional[float]:
+        """Returns the seconds since the message that this one of the server responds to, where it is known."""
+        if header.kind in (MessageType.DATA, MessageType.DATA_END):
+            query = self._queries.get(header.parameter)
+            return now - query.moment if query is not None else None
+        waiting = self._requests.get(REQUEST_OF.get(header.kind, -1))
+        return now - waiting.popleft() if waiting else None
+
+    def note_delivered(self, header: Header) -> None:
+        """Notes that a message of the server was passed on to the client."""
+        if header.kind == MessageType.DATA_END:
+            self._unanswered.pop(header.parameter, None)
+
+    def unanswered(self) -> List[Query]:
+        """Returns the queries without a response, the oldest first."""
+        return list(self._unanswered.values())
+
+    def _note_query(self, query: Query) -> None:
+        self._queries[query.message_id] = query
+        if asks(query.text):
+            self._unanswered[query.message_id] = query
+        if len(self._queries) > KEPT_QUERIES:
+            oldest, _ = self._queries.popitem(last=False)
+            self._unanswered.pop(oldest, None)
+
+
+class Transmissions:
+    """The frames in one direction of a connection: which begin a message, and what a rule does to the rest of it."""
+
+    def __init__(self) -> None:
+        self.rule: Optional[Rule] = None
+        self._is_inside = False
+
+    def begins_message(self, header: Header) -> bool:
+        """Notes a frame; returns whether it begins a message, so that rules look at it."""
+        is_data = header.kind in (MessageType.DATA, MessageType.DATA_END)
+        begins = not (is_data and self._is_inside)
+        if is_data:
+            self._is_inside = header.kind == MessageType.DATA
+        elif header.kind in (MessageType.DEVICE_CLEAR_COMPLETE, MessageType.DEVICE_CLEAR_ACKNOWLEDGE):
+            self._is_inside = False
+        return begins
+
+    def rest_action(self) -> Optional[Action]:
+        """Returns what the rule of the message's first frame does to the frames after it."""
+        if self.rule is None:
+            return None
+        action = self.rule.action
+        if action in (Action.HOLD, Action.ERROR):
+            return Action.HOLD
+        return Action.DROP_AFTER if action is Action.DROP_AFTER else None
+
+
+class Sessions:
+    """All sessions that are open: a second connection finds its own by the number that the server gave it."""
+
+    def __init__(self) -> None:
+        self._last = 0
+        self._by_server_number: Dict[int, Session] = {}
+
+    def open(self) -> Session:
+        self._last += 1
+        return Session(self._last)
+
+    def name(self, server_number: int, session: Session) -> None:
+        """Notes the number that InitializeResponse gave a session."""
+        self._by_server_number[server_number] = session
+
+    def find(self, server_number: int) -> Optional[Session]:
+        return self._by_server_number.get(server_number)
+
+    def remove(self, session: Session) -> None:
+        for number in [number for number, one in self._by_server_number.items() if one is session]:
+            del self._by_server_number[number]
+

@@ -1,0 +1,192 @@
+"""Starts and stops a server program for a test: `psu serve` over an image, at a port of its own.
+
+    with Server() as server, server.connect() as supply:
+        print(supply.query("*IDN?"))
+"""
+from __future__ import annotations
+
+import contextlib
+import os
+import select
+import shutil
+import signal
+import socket
+import subprocess
+import tempfile
+import time
+from typing import IO, Dict, List, Optional, Union
+
+from .client import Instrument
+from .errors import ServerNotStarted, Timeout
+
+# In a clone of the repository the program is built there.
+BUILT = os.path.join(os.path.dirname(os.path.abspath(__file__)), "..", "..", "crates", "psu", "out", "psu")
+START_TIMEOUT = 30.0  # seconds in which the server says that it listens
+TRIES = 20  # of free ports
+PORT_TAKEN = "psu: network fault"
+
+
+def find_program() -> str:
+    """Returns the path of `psu`: the variable PSU, else the one built in this repository, else that of the PATH."""
+    named = os.environ.get("PSU")
+    candidates: List[Optional[str]] = [named] if named else [os.path.normpath(BUILT), shutil.which("psu")]
+    for path in candidates:
+        if path and os.path.isfile(path) and os.access(path, os.X_OK):
+            return path
+    raise FileNotFoundError("no program psu: set PSU to its path, or build it (./psu run < crates/psu/stdin)")
+
+
+def free_port() -> int:
+    """Returns a port that nothing has at this moment; another program may take it before its use."""
+    with socket.socket() as it:
+        it.bind(("127.0.0.1", 0))
+        port: int = it.getsockname()[1]
+        return port
+
+
+class Server:
+    """A server process over an image.
+
+    `image` is made where it is missing; without one the image is a temporary file, kept until `close` or the end of the
+    `with` block. Without `port` it is a free one: another is tried where a program takes it first, and a restart uses
+    the same one again where it is still free. `environment` has variables beside those of this process.
+    """
+
+    def __init__(
+        self,
+        image: Union[str, "os.PathLike[str]", None] = None,
+        program: Optional[str] = None,
+        port: Optional[int] = None,
+        environment: Optional[Dict[str, str]] = None,
+    ) -> None:
+        self._folder: Optional[str] = None
+        if image is None:
+            self._folder = tempfile.mkdtemp(prefix="psu-")
+            image = os.path.join(self._folder, "bench.psu")
+        self.image = os.fspath(image)
+        self.program = program or find_program()
+        self.port = port
+        self.process: Optional[subprocess.Popen[str]] = None
+        self._is_port_given = port is not None
+        self._environment = {**os.environ, **(environment or {})}
+        self._messages: Optional[IO[bytes]] = None
+
+    def __enter__(self) -> Server:
+        self.start()
+        return self
+
+    def __exit__(self, *_: object) -> None:
+        self.close()
+
+    @property
+    def is_running(self) -> bool:
+        return self.process is not None and self.process.poll() is None
+
+    @property
+    def resource(self) -> str:
+        """The resource string of VISA."""
+        return f"TCPIP::127.0.0.1::hislip0,{self.port}::INSTR"
+
+    def start(self) -> None:
+        """Starts the server, and returns once it takes connections."""
+        if self.is_running:
+            raise ServerNotStarted(f"it runs already, at port {self.port}")
+        if not os.path.exists(self.image):
+            subprocess.run([self.program, "make", self.image], check=True, env=self._environment)
+        if self._is_port_given:
+            self._start_at(self.port)
+        else:
+            self._start_at_a_free_port()
+
+    def connect(self, timeout: float = 5.0, check_errors: bool = False) -> Instrument:
+        """Returns a new session."""
+        return Instrument(port=self._used_port(), timeout=timeout, check_errors=check_errors)
+
+    def wait(self, timeout: Optional[float] = None) -> int:
+        """Waits until the process has ended by itself and returns its exit status, as subprocess.Popen.wait."""
+        assert self.process is not None, "the server was started"
+        return self.process.wait(timeout)
+
+    def stop(self) -> None:
+        """Ends the process by SIGTERM. What *OPC? did not confirm may be lost, as with `kill`."""
+        self._end_by(signal.SIGTERM)
+
+    def kill(self) -> None:
+        """Ends the process by SIGKILL, wherever it is in its work."""
+        self._end_by(signal.SIGKILL)
+
+    def restart(self) -> None:
+        """Kills the process where it runs, and starts it again on the same image, at the same port where it is free."""
+        self.kill()
+        self.start()
+
+    def close(self) -> None:
+        """Ends the process; a temporary image is removed."""
+        self.stop()
+        if self._messages is not None:
+            self._messages.close()
+            self._messages = None
+        if self._folder is not None:
+            shutil.rmtree(self._folder, ignore_errors=True)
+
+    def messages(self) -> str:
+        """Returns what the process wrote to standard error since its last start."""
+        if self._messages is None:
+            return ""
+        size = os.fstat(self._messages.fileno()).st_size
+        # The process writes at its own place in this file, which a read that moved it would change.
+        return os.pread(self._messages.fileno(), size, 0).decode("utf-8", "replace")
+
+    def wait_for_message(self, text: str, timeout: float = 10.0) -> None:
+        """Waits until the process has written this to standard error, as `psu: store reopened`."""
+        deadline = time.monotonic() + timeout
+        while text not in self.messages():
+            if time.monotonic() >= deadline:
+                raise Timeout(f"the server did not say {text!r} in time")
+            time.sleep(0.02)
+
+    def _used_port(self) -> int:
+        assert self.port is not None, "the server was started"
+        return self.port
+
+    def _start_at_a_free_port(self) -> None:
+        for _ in range(TRIES):
+            self.port = self.port or free_port()
+            try:
+                return self._start_at(self.port)
+            except ServerNotStarted as fault:
+                # Another program took the port after it was looked for.
+                if PORT_TAKEN not in str(fault):
+                    raise
+                self.port = None
+        raise ServerNotStarted(f"{TRIES} free ports were taken by others before the server had them")
+
+    def _start_at(self, port: Optional[int]) -> None:
+        if self._messages is not None:
+            self._messages.close()
+        self._messages = tempfile.TemporaryFile()
+        command = [self.program, "serve", self.image, "--port", str(port)]
+        self.process = subprocess.Popen(
+            command, stdout=subprocess.PIPE, stderr=self._messages, universal_newlines=True, env=self._environment
+        )
+        # The line comes once the server takes connections.
+        if first_line(self.process) != f"listening on 127.0.0.1:{port}\n":
+            self._end_by(signal.SIGTERM)
+            raise ServerNotStarted(self.messages().strip() or "the server ended or did not listen, without a message")
+
+    def _end_by(self, number: int) -> None:
+        if self.process is None:
+            return
+        with contextlib.suppress(ProcessLookupError):
+            self.process.send_signal(number)
+        self.process.wait()
+        assert self.process.stdout is not None
+        self.process.stdout.close()
+        self.process = None
+
+
+def first_line(process: subprocess.Popen[str]) -> str:
+    """Returns the first line that a process prints; empty where it ended before, or printed none in time."""
+    assert process.stdout is not None
+    ready, _, _ = select.select([process.stdout], [], [], START_TIMEOUT)
+    return process.stdout.readline() if ready else ""

@@ -1,0 +1,90 @@
+"""A load of queries, to measure psu-relay by: sessions that each send so many messages a second.
+
+    PYTHONPATH=python python3 python/tests/load.py --port 4880 --sessions 16 --rate 100 --seconds 60
+    PYTHONPATH=python python3 python/tests/load.py --check traffic.log --sessions 16
+
+The first prints how long responses took. The second says whether each message is in the relay's log once, and its
+response too: a message is known by its session and its MessageID.
+"""
+import argparse
+import asyncio
+import collections
+import re
+import sys
+import time
+
+from psu.frames import FIRST_MESSAGE_ID, PROTOCOL_1_0, Frame, MessageType, after, read_frame
+
+MESSAGE = re.compile(r"^\S+ +(\d+) (-->|<--) DataEnd +([0-9a-f]{8}) .*\\n$")
+QUERY = b"MEAS:VOLT?\n"
+
+
+async def begin(port):
+    """Returns both connections of a new session."""
+    sync = await asyncio.open_connection("127.0.0.1", port)
+    sync[1].write(Frame(MessageType.INITIALIZE, 0, PROTOCOL_1_0 << 16, b"hislip0").pack())
+    session = (await read_frame(sync[0])).parameter & 0xFFFF
+    second = await asyncio.open_connection("127.0.0.1", port)
+    second[1].write(Frame(MessageType.ASYNC_INITIALIZE, 0, session).pack())
+    await read_frame(second[0])
+    return sync, second
+
+
+async def send_queries(arguments, times):
+    """Sends queries at the rate, and puts the seconds to each response into `times`."""
+    (reader, writer), second = await begin(arguments.port)
+    message_id, begun = FIRST_MESSAGE_ID, time.monotonic()
+    for count in range(arguments.rate * arguments.seconds):
+        await asyncio.sleep(max(0, begun + count / arguments.rate - time.monotonic()))
+        sent = time.perf_counter()
+        writer.write(Frame(MessageType.DATA_END, int(count > 0), message_id, QUERY).pack())
+        response = await read_frame(reader)
+        times.append(time.perf_counter() - sent)
+        if response.parameter != message_id:
+            raise ValueError(f"{response} to the query {message_id:08x}")
+        message_id = after(message_id)
+    for one in (writer, second[1]):
+        one.close()
+
+
+async def load(arguments):
+    times, begun = [], time.monotonic()
+    await asyncio.gather(*(send_queries(arguments, times) for _ in range(arguments.sessions)))
+    seconds = time.monotonic() - begun
+    times.sort()
+    shown = ", ".join(f"{times[len(times) * part // 1000] * 1000:.2f} ms ({part / 10:g} %)" for part in (500, 900, 990))
+    print(f"{len(times)} messages in {seconds:.1f} s, {len(times) / seconds:.0f} a second: {shown}, "
+          f"at most {times[-1] * 1000:.1f} ms")
+
+
+def check(path):
+    """Says how often messages are in a log; returns the exit status."""
+    counts, others = collections.Counter(), collections.Counter()
+    with open(path) as file:
+        for line in file:
+            found = MESSAGE.search(line)
+            if found:
+                counts[found.groups()] += 1
+            else:
+                others[" ".join(line.split()[2:4])] += 1
+    queries = [key for key in counts if key[1] == "-->"]
+    once = sum(1 for key in queries if counts[key] == 1 == counts[key[0], "<--", key[2]])
+    print(f"{len(queries)} queries, {len(counts) - len(queries)} responses; once each: {once}; others: {dict(others)}")
+    return 0 if 2 * once == len(counts) else 1
+
+
+def main():
+    parser = argparse.ArgumentParser(description=__doc__, formatter_class=argparse.RawDescriptionHelpFormatter)
+    parser.add_argument("--port", type=int, default=4880)
+    parser.add_argument("--sessions", type=int, default=16)
+    parser.add_argument("--rate", type=int, default=100, help="messages a second of each session")
+    parser.add_argument("--seconds", type=int, default=60)
+    parser.add_argument("--check", metavar="LOG")
+    arguments = parser.parse_args()
+    if arguments.check:
+        return check(arguments.check)
+    return asyncio.run(load(arguments))
+
+
+if __name__ == "__main__":
+    sys.exit(main())

@@ -1,0 +1,44 @@
+"""Tests of the package where it is installed: `pip install ./python` in an empty environment, without a network."""
+import os
+import subprocess
+import sys
+
+import pytest
+
+PACKAGE = os.path.dirname(os.path.dirname(os.path.dirname(os.path.abspath(__file__))))
+PROGRAMS = ("psu-relay", "psu-socket", "psu-backup")
+
+
+def run(*command, **how):
+    return subprocess.run(command, stdout=subprocess.PIPE, stderr=subprocess.STDOUT, universal_newlines=True, **how)
+
+
+@pytest.fixture(scope="module")
+def environment(tmp_path_factory):
+    """The folder of the programs of an environment in which the package is installed."""
+    folder = str(tmp_path_factory.mktemp("environment"))
+    if run(sys.executable, "-m", "venv", folder).returncode != 0:
+        pytest.skip("this Python makes no environments (on Debian: python3-venv)")
+    ended = run(os.path.join(folder, "bin", "pip"), "install", "--no-index", PACKAGE)
+    assert ended.returncode == 0, ended.stdout
+    return os.path.join(folder, "bin")
+
+
+def test_the_client(environment, server):
+    code = f"import psu; print(psu.__version__, psu.Instrument(port={server.port}).query('*IDN?'))"
+    ended = run(os.path.join(environment, "python"), "-I", "-c", code)
+    assert ended.stdout.endswith("1.0 EXAMPLE,PSU4,0,1.0\n")
+
+
+@pytest.mark.parametrize("program", PROGRAMS)
+def test_the_programs(environment, program):
+    ended = run(os.path.join(environment, program), "--help")
+    assert ended.returncode == 0 and ended.stdout.startswith("usage: "), ended.stdout
+
+
+def test_the_entry_point_of_pytest(environment):
+    code = "from importlib.metadata import entry_points as e; print([it.value for it in found if it.name == 'psu'])"
+    found = "from importlib.metadata import entry_points as e; a = e(); "
+    found += "found = a.select(group='pytest11') if hasattr(a, 'select') else a.get('pytest11', []); "
+    ended = run(os.path.join(environment, "python"), "-I", "-c", found + code)
+    assert ended.stdout == "['psu.pytest_plugin']\n"
