@@ -74,7 +74,10 @@ fn a_flapping_disk_is_told_of_once_a_second(rt: HostRuntime) -> Result<(), Fail>
     let seconds = saves_on_a_flapping_disk(&rt, &mut one)?;
     let lines = u64::try_from(screen.count()).unwrap_or(u64::MAX);
     holds(seconds >= 3, "saves for three seconds")?;
-    holds(lines >= 2 && lines.saturating_sub(1) <= seconds, "a line each second")?;
+    holds(
+        lines >= 2 && lines.saturating_sub(1) <= seconds,
+        "a line each second",
+    )?;
     screen.says(" times)\n")?;
     one.is_served()?;
     Ok(())
