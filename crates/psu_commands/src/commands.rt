@@ -3,7 +3,7 @@ use crate::fault::Fault;
 use crate::image::{LIMIT, SIZE, new_image};
 use psu_disk::{Disk, FileDisk, MemDisk, OsFiles};
 use psu_items::Store;
-use psu_server::{Recovered, recover, report_text, run};
+use psu_run::{Recovered, recover, report_text, run};
 use std::alloc::Global;
 use std::fs::File;
 use std::io::{self, Input, Print, Write};

@@ -1,7 +1,7 @@
 //! Why a command of the program fails.
 use psu_disk::OpenFault;
 use psu_items::FormatCause;
-use psu_server::{RecoverFault, RunCause};
+use psu_run::{RecoverFault, RunCause};
 use thiserror::Error;
 
 /// Why a command of the program fails, by the text that standard error shows after `psu: `.

@@ -2,9 +2,9 @@
 use Rattle.std.specs.Prelude.{◌≡◌, ⊤, ℕ, List, [], length, None, Some}
 use Rattle.psu_disk.specs.Disk.{DiskState, IsCrashImage}
 use Rattle.psu_items.specs.Image.{EachRepresents, current_root, number_in}
-use Rattle.psu_server.specs.Results.{WritesRun}
-use Rattle.psu_server.specs.Reasons.{EndsFor, GivenByInput}
-use Rattle.psu_server.specs.declared.run_cause.RunCause.{RunCause}
+use Rattle.psu_run.specs.Results.{WritesRun}
+use Rattle.psu_run.specs.Reasons.{EndsFor, GivenByInput}
+use Rattle.psu_run.specs.declared.run_cause.RunCause.{RunCause}
 use Rattle.psu_guide.specs.declared.play_fault.PlayFault.{PlayFault}
 use Rattle.psu_guide.specs.declared.play_fault.PlayFault.TheVariants.{Memory, Run}
 

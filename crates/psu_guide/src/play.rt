@@ -1,14 +1,14 @@
 //! The responses of the instrument.
 ghost use Rattle.std.specs.Prelude.{IfErr, IfOk, IfSome, List, None, Some, [], ℕ};
-ghost use Rattle.psu_server.specs.Reasons.{EndsFor, GivenByInput};
-ghost use Rattle.psu_server.specs.Results.{WritesRun};
+ghost use Rattle.psu_run.specs.Reasons.{EndsFor, GivenByInput};
+ghost use Rattle.psu_run.specs.Results.{WritesRun};
 ghost use Rattle.psu_guide.specs.Plays.{CannotAnswer, IsNew, Plays};
 
 use crate::play_fault::PlayFault;
 use psu_disk::{Disk, MemDisk};
 use psu_examples::Player;
 use psu_items::Store;
-use psu_server::{RunCause, run};
+use psu_run::{RunCause, run};
 use std::alloc::Allocator;
 
 // The number of pages that the contents of a new image may cost.

@@ -1,5 +1,5 @@
 //! Why a new instrument does not answer an example.
-use psu_server::RunCause;
+use psu_run::RunCause;
 
 /// Why a new instrument does not answer an example.
 #[derive(Drop)]

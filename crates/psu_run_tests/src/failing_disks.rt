@@ -4,7 +4,7 @@ use crate::images::{least, written_on};
 use crate::runs::{NOT_OPENED, Ran, run_on};
 use psu_disk::{Choice, FailingDisk, MemDisk};
 use psu_items::Store;
-use psu_server::RunCause;
+use psu_run::RunCause;
 use std::alloc::Global;
 
 type Failed = Ran<FailingDisk<MemDisk<Global>>>;

@@ -4,7 +4,7 @@ use crate::images::{SIZE, formatted};
 use crate::runs::{NOT_OPENED, run_between, run_from, run_on};
 use crate::spelled::spoiled;
 use psu_disk::{FailingDisk, MemDisk};
-use psu_server::{RunCause, StartCause};
+use psu_run::{RunCause, StartCause};
 use std::alloc::Global;
 use std::io::{self, ErrorKind, Read, Write};
 

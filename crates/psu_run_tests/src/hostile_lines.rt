@@ -2,7 +2,7 @@
 use crate::holds::holds;
 use crate::images::{formatted, written, written_on};
 use crate::runs::run_from;
-use psu_server::RunCause;
+use psu_run::RunCause;
 use psu_tables::{bytes, row};
 use std::alloc::Global;
 use std::io::{self, Read};

@@ -2,7 +2,7 @@
 use crate::runs::run_between;
 use psu_disk::MemDisk;
 use psu_items::Store;
-use psu_server::{recover, report_text};
+use psu_run::{recover, report_text};
 use std::alloc::Global;
 
 /// The size of an image of 256 pages.

@@ -3,7 +3,7 @@ use crate::holds::holds;
 use crate::images::least;
 use crate::runs::run_on;
 use psu_disk::{Disk, FailingDisk, MemDisk};
-use psu_server::RunCause;
+use psu_run::RunCause;
 use psu_tables::written;
 use std::alloc::Global;
 

@@ -10,7 +10,7 @@ use crate::runs::{Ran, run_from};
 use crate::transcripts::lines_behind;
 use bumpalo::Bump;
 use psu_disk::MemDisk;
-use psu_server::RunCause;
+use psu_run::RunCause;
 use std::alloc::{AllocError, Global};
 use std::process::Abort;
 

@@ -6,7 +6,7 @@ use crate::transcripts::lines_behind;
 use psu_call_steps::{play, powered_on};
 use psu_disk::MemDisk;
 use psu_exec::Ended;
-use psu_server::{RecoverFault, recover};
+use psu_run::{RecoverFault, recover};
 use std::alloc::Global;
 use std::process::Abort;
 

@@ -1,6 +1,6 @@
 // A run, and its result.
 use psu_disk::Disk;
-use psu_server::{RunCause, RunFault, StartCause, run};
+use psu_run::{RunCause, RunFault, StartCause, run};
 use std::alloc::{Allocator, Global};
 use std::io::{Read, Write};
 

@@ -9,7 +9,7 @@ use crate::memory::{End, arena, behind, leave};
 use crate::runs::{Ran, run_from};
 use bumpalo::Bump;
 use psu_disk::MemDisk;
-use psu_server::RunCause;
+use psu_run::RunCause;
 use std::alloc::{AllocError, Global};
 use std::io::{self, ErrorKind, Read};
 use std::process::Abort;

@@ -2,7 +2,7 @@
 use psu_client::Missed;
 use psu_disk::{Disk, FileDisk, MemDisk, OsFiles};
 use psu_items::Store;
-use psu_server::{Recovered, recover, report_text, run};
+use psu_run::{Recovered, recover, report_text, run};
 use std::alloc::Global;
 use std::fs::{self, File};
 use std::rt::Files;

@@ -1,5 +1,5 @@
 use Rattle.std.proofs.Common.{ℕ, List, Some, subst}
-use Rattle.psu_server.specs.Results.{WritesRun}
+use Rattle.psu_run.specs.Results.{WritesRun}
 use Rattle.psu_guide.proofs.play.written.Goals as goal
 
 -- the writer held nothing

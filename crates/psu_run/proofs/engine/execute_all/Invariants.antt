@@ -1,0 +1,18 @@
+use Rattle.std.proofs.Common.{◌≡◌, List, ℕ, length, ◌-◌}
+use Rattle.psu_run.specs.Input.{HasRead}
+use Rattle.psu_run.specs.Lines.{coming}
+use Rattle.psu_run.proofs.Reading.{Ran}
+use Rattle.psu_run.proofs.engine.execute_all.Given as goal
+
+-- Each read so far returned bytes.
+abbrev pub invariant-reading : goal.invariant-reading
+invariant-reading g l = record {
+  seen : List ℕ;
+  has : HasRead l.intake.reads l.intake.reads seen (g.R.Source.remaining l.initial.reader) (g.R.Source.remaining l.reader) (g.R.Source.reads l.initial.reader) (g.R.Source.reads l.reader);
+  taken : length seen ≡ l.intake.bytes;
+  ran : Ran (coming l.lines.is_too_long l.lines.line.items) l.initial.powered.exec l.powered.exec
+      (g.R.Source.remaining l.initial.reader) (g.R.Source.remaining l.reader) (g.W.Write.contents l.initial.writer) (g.W.Write.contents l.writer);
+}
+
+abbrev pub decreases-reading : goal.decreases-reading
+decreases-reading g l = 1048576 - l.intake.reads

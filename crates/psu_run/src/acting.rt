@@ -1,0 +1,120 @@
+// The execution of one unit, with the flushes that it waits for.
+ghost use Rattle.std.specs.Prelude.{◌≡◌, ◌∷◌, [], IfOk, IfErr, true, false};
+ghost use Rattle.psu_exec.specs.Device.{is_open, wait_of};
+ghost use Rattle.psu_exec.specs.Shown.{outcome_of};
+ghost use Rattle.psu_run.specs.Progress.{Acted, Continues, DeviceStops, WaitEnds};
+ghost use Rattle.psu_run.specs.Runs.{is_final, is_later, is_parked, UnitRuns};
+
+use crate::RunCause;
+use crate::jobs::flush;
+use crate::powered_device::PoweredDevice;
+use psu_disk::Disk;
+use psu_exec::{Exec, Outcome, Request, Session};
+use std::alloc::Allocator;
+
+fn is_parked<A: Allocator + Copy>(outcome: &Outcome<A>) -> bool
+    ensures { result ≡ is_parked (outcome_of outcome.now) }
+{
+    matches!(outcome, Outcome::Parked)
+}
+
+fn is_later<A: Allocator + Copy>(outcome: &Outcome<A>) -> bool
+    ensures { result ≡ is_later (outcome_of outcome.now) }
+{
+    matches!(outcome, Outcome::Later)
+}
+
+fn is_final<A: Allocator + Copy>(outcome: &Outcome<A>) -> bool
+    ensures { result ≡ is_final (outcome_of outcome.now) }
+{
+    !matches!(outcome, Outcome::Parked | Outcome::Held | Outcome::Later)
+}
+
+// Flushes, and returns the outcome of the session's wait.
+fn wait_end<D: Disk, A: Allocator + Copy>(
+    exec: &mut Exec<D, A>,
+    session: Session,
+) -> Result<Outcome<A>, RunCause>
+    requires first { session ≡ 1 }
+    requires idle { exec.old.device.flush.out ≡ false }
+    requires open { is_open exec.old.device 1 ≡ true }
+    ensures ends { IfOk result (λ o. Continues exec.old exec.new (WaitEnds (outcome_of o))) }
+    ensures ended { IfOk result (λ o. is_final (outcome_of o) ≡ true) }
+    ensures free { IfOk result (λ o. wait_of exec.new.device.flush 1 ≡ None) }
+    ensures device_stops { IfErr result (DeviceStops exec.old exec.new []) }
+    ensures idle { exec.new.device.flush.out ≡ false }
+    ensures open { is_open exec.new.device 1 ≡ true }
+    ensures locked { exec.new.device.volatile.locks ≡ exec.old.device.volatile.locks }
+{
+    flush(exec)?;
+    let outcome = exec.settle(session);
+    if !is_final(&outcome) {
+        return Err(RunCause::Device);
+    }
+    Ok(outcome)
+}
+
+// Flushes, and returns the outcome of the session's wait; on an error, clears the wait.
+fn wait<D: Disk, A: Allocator + Copy>(
+    exec: &mut Exec<D, A>,
+    session: Session,
+) -> Result<Outcome<A>, RunCause>
+    requires first { session ≡ 1 }
+    requires idle { exec.old.device.flush.out ≡ false }
+    requires open { is_open exec.old.device 1 ≡ true }
+    ensures ends { IfOk result (λ o. Continues exec.old exec.new (WaitEnds (outcome_of o))) }
+    ensures ended { IfOk result (λ o. is_final (outcome_of o) ≡ true) }
+    ensures free { wait_of exec.new.device.flush 1 ≡ None }
+    ensures device_stops { IfErr result (DeviceStops exec.old exec.new []) }
+    ensures idle { exec.new.device.flush.out ≡ false }
+    ensures open { is_open exec.new.device 1 ≡ true }
+    ensures locked { exec.new.device.volatile.locks ≡ exec.old.device.volatile.locks }
+{
+    match wait_end(exec, session) {
+        Ok(outcome) => Ok(outcome),
+        Err(cause) => {
+            exec.clear(session);
+            Err(cause)
+        }
+    }
+}
+
+/// Executes a unit. A parked unit waits for a flush and is settled. The outcome may still be `Later`.
+#[inline(always)]
+pub fn act<D: Disk, A: Allocator + Copy>(
+    powered: &mut PoweredDevice<D, A>,
+    request: &Request<'_>,
+) -> Result<Outcome<A>, RunCause>
+    ensures acted { IfOk result (λ o. Continues powered.old.exec powered.new.exec (Acted request.now (outcome_of o))) }
+    ensures ended { IfOk result (λ o. is_later (outcome_of o) ≡ false → is_final (outcome_of o) ≡ true) }
+    ensures device_stops { IfErr result (DeviceStops powered.old.exec powered.new.exec (request.now ∷ [])) }
+{
+    let outcome = powered.exec.execute(powered.session, request);
+    if !is_parked(&outcome) {
+        return Ok(outcome);
+    }
+    let outcome = wait(&mut powered.exec, powered.session)?;
+    Ok(outcome)
+}
+
+/// Executes a unit; where its outcome is `Later`, flushes and executes it again.
+#[inline(always)]
+pub fn unit<D: Disk, A: Allocator + Copy>(
+    powered: &mut PoweredDevice<D, A>,
+    request: &Request<'_>,
+) -> Result<Outcome<A>, RunCause>
+    ensures runs { IfOk result (λ o. Continues powered.old.exec powered.new.exec (λ can w v. UnitRuns can w request.now (outcome_of o) v)) }
+    ensures ended { IfOk result (λ o. is_final (outcome_of o) ≡ true) }
+    ensures device_stops { IfErr result (DeviceStops powered.old.exec powered.new.exec (request.now ∷ [])) }
+{
+    let outcome = act(powered, request)?;
+    if !is_later(&outcome) {
+        return Ok(outcome);
+    }
+    flush(&mut powered.exec)?;
+    let outcome = act(powered, request)?;
+    if is_later(&outcome) {
+        return Err(RunCause::Device);
+    }
+    Ok(outcome)
+}

@@ -1,0 +1,142 @@
+// The executor of a run: it executes units on the device and outputs their answers.
+ghost use Rattle.std.specs.Prelude.{◌≡◌, [], List, ℕ, IfErr, IfOk, IfSome, OnOk, None, false};
+ghost use Rattle.psu_answers.specs.ResponseBuffer.{nothing};
+ghost use Rattle.psu_answers.specs.Response.{joined, response};
+ghost use Rattle.psu_messages.specs.Executions.{Advances, IsOver, StopsAt};
+ghost use Rattle.psu_messages.specs.Relations.{IsAwaited};
+ghost use Rattle.psu_messages.specs.Shown.{progress_of};
+ghost use Rattle.psu_tree.specs.declared.unit_request.Request.{Request as RequestData};
+ghost use Rattle.psu_run.specs.Effects.{IsDone, IsFailed, IsStopped, line_source};
+ghost use Rattle.psu_run.specs.Lines.{Asks, is_power, message_now};
+ghost use Rattle.psu_run.specs.Output.{Says, SaysUntil, held, output_state};
+ghost use Rattle.psu_run.specs.Progress.{Breaks, Continues};
+ghost use Rattle.psu_run.specs.Runs.{LineBegins, LineRuns};
+
+use crate::RunCause;
+use crate::acting::unit;
+use crate::lines::Lines;
+use crate::run_state::RunState;
+use crate::writing::append_output;
+use psu_answers::ResponseBuffer;
+use psu_disk::Disk;
+use psu_exec::{Outcome, Request, ScpiError};
+use psu_lex::laws::{
+    every_list_has_units, one_header_of_a_text, one_list_of_units, one_syntax_of_a_unit,
+};
+use psu_messages::{Executor, Need, Progress, Refused, execute_fault, execute_text};
+use psu_tree::laws::{every_unit_reads, one_reading_of_a_unit};
+use std::alloc::Allocator;
+use std::io::Write;
+use std::mem;
+
+// Executes the message of a line: its bytes, or the error that the line is too long.
+#[inline(always)]
+fn proceed<A: Allocator + Copy, F: Executor<A>>(
+    executor: &mut F,
+    lines: &Lines<A>,
+    progress: &mut Progress<A>,
+) -> Result<Option<Need>, F::Stop>
+    requires { progress.old.units ≡ 0 }
+    ensures goes { OnOk result (Advances F.relations.does (line_source lines.now.is_too_long lines.now.line.items) executor.old (progress_of progress.old) executor.new (progress_of progress.new)) }
+    ensures over { IfOk result (λ need. need ≡ None → IsOver (line_source lines.now.is_too_long lines.now.line.items) (progress_of progress.new)) }
+    ensures waits { IfOk result (λ some. IfSome some (IsAwaited F.relations executor.new)) }
+    ensures stops { IfErr result (λ stop. StopsAt F.relations (line_source lines.now.is_too_long lines.now.line.items) executor.old (progress_of progress.old) stop executor.new
+        progress.new.gathered) }
+{
+    if lines.is_too_long {
+        let need = execute_fault(executor, ScpiError::TooMuchData, progress)?;
+        return Ok(need);
+    }
+    let need = execute_text(executor, lines.line.as_slice(), progress)?;
+    Ok(need)
+}
+
+/// The executor of a run: a powered-on device with its answers that are not yet written, and the writer.
+#[derive(Drop)]
+pub struct Console<'p, 'w, W: Write, D: Disk, A: Allocator + Copy> {
+    pub run_state: &'p mut RunState<D, A>,
+    pub writer: &'w mut W,
+}
+
+impl<'p, 'w, W: Write, D: Disk, A: Allocator + Copy> Executor<A> for Console<'p, 'w, W, D, A> {
+    type Stop = RunCause;
+
+    ghost relations = { record {
+      does = λ x effect y. (y.run_state.ghost_name ≡ x.run_state.ghost_name) × (y.writer.ghost_name ≡ x.writer.ghost_name)
+          × IsDone x.run_state.now.powered.exec (held (W.contents x.writer.now) x.run_state.now.unwritten.output.items) effect y.run_state.now.powered.exec (held (W.contents y.writer.now) y.run_state.now.unwritten.output.items);
+      fails = λ x request cause y. (y.run_state.ghost_name ≡ x.run_state.ghost_name) × (y.writer.ghost_name ≡ x.writer.ghost_name)
+          × IsFailed x.run_state.now.powered.exec (held (W.contents x.writer.now) x.run_state.now.unwritten.output.items) request cause y.run_state.now.powered.exec (held (W.contents y.writer.now) y.run_state.now.unwritten.output.items);
+      stops = λ x cause y. (y.run_state.ghost_name ≡ x.run_state.ghost_name) × (y.writer.ghost_name ≡ x.writer.ghost_name)
+          × IsStopped x.run_state.now.powered.exec (held (W.contents x.writer.now) x.run_state.now.unwritten.output.items) cause y.run_state.now.powered.exec (held (W.contents y.writer.now) y.run_state.now.unwritten.output.items);
+      yields = λ _. ⊥;
+    } };
+
+    // It never yields: a run has no others.
+    #[inline(always)]
+    fn may_continue(&self) -> bool {
+        true
+    }
+
+    #[inline(always)]
+    fn execute(&mut self, request: &Request<'_>) -> Result<Outcome<A>, RunCause> {
+        unit(&mut self.run_state.powered, request)
+    }
+
+    // Never called: `execute` returns final outcomes alone, so no unit is left to settle.
+    fn settle(&mut self) -> Result<Outcome<A>, RunCause> {
+        Err(RunCause::Memory)
+    }
+
+    #[inline(always)]
+    fn send(&mut self, text: &[u8], _: bool) -> Result<(), RunCause> {
+        append_output(&mut self.run_state.unwritten.output, text, self.writer)
+    }
+
+    fn out_of_memory(&self, _: Refused) -> RunCause {
+        RunCause::Memory
+    }
+}
+
+impl<'p, 'w, W: Write, D: Disk, A: Allocator + Copy> Console<'p, 'w, W, D, A> {
+    /// Executes the message of a complete line that is not the one of a power loss, and outputs its response. Where it
+    /// stops early, the answers that were not output are left in the response buffer.
+    pub fn follow(&mut self, alloc: A, lines: &Lines<A>) -> Result<(), RunCause>
+        requires power { is_power (message_now lines.now.is_too_long lines.now.line.items) ≡ false }
+        requires fresh { self.old.run_state.now.unwritten.gathered ≡ nothing }
+        ensures runs { OnOk result ((requests : List RequestData) × Asks (message_now lines.now.is_too_long lines.now.line.items) requests × (answers : List (List ℕ))
+            × Continues self.old.run_state.now.powered.exec self.new.run_state.now.powered.exec (λ can w v. LineRuns can w [] requests answers v)
+            × Says (held (W.contents self.old.writer.now) self.old.run_state.now.unwritten.output.items) (held (W.contents self.new.writer.now) self.new.run_state.now.unwritten.output.items) (response answers)) }
+        ensures breaks { IfErr result (λ cause. (requests : List RequestData) × Asks (message_now lines.now.is_too_long lines.now.line.items) requests × (answers : List (List ℕ))
+            × Breaks self.old.run_state.now.powered.exec self.new.run_state.now.powered.exec (λ can w v. LineBegins can w [] requests answers v) cause
+            × SaysUntil cause (held (W.contents self.old.writer.now) self.old.run_state.now.unwritten.output.items)
+            (output_state (W.contents self.new.writer.now) self.new.run_state.now.unwritten) (joined answers)) }
+        ensures run_state { self.new.run_state.ghost_name ≡ self.old.run_state.ghost_name }
+        ensures writer { self.new.writer.ghost_name ≡ self.old.writer.ghost_name }
+    {
+        every_list_has_units();
+        every_unit_reads();
+        one_list_of_units();
+        one_reading_of_a_unit();
+        one_syntax_of_a_unit();
+        one_header_of_a_text();
+        let gathered = mem::replace(
+            &mut self.run_state.unwritten.gathered,
+            ResponseBuffer::new(alloc),
+        );
+        let mut progress = Progress {
+            units: 0,
+            expansion: None,
+            parked: false,
+            gathered,
+        };
+        let done = proceed(self, lines, &mut progress);
+        self.run_state.unwritten.gathered = progress.gathered;
+        match done {
+            Ok(need) => match need {
+                None => Ok(()),
+                Some(_) => unreachable!(),
+            },
+            Err(cause) => Err(cause),
+        }
+    }
+}

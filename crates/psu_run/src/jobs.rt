@@ -1,0 +1,110 @@
+// The flush: jobs are run until there is none.
+ghost use Rattle.std.specs.Prelude.{◌≡◌, ◌⊎◌, [], OnOk, IfErr, true, false, None};
+ghost use Rattle.psu_disk.specs.Disk.{HasFailed};
+ghost use Rattle.psu_exec.specs.Calls.{job_of};
+ghost use Rattle.psu_exec.specs.Device.{is_broken, is_open, wait_of};
+ghost use Rattle.psu_exec.specs.Jobs.{finished_of, job_data};
+ghost use Rattle.psu_exec.specs.declared.condition.Condition.TheVariants.{Worn};
+ghost use Rattle.psu_run.specs.Failures.{failures_of};
+ghost use Rattle.psu_run.specs.Jobs.{HasRun};
+ghost use Rattle.psu_run.specs.Progress.{Continues, DeviceStops};
+ghost use Rattle.psu_run.specs.Runs.{Flushes, Reopens, is_short};
+
+use crate::RunCause;
+use psu_disk::Disk;
+use psu_exec::{Condition, End, Exec, Job, NoJob};
+use psu_items::{BrokenCause, UnstartedCause};
+use std::alloc::Allocator;
+
+const JOBS: u32 = 4;
+
+// Whether a job ended out of memory.
+fn is_short<D: Disk, A: Allocator + Copy>(end: &End<D, A>) -> bool
+    ensures { result ≡ is_short (finished_of end.now) }
+{
+    match end {
+        End::Unstarted(_, _, cause) => matches!(cause, UnstartedCause::Memory),
+        End::Broken(broken) => matches!(broken.cause(), BrokenCause::Memory),
+        _ => false,
+    }
+}
+
+// Whether a commit has failed.
+fn is_broken(condition: Condition) -> bool
+    ensures { result ≡ is_broken condition }
+{
+    matches!(condition, Condition::Broken)
+}
+
+// Runs the job that is out, gives it back, and returns whether it ended out of memory.
+fn run_job<D: Disk, A: Allocator + Copy>(exec: &mut Exec<D, A>, job: Job<D, A>) -> bool
+    requires out { exec.old.device.flush.out ≡ true }
+    requires own { job_data job ≡ job_of exec.old.device.flush }
+    ensures run { HasRun exec.old job exec.new result }
+{
+    let finished = job.run();
+    let short = is_short(finished.end());
+    match exec.give_back(finished) {
+        Ok(_) => short,
+        Err(_) => unreachable!(),
+    }
+}
+
+/// Takes, runs and gives back jobs until there is nothing to take, at most 4 jobs. A job that ends out of memory ends
+/// the run.
+pub fn flush<D: Disk, A: Allocator + Copy>(exec: &mut Exec<D, A>) -> Result<(), RunCause>
+    requires idle { exec.old.device.flush.out ≡ false }
+    ensures flushes { OnOk result (Continues exec.old exec.new Flushes) }
+    ensures device_stops { IfErr result (DeviceStops exec.old exec.new []) }
+    ensures idle { exec.new.device.flush.out ≡ false }
+    ensures open { is_open exec.new.device 1 ≡ is_open exec.old.device 1 }
+    ensures locked { exec.new.device.volatile.locks ≡ exec.old.device.volatile.locks }
+    ensures free { wait_of exec.old.device.flush 1 ≡ None → wait_of exec.new.device.flush 1 ≡ None }
+
+    // Changes are left unflushed only where a disk call failed or the store is worn.
+    ensures clean { D.honest → OnOk result (HasFailed (failures_of exec.old) (failures_of exec.new) ⊎ (exec.new.device.flush.store ≡ Worn) ⊎ (exec.new.device.flush.unflushed ≡ 0)) }
+{
+    for _ in 0..JOBS {
+        match exec.take() {
+            Ok(job) => {
+                if run_job(exec, job) {
+                    return Err(RunCause::Memory);
+                }
+            }
+            Err(NoJob::Nothing) => return Ok(()),
+            Err(NoJob::Memory) => return Err(RunCause::Memory),
+            Err(NoJob::Out) => unreachable!(),
+        }
+    }
+    Ok(())
+}
+
+/// Reopens a broken store. A store that stays broken ends the run.
+pub fn reopen<D: Disk, A: Allocator + Copy>(exec: &mut Exec<D, A>) -> Result<(), RunCause>
+    requires idle { exec.old.device.flush.out ≡ false }
+    ensures reopens { OnOk result (Continues exec.old exec.new Reopens) }
+    ensures device_stops { IfErr result (DeviceStops exec.old exec.new []) }
+    ensures failed { D.honest → IfErr result (λ cause. cause ≡ RunCause.Device → HasFailed (failures_of exec.old) (failures_of exec.new)) }
+    ensures idle { exec.new.device.flush.out ≡ false }
+    ensures open { is_open exec.new.device 1 ≡ is_open exec.old.device 1 }
+    ensures locked { exec.new.device.volatile.locks ≡ exec.old.device.volatile.locks }
+    ensures free { wait_of exec.old.device.flush 1 ≡ None → wait_of exec.new.device.flush 1 ≡ None }
+    ensures mended { OnOk result (is_broken exec.new.device.flush.store ≡ false) }
+{
+    if !is_broken(exec.condition()) {
+        return Ok(());
+    }
+    match exec.take() {
+        Ok(job) => {
+            if run_job(exec, job) {
+                return Err(RunCause::Memory);
+            }
+        }
+        Err(NoJob::Memory) => return Err(RunCause::Memory),
+        Err(NoJob::Nothing | NoJob::Out) => unreachable!(),
+    }
+    if is_broken(exec.condition()) {
+        return Err(RunCause::Device);
+    }
+    Ok(())
+}

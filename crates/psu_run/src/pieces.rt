@@ -1,0 +1,145 @@
+// The lines that end in a piece of the input.
+ghost use Rattle.std.specs.Prelude.{◌≡◌, ◌≢◌, ◌∷◌, [], List, ℕ, OnOk, IfOk, IfErr, true, false};
+ghost use Rattle.psu_tree.specs.declared.unit_request.Request.{Request as RequestData};
+ghost use Rattle.psu_answers.specs.ResponseBuffer.{nothing};
+ghost use Rattle.psu_answers.specs.Response.{joined, response};
+ghost use Rattle.psu_run.specs.Lines.{Asks, Message, coming, is_power, message_now};
+ghost use Rattle.psu_run.specs.Output.{Says, SaysUntil, held, output_state};
+ghost use Rattle.psu_run.specs.Progress.{Breaks, Fed, Continues, RunsOn, Stopped, RunEndsHere};
+ghost use Rattle.psu_run.specs.Runs.{LineBegins, LineRuns, MessageBegins};
+ghost use Rattle.psu_run.specs.Reasons.{never};
+
+use crate::console::Console;
+use crate::halted::Halted;
+use crate::jobs::reopen;
+use crate::lines::Lines;
+use crate::powered_device::PoweredDevice;
+use crate::run_state::RunState;
+use crate::{RunCause, RunFault};
+use memchr::memchr;
+use psu_disk::Disk;
+use std::alloc::Allocator;
+use std::io::Write;
+
+// Simulates a power loss at rest and a restart: changes that are not flushed are lost. A broken store is reopened
+// before it.
+fn restart_device<D: Disk, A: Allocator + Copy>(
+    alloc: A,
+    powered: PoweredDevice<D, A>,
+) -> Result<PoweredDevice<D, A>, RunFault<D>>
+    ensures runs { IfOk result (λ p. RunsOn powered.exec p.exec (Message.Power ∷ []) []) }
+    ensures stops { IfErr result (λ f. (rest : List Message) → RunEndsHere never powered.exec f (Message.Power ∷ rest) []) }
+    ensures other { IfErr result (λ f. f.cause ≢ RunCause.Write) }
+{
+    let mut powered = powered;
+    match reopen(&mut powered.exec) {
+        Ok(()) => {}
+        Err(cause) => return Err(powered.fault(cause)),
+    }
+    powered.exec.contents();
+    let powered = PoweredDevice::on(alloc, powered.into_disk())?;
+    Ok(powered)
+}
+
+/// Simulates a power loss at rest and a restart, and keeps the output that is not yet written.
+pub fn restart<D: Disk, A: Allocator + Copy>(
+    alloc: A,
+    run_state: RunState<D, A>,
+) -> Result<RunState<D, A>, Halted<D, A>>
+    ensures runs { IfOk result (λ d. RunsOn run_state.powered.exec d.powered.exec (Message.Power ∷ []) []) }
+    ensures stops { IfErr result (λ h. (rest : List Message) → RunEndsHere never run_state.powered.exec h.fault (Message.Power ∷ rest) []) }
+    ensures other { IfErr result (λ h. h.fault.cause ≢ RunCause.Write) }
+    ensures output { IfOk result (λ d. d.unwritten ≡ run_state.unwritten) }
+    ensures output_then { IfErr result (λ h. h.unwritten ≡ run_state.unwritten) }
+{
+    let RunState { powered, unwritten } = run_state;
+    match restart_device(alloc, powered) {
+        Ok(powered) => Ok(RunState { powered, unwritten }),
+        Err(fault) => Err(Halted { fault, unwritten }),
+    }
+}
+
+/// Executes the message of a complete line that is not the one of a power loss, outputs its response, and begins the
+/// next line.
+pub fn answer_line<W: Write, D: Disk, A: Allocator + Copy>(
+    alloc: A,
+    run_state: &mut RunState<D, A>,
+    lines: &mut Lines<A>,
+    writer: &mut W,
+) -> Result<(), RunCause>
+    requires power { is_power (message_now lines.old.is_too_long lines.old.line.items) ≡ false }
+    requires fresh { run_state.old.unwritten.gathered ≡ nothing }
+    ensures runs { OnOk result ((text : List ℕ) × Says (output_state (W.contents writer.old) run_state.old.unwritten) (output_state (W.contents writer.new) run_state.new.unwritten) text
+        × RunsOn run_state.old.powered.exec run_state.new.powered.exec (message_now lines.old.is_too_long lines.old.line.items ∷ []) text) }
+    ensures fresh { OnOk result (run_state.new.unwritten.gathered ≡ nothing) }
+    ensures over { OnOk result (lines.new.is_too_long ≡ false) }
+    ensures empty { OnOk result (lines.new.line.items ≡ []) }
+    ensures breaks { IfErr result (λ cause. (part : List ℕ) × SaysUntil cause (output_state (W.contents writer.old) run_state.old.unwritten) (output_state (W.contents writer.new) run_state.new.unwritten) part
+        × Breaks run_state.old.powered.exec run_state.new.powered.exec (λ can w v. MessageBegins can w (message_now lines.old.is_too_long lines.old.line.items) part v) cause) }
+{
+    execute_line(alloc, run_state, lines, writer)?;
+    run_state.unwritten.gathered.restart();
+    lines.clear();
+    Ok(())
+}
+
+// Executes the message of a complete line that is not the one of a power loss, and outputs its response.
+fn execute_line<W: Write, D: Disk, A: Allocator + Copy>(
+    alloc: A,
+    run_state: &mut RunState<D, A>,
+    lines: &Lines<A>,
+    writer: &mut W,
+) -> Result<(), RunCause>
+    requires power { is_power (message_now lines.now.is_too_long lines.now.line.items) ≡ false }
+    requires fresh { run_state.old.unwritten.gathered ≡ nothing }
+    ensures runs { OnOk result ((requests : List RequestData) × Asks (message_now lines.now.is_too_long lines.now.line.items) requests × (answers : List (List ℕ))
+        × Continues run_state.old.powered.exec run_state.new.powered.exec (λ can w v. LineRuns can w [] requests answers v)
+        × Says (held (W.contents writer.old) run_state.old.unwritten.output.items) (held (W.contents writer.new) run_state.new.unwritten.output.items) (response answers)) }
+    ensures breaks { IfErr result (λ cause. (requests : List RequestData) × Asks (message_now lines.now.is_too_long lines.now.line.items) requests × (answers : List (List ℕ))
+        × Breaks run_state.old.powered.exec run_state.new.powered.exec (λ can w v. LineBegins can w [] requests answers v) cause
+        × SaysUntil cause (held (W.contents writer.old) run_state.old.unwritten.output.items) (output_state (W.contents writer.new) run_state.new.unwritten) (joined answers)) }
+{
+    let mut console = Console {
+        run_state: &mut *run_state,
+        writer: &mut *writer,
+    };
+    console.follow(alloc, lines)
+}
+
+/// Executes the lines that end in a piece of the input, and outputs their responses.
+pub fn feed<W: Write, D: Disk, A: Allocator + Copy>(
+    alloc: A,
+    run_state: RunState<D, A>,
+    lines: &mut Lines<A>,
+    piece: &[u8],
+    writer: &mut W,
+) -> Result<RunState<D, A>, Halted<D, A>>
+    requires { run_state.unwritten.gathered ≡ nothing }
+    ensures fed { IfOk result (λ d. Fed (coming lines.old.is_too_long lines.old.line.items) piece.now (coming lines.new.is_too_long lines.new.line.items)
+        run_state.powered.exec d.powered.exec (output_state (W.contents writer.old) run_state.unwritten) (output_state (W.contents writer.new) d.unwritten)) }
+    ensures fresh { IfOk result (λ d. d.unwritten.gathered ≡ nothing) }
+    ensures stopped { IfErr result (λ h. Stopped (coming lines.old.is_too_long lines.old.line.items) piece.now
+        run_state.powered.exec h.fault (output_state (W.contents writer.old) run_state.unwritten) (output_state (W.contents writer.new) h.unwritten)) }
+{
+    let mut run_state = run_state;
+    let mut rest = piece;
+    while let Some(at) = memchr(b'\n', rest) {
+        let Ok(()) = lines.extend(&rest[..at]) else {
+            return Err(run_state.fault(RunCause::Memory));
+        };
+        rest = &rest[at + 1..];
+        if lines.is_power() {
+            lines.clear();
+            run_state = restart(alloc, run_state)?;
+            continue;
+        }
+        match answer_line(alloc, &mut run_state, lines, writer) {
+            Ok(()) => {}
+            Err(cause) => return Err(run_state.fault(cause)),
+        }
+    }
+    let Ok(()) = lines.extend(rest) else {
+        return Err(run_state.fault(RunCause::Memory));
+    };
+    Ok(run_state)
+}

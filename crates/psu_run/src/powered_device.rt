@@ -1,0 +1,109 @@
+// The powered-on device of a run.
+ghost use Rattle.std.specs.Prelude.{◌≡◌, ◌≢◌, ◌≤◌, ℕ, List, IfOk, IfErr, true, false, None};
+ghost use Rattle.std.specs.Option.{ForSome};
+ghost use Rattle.psu_disk.specs.Disk.{LeavesOnly};
+ghost use Rattle.psu_items.specs.Finding.{IsOldOrSame};
+ghost use Rattle.psu_items.specs.Image.{EachRepresents};
+ghost use Rattle.psu_map.specs.Map.{Item};
+ghost use Rattle.psu_exec.specs.Device.{is_broken, is_denied, is_open, wait_of};
+ghost use Rattle.psu_exec.specs.Jobs.{idle_disk};
+ghost use Rattle.psu_exec.specs.declared.condition.Condition.TheVariants.{Worn};
+ghost use Rattle.psu_run.specs.Failures.{extent_of, failures_of};
+ghost use Rattle.psu_run.specs.Jobs.{IsWornAtLast};
+ghost use Rattle.psu_run.specs.Lives.{born, disk_at, world_of, PowersOn};
+ghost use Rattle.psu_run.specs.Causes.{IsWornOut, NotStarted};
+
+use crate::{RunCause, RunFault};
+use psu_disk::Disk;
+use psu_exec::{Crowded, Ended, Exec, Session};
+use psu_items::Store;
+use std::alloc::Allocator;
+
+/// A powered-on device: its one session is open and waits for nothing, no lock denies it, and no job is out.
+#[derive(Drop)]
+pub struct PoweredDevice<D: Disk, A: Allocator + Copy> {
+    pub exec: Exec<D, A>,
+    pub session: Session,
+    pub ghost first: { session ≡ 1 },
+    pub ghost open: { is_open exec.device 1 ≡ true },
+    pub ghost allowed: { is_denied exec.device 1 ≡ false },
+    pub ghost idle: { exec.device.flush.out ≡ false },
+    pub ghost free: { wait_of exec.device.flush 1 ≡ None },
+}
+
+impl<D: Disk, A: Allocator + Copy> PoweredDevice<D, A> {
+    /// Opens a disk, powers on with its contents, and opens the session.
+    pub fn on(alloc: A, disk: D) -> Result<PoweredDevice<D, A>, RunFault<D>>
+        ensures starts { D.honest → IfOk result (λ p. PowersOn (D.state disk).bytes (world_of (born p.exec) p.exec)) }
+        ensures works { IfOk result (λ p. failures_of p.exec ≡ D.failures disk) }
+        ensures size { IfOk result (λ p. extent_of p.exec ≡ D.extent disk) }
+        ensures last { IfOk result (λ p. IsWornAtLast p.exec) }
+
+        ensures other { IfErr result (λ f. f.cause ≢ RunCause.Write) }
+        ensures refused { D.honest → IfErr result (λ f. NotStarted (D.state disk).bytes (D.failures disk) (D.failures f.disk) f.cause) }
+        ensures later { IfErr result (λ f. D.failures disk ≤ D.failures f.disk) }
+        ensures extent { IfErr result (λ f. D.extent f.disk ≡ D.extent disk) }
+        // At each moment since the call began, each possible crash image is one from before, or has the root that was
+        // current when the disk was read.
+        ensures time { D.honest → D.records → IfOk result (λ p. ForSome p.exec.idle_store (λ h. LeavesOnly D.moment D.left_since disk (idle_disk h) (IsOldOrSame (D.state disk)))) }
+        ensures time_refused { D.honest → D.records → IfErr result (λ f. LeavesOnly D.moment D.left_since disk f.disk (IsOldOrSame (D.state disk))) }
+
+        // A disk that does not power on also keeps the map that each of its possible crash images represented.
+        ensures left { D.honest → IfErr result (λ f. (limit : ℕ) (map : List Item) → EachRepresents (D.state disk) limit map → EachRepresents (D.state f.disk) limit map) }
+    {
+        let store = match Store::open(alloc, disk) {
+            Ok(store) => store,
+            Err(refused) => {
+                return Err(RunFault {
+                    cause: RunCause::from(refused.cause),
+                    disk: refused.disk,
+                });
+            }
+        };
+        let mut exec = match Exec::power_on(alloc, store) {
+            Ok(exec) => exec,
+            Err(fault) => {
+                return Err(RunFault {
+                    cause: RunCause::from(fault.cause),
+                    disk: fault.store.into_disk(),
+                });
+            }
+        };
+        match exec.open_session() {
+            Ok(session) => Ok(PoweredDevice { exec, session }),
+            Err(Crowded) => unreachable!(),
+        }
+    }
+
+    /// Ends the device and returns its disk.
+    pub fn into_disk(self) -> D
+        ensures same { ForSome self.exec.idle_store (λ h. result ≡ idle_disk h) }
+        ensures failures { D.failures result ≡ failures_of self.exec }
+        ensures extent { D.extent result ≡ extent_of self.exec }
+        ensures state { D.state result ≡ disk_at self.exec.idle_store }
+        ensures stands { D.honest → is_broken self.exec.device.flush.store ≡ false
+            → EachRepresents (D.state result) self.exec.device.flush.limit self.exec.device.flush.before }
+        ensures reason { D.honest → IsWornAtLast self.exec → self.exec.device.flush.store ≡ Worn → IsWornOut (D.state result).bytes }
+    {
+        match self.exec.end() {
+            Ended::Whole(store) => store.into_disk(),
+            Ended::Failed(broken) => broken.into_disk(),
+            Ended::Out(_) => unreachable!(),
+        }
+    }
+
+    /// Ends the run early, for this cause, and returns the disk with it.
+    pub fn fault(self, cause: RunCause) -> RunFault<D>
+        ensures cause { result.cause ≡ cause }
+        ensures same { ForSome self.exec.idle_store (λ h. result.disk ≡ idle_disk h) }
+        ensures failures { D.failures result.disk ≡ failures_of self.exec }
+        ensures extent { D.extent result.disk ≡ extent_of self.exec }
+        ensures state { D.state result.disk ≡ disk_at self.exec.idle_store }
+        ensures reason { D.honest → IsWornAtLast self.exec → self.exec.device.flush.store ≡ Worn → IsWornOut (D.state result.disk).bytes }
+    {
+        RunFault {
+            cause,
+            disk: self.into_disk(),
+        }
+    }
+}

@@ -1,0 +1,93 @@
+//! What a restart would find in an image, without running on it.
+ghost use Rattle.std.specs.Prelude.{◌≡◌, ℕ, List, IfOk, IfErr, false};
+ghost use Rattle.std.specs.Option.{ForSome};
+ghost use Rattle.psu_disk.specs.Steps.{Step};
+ghost use Rattle.psu_map.specs.Map.{Item};
+ghost use Rattle.psu_items.specs.Image.{EachRepresents};
+ghost use Rattle.psu_exec.specs.Jobs.{idle_disk};
+ghost use Rattle.psu_run.specs.Recover.{IsReported, IsRecoverRefusal, Reports};
+
+use crate::listing::files_of;
+use crate::{RecoverFault, Recovered, Report};
+use psu_disk::Disk;
+use psu_exec::{Ended, Exec};
+use psu_items::Store;
+use std::alloc::{AllocError, Allocator};
+
+/// Opens the image of a disk as a restart does, which may close an older gate that is still open, and reports the
+/// contents that it finds. The report is of the contents that the image represents, with the first service request that
+/// IEEE 488.2 prescribes for them. The disk is returned too. A device fault is returned only where a call of this disk
+/// failed, and a map that each possible crash image of the disk represented, each still represents.
+pub fn recover<D: Disk, A: Allocator + Copy>(alloc: A, disk: D) -> Recovered<D, A>
+    ensures found { D.honest → IfOk result.found (IsReported (D.state disk).bytes) }
+    ensures refused { D.honest → IfErr result.found (IsRecoverRefusal (D.state disk).bytes) }
+    ensures step { Step D.Disk disk result.disk result.found (λ e. e ≡ RecoverFault.Device) }
+    ensures left { D.honest → (limit : ℕ) (map : List Item) → EachRepresents (D.state disk) limit map → EachRepresents (D.state result.disk) limit map }
+{
+    let store = match Store::open(alloc, disk) {
+        Ok(store) => store,
+        Err(refused) => {
+            return Recovered {
+                found: Err(RecoverFault::from(refused.cause)),
+                disk: refused.disk,
+            };
+        }
+    };
+    let version = store.version();
+    let root = store.number();
+    let limit = store.limit();
+    let pages = store.items().cost();
+    match Exec::power_on(alloc, store) {
+        Ok(exec) => Recovered {
+            found: report_of(alloc, &exec, version, root, limit, pages),
+            disk: disk_of(exec),
+        },
+        Err(fault) => Recovered {
+            found: Err(RecoverFault::from(fault.cause)),
+            disk: fault.store.into_disk(),
+        },
+    }
+}
+
+// The disk of a device that has no job out.
+fn disk_of<D: Disk, A: Allocator + Copy>(exec: Exec<D, A>) -> D
+    requires { exec.device.flush.out ≡ false }
+    ensures { ForSome exec.idle_store (λ idle_store. result ≡ idle_disk idle_store) }
+{
+    match exec.end() {
+        Ended::Whole(store) => store.into_disk(),
+        Ended::Failed(broken) => broken.into_disk(),
+        Ended::Out(_) => unreachable!(),
+    }
+}
+
+// The report of a device at power-on.
+fn report_of<D: Disk, A: Allocator + Copy>(
+    alloc: A,
+    exec: &Exec<D, A>,
+    version: u16,
+    root: u64,
+    limit: u16,
+    pages: u128,
+) -> Result<Report<A>, RecoverFault>
+    ensures reports { IfOk result (Reports exec.now.device version root limit pages) }
+    ensures wants { IfErr result (λ e. e ≡ RecoverFault.Memory) }
+{
+    let contents = exec.contents();
+    let files = match files_of(alloc, contents.names()) {
+        Ok(files) => files,
+        Err(AllocError) => return Err(RecoverFault::Memory),
+    };
+    Ok(Report {
+        version,
+        root,
+        pages,
+        limit,
+        enables: contents.enables(),
+        request: exec.first_request(),
+        user: contents.user().len(),
+        macros: contents.labels().len(),
+        files,
+        recall: contents.recall(),
+    })
+}
