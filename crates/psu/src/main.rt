@@ -6,7 +6,7 @@ mod streams;
 use psu_commands::{
     Choice, Fault, WordsFault, choice_of, make_image, recover_image, run_image, run_in_memory,
 };
-use psu_serve::{Open, serve};
+use psu_server::{Open, serve};
 use std::fmt::Display;
 use std::io::Eprint;
 use std::process::ExitCode;

@@ -1,6 +1,6 @@
 // A gate that blocks the flusher until a client releases it.
 use psu_client::{Missed, holds};
-use psu_serve::{Gate, Point};
+use psu_server::{Gate, Point};
 use std::alloc::{AllocError, Global};
 use std::sync::Arc;
 use std::sync::atomic::{AtomicBool, Ordering};

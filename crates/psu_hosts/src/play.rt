@@ -14,7 +14,7 @@
 use crate::hold::Hold;
 use crate::server::{formatted, served};
 use psu_client::{Cast, Missed};
-use psu_serve::Point;
+use psu_server::Point;
 use std::alloc::Global;
 use std::fs::File;
 use std::io::{Eprint, Print};

@@ -2,7 +2,7 @@
 use psu_client::{Missed, connected};
 use psu_disk::{Disk, FileDisk, MemDisk, OsFiles};
 use psu_items::Store;
-use psu_serve::{Gate, serve, serve_disk};
+use psu_server::{Gate, serve, serve_disk};
 use std::alloc::Global;
 use std::fs::{self, File};
 use std::io::{Eprint, Print};

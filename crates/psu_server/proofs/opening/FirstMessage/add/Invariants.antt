@@ -1,6 +1,6 @@
 use Rattle.std.proofs.Common.{◌≡◌, ◌++◌, [], take}
 use Rattle.psu_hislip.specs.Channel.{Fed}
-use Rattle.psu_serve.proofs.opening.FirstMessage.add.Given as goal
+use Rattle.psu_server.proofs.opening.FirstMessage.add.Given as goal
 
 abbrev pub invariant-loop-place : goal.invariant-loop-place
 invariant-loop-place l =

@@ -4,7 +4,7 @@ use crate::sick_disk::{Health, SickDisk};
 use psu_client::{Client, Missed, holds, joined_as, settle};
 use psu_disk::Disk;
 use psu_hosts::{Hold, new_disk, served_disk};
-use psu_serve::{Open, Point};
+use psu_server::{Open, Point};
 use std::test::Fail;
 use std::thread;
 use std::time::{Clock, Duration, Instant};

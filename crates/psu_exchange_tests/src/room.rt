@@ -1,7 +1,7 @@
 // Two units wait for room while there is room for one; the other takes the last room that is made.
 use psu_client::{Client, Missed, holds, is_silent, joined_as};
 use psu_hosts::new_served;
-use psu_serve::{Gate, Point};
+use psu_server::{Gate, Point};
 use std::alloc::{AllocError, Global};
 use std::sync::Arc;
 use std::sync::atomic::{AtomicBool, AtomicUsize, Ordering};

@@ -1,7 +1,7 @@
 // Device clears: what they discard, and that nothing from before a clear follows it.
 use psu_client::{Client, Missed, joined_as};
 use psu_hosts::{Mismatch, new_served, plays};
-use psu_serve::Open;
+use psu_server::Open;
 
 const CLEARS: &str = "
 # What is sent between the two messages of a clear is not executed, and what follows is.

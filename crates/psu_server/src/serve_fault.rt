@@ -2,7 +2,7 @@
 ghost use Rattle.std.specs.Prelude.{◌≡◌};
 ghost use Rattle.std.specs.IoError.{error_kind};
 ghost use Rattle.std.specs.declared.io.ErrorKind.TheVariants as ErrorKind;
-ghost use Rattle.psu_serve.specs.declared.serve_fault.ServeFault.TheVariants as ServeFault;
+ghost use Rattle.psu_server.specs.declared.serve_fault.ServeFault.TheVariants as ServeFault;
 
 use psu_bench::PowerOnFault;
 use psu_disk::OpenFault;

@@ -2,7 +2,7 @@
 // accepted.
 use psu_client::{Client, Missed, bare, comes, header, joined_as, repeated, send};
 use psu_hosts::new_served;
-use psu_serve::Open;
+use psu_server::Open;
 use std::alloc::{AllocError, Global};
 use std::test::Fail;
 

@@ -1,7 +1,7 @@
 // Sessions that end, and connections that begin too slowly.
 use psu_client::{Client, Missed, is_ended, joined_again, joined_as, repeated, settle};
 use psu_hosts::{Mismatch, new_served, plays};
-use psu_serve::Open;
+use psu_server::Open;
 use std::alloc::Global;
 use std::test::Fail;
 

@@ -2,7 +2,7 @@
 use crate::images::{executed, is_kept};
 use psu_client::{Client, Missed, joined_as, send, text_comes};
 use psu_hosts::{LIMIT, Mismatch, formatted, plays, removed, served};
-use psu_serve::Open;
+use psu_server::Open;
 
 const ANSWERS: &str = "
 # A message is available until it is told that it was delivered.

@@ -1,7 +1,7 @@
 // Releases of locks and the messages sent before them, on two connections.
 use psu_client::{Client, Missed, bare, holds, joined_as, next, send};
 use psu_hosts::new_served;
-use psu_serve::Open;
+use psu_server::Open;
 use std::alloc::Global;
 use std::mem;
 use std::time::{Clock, Duration, Instant};

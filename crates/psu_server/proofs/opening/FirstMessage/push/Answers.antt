@@ -2,8 +2,8 @@ use Rattle.std.proofs.Common.{◌≡◌, sym, subst, List, [], ℕ, arith}
 use Rattle.std.proofs.lemmas.Grind.{common_steps}
 use Rattle.psu_hislip.specs.Channel.{Fed}
 use Rattle.psu_hislip.specs.Rest.{all_received}
-use Rattle.psu_serve.proofs.FirstBytes.{fed_once, none, whole}
-use Rattle.psu_serve.proofs.opening.FirstMessage.push.Goals as goal
+use Rattle.psu_server.proofs.FirstBytes.{fed_once, none, whole}
+use Rattle.psu_server.proofs.opening.FirstMessage.push.Goals as goal
 
 pub returns-in-Some-clause-whole : goal.returns-in-Some-clause-whole
 returns-in-Some-clause-whole c = λ fed. whole c.feed.new.messages.items _ c.in-Some.message c.of.result c.feed.new.self c.push.new.self.items c.in-Some.ensures.items c.of.ensures

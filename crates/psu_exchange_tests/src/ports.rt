@@ -3,7 +3,7 @@ use crate::images::executed;
 use psu_client::{Missed, holds};
 use psu_disk::{FileDisk, OpenFault, OsFiles};
 use psu_hosts::{LIMIT, formatted, free_port, removed};
-use psu_serve::{Open, ServeFault, serve};
+use psu_server::{Open, ServeFault, serve};
 use std::alloc::Global;
 use std::fs::{self, File};
 use std::io::{Eprint, Print};

@@ -4,7 +4,7 @@ use psu_client::{
     joined_as, joined_soon, send,
 };
 use psu_hosts::new_served;
-use psu_serve::Open;
+use psu_server::Open;
 use std::alloc::Global;
 use std::net::{Net, TcpStream};
 use std::time::Clock;

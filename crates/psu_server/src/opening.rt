@@ -6,7 +6,7 @@ ghost use Rattle.psu_exec.specs.Calls.Entry.{Closed, Opened};
 ghost use Rattle.psu_bench.specs.Calls.{AdmitsOn};
 ghost use Rattle.psu_hislip.specs.Channel.{Fed};
 ghost use Rattle.psu_session.specs.State.{Start, fresh};
-ghost use Rattle.psu_serve.specs.Opening.{IsClosedAgain, IsFirst, IsOpened, initialize_response};
+ghost use Rattle.psu_server.specs.Opening.{IsClosedAgain, IsFirst, IsOpened, initialize_response};
 
 use psu_bench::{Caller, Gate, Others};
 use psu_disk::Disk;
