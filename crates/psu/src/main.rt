@@ -3,7 +3,7 @@
 
 mod streams;
 
-use psu_commands::{
+use psu_cli::{
     Choice, Fault, WordsFault, choice_of, make_image, recover_image, run_image, run_in_memory,
 };
 use psu_server::{Open, serve};
