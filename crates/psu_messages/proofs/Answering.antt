@@ -3,9 +3,9 @@ use Rattle.std.proofs.Common.{◌≡◌, ℕ, Bool, true, false, List, [], ◌�
 use Rattle.std.proofs.lemmas.List.{append-nil}
 use Rattle.psu_tree.specs.declared.unit_request.Request.{Request}
 use Rattle.psu_exec.specs.Device.{Reply, Done, Answer, Error, Expand, Parked, Held, Later}
-use Rattle.psu_answers.specs.ResponseBuffer.{Makes, PartsAreTheAnswers, Text, emptied}
-use Rattle.psu_answers.specs.ResponseBuffer.Makes.{Begin, Append, Send}
-use Rattle.psu_answers.specs.Response.{are_some}
+use Rattle.psu_messages.specs.ResponseBuffer.{Makes, PartsAreTheAnswers, Text, emptied}
+use Rattle.psu_messages.specs.ResponseBuffer.Makes.{Begin, Append, Send}
+use Rattle.psu_messages.specs.Response.{are_some}
 use Rattle.psu_messages.specs.Answers.{AllIsSent, AreAnswered, IsAnswered, Taken, answer_in, answers, ends_text, text_sent}
 use Rattle.psu_messages.specs.Answers.AreAnswered.{None, More}
 use Rattle.psu_messages.specs.Answers.Taken.{New, Call}

@@ -3,7 +3,7 @@ use Rattle.std.proofs.Common.{◌≡◌, ℕ, ◌+◌, Bool, false, Option, Some
 use Rattle.std.proofs.lemmas.List.{append-nil}
 use Rattle.psu_tree.specs.declared.unit_request.Request.{Request}
 use Rattle.psu_exec.specs.Device.{Reply, Done, Answer, Error, Expand, Parked, Held, Later}
-use Rattle.psu_answers.specs.ResponseBuffer.{Text}
+use Rattle.psu_messages.specs.ResponseBuffer.{Text}
 use Rattle.psu_messages.specs.Standing.{Standing}
 use Rattle.psu_messages.specs.Effects.{Effect, IsTry, Runs, Sent, needs}
 use Rattle.psu_messages.specs.Stepping.{IsBrokenOff, IsLeft, parked_by, plain, within}

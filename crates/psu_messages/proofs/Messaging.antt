@@ -8,8 +8,8 @@ use Rattle.psu_lex.specs.Bytes.{all_white}
 use Rattle.psu_lex.specs.Message.{Part, Token, Byte, Separator, Whole, Faulty, next_first, units_of}
 use Rattle.psu_tree.specs.declared.unit_request.Request.{Request}
 use Rattle.psu_exec.specs.Device.{Reply, Done, Answer, Error, Expand, Parked, Held, Later}
-use Rattle.psu_answers.specs.ResponseBuffer.{Makes, PartsAreTheAnswers, Text, nothing}
-use Rattle.psu_answers.specs.ResponseBuffer.Makes.{Begin, Append, Send}
+use Rattle.psu_messages.specs.ResponseBuffer.{Makes, PartsAreTheAnswers, Text, nothing}
+use Rattle.psu_messages.specs.ResponseBuffer.Makes.{Begin, Append, Send}
 use Rattle.psu_messages.specs.declared.need.Need.{Need}
 use Rattle.psu_messages.specs.Answers.{IsSilent, answer_in, answers, ends_text, text_sent}
 use Rattle.psu_messages.specs.Effects.{Effect, Executed, Settled, Sent, IsTry, needs}

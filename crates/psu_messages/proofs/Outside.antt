@@ -6,7 +6,7 @@ use Rattle.psu_tree.specs.declared.unit_request.Request.{Request}
 use Rattle.psu_exec.specs.Shown.{outcome_of}
 use Rattle.psu_exec.specs.declared.outcome.Outcome.{Outcome}
 use Rattle.psu_exec.specs.declared.outcome.Outcome.TheVariants as outcome
-use Rattle.psu_answers.specs.ResponseBuffer.{Text}
+use Rattle.psu_messages.specs.ResponseBuffer.{Text}
 use Rattle.psu_messages.specs.Effects.{Effect, Sent}
 use Rattle.psu_messages.specs.Units as units
 use Rattle.psu_messages.specs.Units.{Source, Fault, Asks, EndsMessage, HasNone, IsBetween, IsBehind, IsRequest, IsUnit, Leads, path_at}

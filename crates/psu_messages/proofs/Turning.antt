@@ -5,7 +5,7 @@ use Rattle.std.proofs.lemmas.Grind.{common_steps}
 use Rattle.psu_lex.specs.Message.{Part, IsMessage}
 use Rattle.psu_tree.specs.declared.unit_request.Request.{Request}
 use Rattle.psu_exec.specs.Device.{Reply, Done, Answer, Error, Expand, Parked, Held, Later}
-use Rattle.psu_answers.specs.ResponseBuffer.{Text}
+use Rattle.psu_messages.specs.ResponseBuffer.{Text}
 use Rattle.psu_messages.specs.Standing.{Standing}
 use Rattle.psu_messages.specs.declared.need.Need.{Need}
 use Rattle.psu_messages.specs.declared.need.Need.TheVariants.{Flush, Lock, Room}

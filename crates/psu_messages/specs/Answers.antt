@@ -2,7 +2,7 @@
 -- message's units, joined by `;` and ended by NL.
 use Rattle.std.specs.Prelude.{◌≡◌, ℕ, ◌||◌, Bool, true, false, List, [], ◌∷◌, ◌++◌}
 use Rattle.psu_exec.specs.Device.{Reply, Done, Answer, Error, Expand, Parked, Held, Later}
-use Rattle.psu_answers.specs.Response.{are_some, joined}
+use Rattle.psu_messages.specs.Response.{are_some, joined}
 use Rattle.psu_messages.specs.Effects.{Effect, Executed, Settled, Sent}
 use Rattle.psu_messages.specs.Units.{Source}
 use Rattle.psu_messages.specs.Executions.{Reaches, Progress, IsOver, beginning}

@@ -3,7 +3,7 @@ use Rattle.std.specs.Prelude.{◌≡◌, ◌⊎◌, ℕ, ◌<◌, Bool, true, fa
 use Rattle.psu_tree.specs.declared.unit_request.Request.{Request}
 use Rattle.psu_lex.specs.Message.{Part}
 use Rattle.psu_exec.specs.Device.{Reply, Done, Answer, Error, Expand, Parked, Held, Later}
-use Rattle.psu_answers.specs.ResponseBuffer.{Text, emptied, nothing, appended}
+use Rattle.psu_messages.specs.ResponseBuffer.{Text, emptied, nothing, appended}
 use Rattle.psu_messages.specs.Standing as standing
 use Rattle.psu_messages.specs.Standing.{Standing, start}
 use Rattle.psu_messages.specs.Effects.{Effect, Sent, IsTry, Runs}

@@ -1,3 +1,5 @@
+pub mod ResponseBuffer
+pub mod Response
 pub mod Effects
 pub mod Relations
 pub mod Standing

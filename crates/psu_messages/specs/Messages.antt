@@ -2,8 +2,8 @@
 -- sent as one text.
 use Rattle.std.specs.Prelude.{◌≡◌, ◌⊎◌, ℕ, ◌<◌, ◌==◌, false, List, [], ◌++◌}
 use Rattle.psu_tree.specs.declared.unit_request.Request.{Request}
-use Rattle.psu_answers.specs.ResponseBuffer.{Text}
-use Rattle.psu_answers.specs.Response.{joined}
+use Rattle.psu_messages.specs.ResponseBuffer.{Text}
+use Rattle.psu_messages.specs.Response.{joined}
 use Rattle.psu_messages.specs.Effects.{Effect}
 use Rattle.psu_messages.specs.Units.{Asks, Source}
 use Rattle.psu_messages.specs.Executions.{Reaches, Progress, IsOver}

@@ -8,7 +8,7 @@ use Rattle.psu_messages.specs.Stepping.{parked_by}
 use Rattle.psu_messages.specs.declared.tries.Tried.{Tried}
 use Rattle.psu_messages.specs.declared.tries.Tried.TheVariants as tried
 use Rattle.psu_exec.specs.Device.{Reply}
-use Rattle.psu_answers.specs.ResponseBuffer.{Text}
+use Rattle.psu_messages.specs.ResponseBuffer.{Text}
 use Rattle.psu_messages.specs.Standing.{Standing}
 use Rattle.psu_messages.specs.Executions as executions
 use Rattle.psu_messages.specs.declared.progress.Progress.{Progress}

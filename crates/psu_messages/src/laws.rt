@@ -1,10 +1,22 @@
-// Laws of the execution of a transmission.
+// Laws of the execution of a transmission, and of response messages that are sent in parts.
 ghost use Rattle.psu_messages.specs.Answers.{CallsAreOneExecution, OverIsSent};
 ghost use Rattle.psu_messages.specs.Messages.{OverIsMessages, SoFarIsMessages};
+ghost use Rattle.psu_messages.specs.ResponseBuffer.{PartsAreTheAnswers, PartsAreTheResponse};
 ghost use Rattle.psu_messages.specs.Turns.{OverIsDone};
 
-use psu_answers::parts_are_the_answers;
 use psu_lex::laws::one_list_of_units;
+
+/// However a response message is sent in parts, what was sent and what is buffered are the responses of its units,
+/// joined by `;`.
+pub fn parts_are_the_answers()
+    ensures { PartsAreTheAnswers }
+{}
+
+/// Once the message ends, what was sent and what is buffered are its response message: nothing if no unit has
+/// responded, and else the joined responses, ended by NL.
+pub fn parts_are_the_response()
+    ensures { PartsAreTheResponse }
+{}
 
 /// Whichever threads continue a transmission, and however often it was stopped, its effects are those of one legal
 /// execution.

@@ -12,6 +12,7 @@ mod messages;
 mod need;
 mod progress;
 mod refused;
+mod response_buffer;
 mod responses;
 mod steps;
 mod transmission;
@@ -21,10 +22,12 @@ pub use executor::Executor;
 pub use expansion::Expansion;
 pub use input::Input;
 pub use laws::{
-    calls_are_one_execution, over_is_done, over_is_messages, over_is_sent, so_far_is_messages,
+    calls_are_one_execution, over_is_done, over_is_messages, over_is_sent, parts_are_the_answers,
+    parts_are_the_response, so_far_is_messages,
 };
 pub use messages::{execute_fault, execute_text};
 pub use need::Need;
 pub use progress::Progress;
 pub use refused::Refused;
+pub use response_buffer::ResponseBuffer;
 pub use transmission::Transmission;

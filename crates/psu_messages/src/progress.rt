@@ -3,8 +3,7 @@ ghost use Rattle.std.specs.Prelude.{◌≡◌};
 ghost use Rattle.psu_messages.specs.Executions.{beginning};
 ghost use Rattle.psu_messages.specs.Shown.{progress_of};
 
-use crate::Expansion;
-use psu_answers::ResponseBuffer;
+use crate::{Expansion, ResponseBuffer};
 use std::alloc::Allocator;
 
 /// The progress of a transmission, between two tries of its units.

@@ -1,8 +1,8 @@
 // What asks for memory, and the sign that it was refused.
 ghost use Rattle.std.specs.Prelude.{◌≡◌, OnOk, OnErr};
-ghost use Rattle.psu_answers.specs.ResponseBuffer.{ended, appended};
+ghost use Rattle.psu_messages.specs.ResponseBuffer.{ended, appended};
 
-use psu_answers::ResponseBuffer;
+use crate::ResponseBuffer;
 use std::alloc::Allocator;
 
 // Keeps all but this file from making a `Refused`.

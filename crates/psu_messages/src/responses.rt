@@ -4,9 +4,8 @@ ghost use Rattle.psu_exec.specs.Shown.{outcome_of};
 ghost use Rattle.psu_messages.specs.Executions.{AddsResponse, Closes, IsResponse};
 ghost use Rattle.psu_messages.specs.Stepping.{IsLeft};
 
-use crate::Executor;
 use crate::refused::{append_to, end};
-use psu_answers::ResponseBuffer;
+use crate::{Executor, ResponseBuffer};
 use psu_exec::Outcome;
 use std::alloc::Allocator;
 

@@ -8,8 +8,7 @@ ghost use Rattle.psu_messages.specs.Units.{Source};
 
 use crate::responses::add_response;
 use crate::tries::{Tried, attempt};
-use crate::{Executor, Need};
-use psu_answers::ResponseBuffer;
+use crate::{Executor, Need, ResponseBuffer};
 use psu_exec::Request;
 use std::alloc::Allocator;
 

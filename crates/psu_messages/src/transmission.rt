@@ -6,8 +6,7 @@ ghost use Rattle.psu_messages.specs.Units.{source_of};
 
 use crate::cursor::Place;
 use crate::messages::{execute_fault, execute_rest};
-use crate::{Executor, Input, Need, Progress};
-use psu_answers::ResponseBuffer;
+use crate::{Executor, Input, Need, Progress, ResponseBuffer};
 use std::alloc::Allocator;
 use std::marker::Model;
 

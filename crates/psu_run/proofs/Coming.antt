@@ -3,9 +3,9 @@ use Rattle.std.proofs.Common.{◌≡◌, ◌⊎◌, ℕ, ◌+◌, ◌<◌, ◌�
 use Rattle.psu_disk.specs.declared.disk.Disk.{Ghosts}
 use Rattle.psu_lex.specs.Message.{Part}
 use Rattle.psu_tree.specs.declared.unit_request.Request.{Request}
-use Rattle.psu_answers.specs.ResponseBuffer.{Text, addition, emptied, nothing}
-use Rattle.psu_answers.specs.Response.{are_some, end_of, joined, response}
-use Rattle.psu_answers.proofs.Joining.{joined_more, some_more}
+use Rattle.psu_messages.specs.ResponseBuffer.{Text, addition, emptied, nothing}
+use Rattle.psu_messages.specs.Response.{are_some, end_of, joined, response}
+use Rattle.psu_messages.proofs.Joining.{joined_more, some_more}
 use Rattle.psu_exec.specs.Device.{Reply, Done, Answer, Error, Expand, Parked, Held, Later}
 use Rattle.psu_exec.specs.World.{World}
 use Rattle.psu_exec.specs.declared.exec.Exec.{Exec}

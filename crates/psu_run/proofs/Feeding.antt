@@ -10,7 +10,7 @@ use Rattle.psu_items.specs.Image.{EachRepresents}
 use Rattle.psu_items.proofs.Opening.{still_represents}
 use Rattle.psu_exec.specs.Jobs.{idle_disk}
 use Rattle.psu_map.specs.Map.{Item}
-use Rattle.psu_answers.specs.Response.{joined, response}
+use Rattle.psu_messages.specs.Response.{joined, response}
 use Rattle.psu_exec.specs.Consistent.{IsConsistent}
 use Rattle.psu_exec.specs.World.{World}
 use Rattle.psu_exec.specs.declared.condition.Condition.TheVariants.{Worn}

@@ -5,7 +5,7 @@ use Rattle.std.proofs.lemmas.List.{take-append-le}
 use Rattle.std.proofs.KnownBytes.{Appends-trans, Appends-nil}
 use Rattle.std.specs.Io.KnownBytes.{Appends}
 use Rattle.std.specs.Io.{StartsWith}
-use Rattle.psu_answers.specs.ResponseBuffer.{Text, nothing}
+use Rattle.psu_messages.specs.ResponseBuffer.{Text, nothing}
 use Rattle.psu_run.specs.Output.{Says, SaysUntil, OutputState, WritesShort, held}
 use Rattle.psu_run.specs.declared.run_cause.RunCause.{RunCause}
 use Rattle.psu_run.specs.declared.run_cause.RunCause.TheVariants.{Memory, Write}

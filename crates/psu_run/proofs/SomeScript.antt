@@ -5,7 +5,7 @@ use Rattle.psu_lex.specs.declared.scpi_error.ScpiError.{ScpiError}
 use Rattle.psu_lex.specs.declared.scpi_error.ScpiError.TheVariants.{MacroRecursionError}
 use Rattle.psu_tree.specs.declared.unit_request.Request.{Request}
 use Rattle.psu_instrument.specs.Macros.{ExpandsAt, written}
-use Rattle.psu_answers.specs.Response.{response}
+use Rattle.psu_messages.specs.Response.{response}
 use Rattle.psu_exec.specs.Device.{Reply, Done, Answer, Error, Expand, Parked, Held, Later, State, answer_call, answer_meant, called, here, is_later, meant}
 use Rattle.psu_run.specs.Lines.{Message}
 use Rattle.psu_run.specs.Script.{Rest, UnitOutcome, Spoken, MessageOutcome, Replies, Early, ByMacro, ByMeaning, HasOutcomeFrom, HasOutcome, SpeaksInside, SpeaksReply, Speaks, HasMessageOutcome, Scripted, after_reply, flushed, restarted, with_answer}

@@ -3,8 +3,8 @@ use Rattle.std.proofs.Common.{◌≡◌, ◌⊎◌, ℕ, ◌+◌, Bool, true, fa
 use Rattle.psu_disk.specs.declared.disk.Disk.{Ghosts}
 use Rattle.psu_lex.specs.Message.{Part}
 use Rattle.psu_tree.specs.declared.unit_request.Request.{Request}
-use Rattle.psu_answers.specs.ResponseBuffer.{Text}
-use Rattle.psu_answers.specs.Response.{are_some, joined, response}
+use Rattle.psu_messages.specs.ResponseBuffer.{Text}
+use Rattle.psu_messages.specs.Response.{are_some, joined, response}
 use Rattle.psu_exec.specs.Device.{Reply, Answer, Expand}
 use Rattle.psu_exec.specs.declared.exec.Exec.{Exec}
 use Rattle.psu_messages.specs.Effects.{Effect, Executed}

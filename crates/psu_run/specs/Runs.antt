@@ -4,7 +4,7 @@ use Rattle.psu_items.specs.declared.commit.UnstartedCause.TheVariants.{Memory}
 use Rattle.psu_items.specs.declared.broken.BrokenCause.TheVariants as broken_cause
 use Rattle.psu_tree.specs.declared.unit_request.Request.{Request}
 use Rattle.psu_lex.specs.declared.scpi_error.ScpiError.TheVariants.{OutOfMemory}
-use Rattle.psu_answers.specs.Response.{joined, response}
+use Rattle.psu_messages.specs.Response.{joined, response}
 use Rattle.psu_exec.specs.Device.{Reply, Error, Expand, Parked, Held, Later, is_broken}
 use Rattle.psu_exec.specs.Calls.{Entry, JobKind, Commit, Reopen, JobData, JobEnd, Stored, Unstarted, Failed, Reopened, Job, Nothing, Executed, Settled, Took, GaveBack}
 use Rattle.psu_exec.specs.World.{World}

@@ -6,7 +6,7 @@ use Rattle.psu_nv.specs.Contents.{Contents}
 use Rattle.psu_tree.specs.declared.unit_request.Request.{Request}
 use Rattle.psu_instrument.specs.Macros.{ExpandsAt, HoldsParameters, written}
 use Rattle.psu_exec.specs.Device.{Reply, Answer, Expand, Parked, Later, State, after_unit, answer_call, answer_meant, called, here, is_later, meant, power_on, wait_of}
-use Rattle.psu_answers.specs.Response.{response}
+use Rattle.psu_messages.specs.Response.{response}
 use Rattle.psu_exec.specs.Calls.{job_out, with_stored, with_flush, settle_answer, after_settle, opened}
 use Rattle.psu_run.specs.Lines.{Message, Asks, AsksInside, messages}
 

@@ -1,7 +1,7 @@
 // The executor of a run: it executes units on the device and outputs their answers.
 ghost use Rattle.std.specs.Prelude.{◌≡◌, [], List, ℕ, IfErr, IfOk, IfSome, OnOk, None, false};
-ghost use Rattle.psu_answers.specs.ResponseBuffer.{nothing};
-ghost use Rattle.psu_answers.specs.Response.{joined, response};
+ghost use Rattle.psu_messages.specs.ResponseBuffer.{nothing};
+ghost use Rattle.psu_messages.specs.Response.{joined, response};
 ghost use Rattle.psu_messages.specs.Executions.{Advances, IsOver, StopsAt};
 ghost use Rattle.psu_messages.specs.Relations.{IsAwaited};
 ghost use Rattle.psu_messages.specs.Shown.{progress_of};
@@ -17,13 +17,14 @@ use crate::acting::unit;
 use crate::lines::Lines;
 use crate::run_state::RunState;
 use crate::writing::append_output;
-use psu_answers::ResponseBuffer;
 use psu_disk::Disk;
 use psu_exec::{Outcome, Request, ScpiError};
 use psu_lex::laws::{
     every_list_has_units, one_header_of_a_text, one_list_of_units, one_syntax_of_a_unit,
 };
-use psu_messages::{Executor, Need, Progress, Refused, execute_fault, execute_text};
+use psu_messages::{
+    Executor, Need, Progress, Refused, ResponseBuffer, execute_fault, execute_text,
+};
 use psu_tree::laws::{every_unit_reads, one_reading_of_a_unit};
 use std::alloc::Allocator;
 use std::io::Write;

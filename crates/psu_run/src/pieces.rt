@@ -1,8 +1,8 @@
 // The lines that end in a piece of the input.
 ghost use Rattle.std.specs.Prelude.{◌≡◌, ◌≢◌, ◌∷◌, [], List, ℕ, OnOk, IfOk, IfErr, true, false};
 ghost use Rattle.psu_tree.specs.declared.unit_request.Request.{Request as RequestData};
-ghost use Rattle.psu_answers.specs.ResponseBuffer.{nothing};
-ghost use Rattle.psu_answers.specs.Response.{joined, response};
+ghost use Rattle.psu_messages.specs.ResponseBuffer.{nothing};
+ghost use Rattle.psu_messages.specs.Response.{joined, response};
 ghost use Rattle.psu_run.specs.Lines.{Asks, Message, coming, is_power, message_now};
 ghost use Rattle.psu_run.specs.Output.{Says, SaysUntil, held, output_state};
 ghost use Rattle.psu_run.specs.Progress.{Breaks, Fed, Continues, RunsOn, Stopped, RunEndsHere};

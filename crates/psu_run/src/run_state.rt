@@ -1,7 +1,7 @@
 // A powered-on device with its output that is not yet written.
 ghost use Rattle.std.specs.Prelude.{◌≡◌, [], ◌≤◌};
 ghost use Rattle.std.specs.Option.{ForSome};
-ghost use Rattle.psu_answers.specs.ResponseBuffer.{nothing};
+ghost use Rattle.psu_messages.specs.ResponseBuffer.{nothing};
 ghost use Rattle.psu_exec.specs.Jobs.{idle_disk};
 ghost use Rattle.psu_exec.specs.declared.condition.Condition.TheVariants.{Worn};
 ghost use Rattle.psu_run.specs.Causes.{IsWornOut};

@@ -1,8 +1,8 @@
 // The output of the lines of a piece that is not yet written.
 ghost use Rattle.std.specs.Prelude.{◌≡◌, []};
-ghost use Rattle.psu_answers.specs.ResponseBuffer.{nothing};
+ghost use Rattle.psu_messages.specs.ResponseBuffer.{nothing};
 
-use psu_answers::ResponseBuffer;
+use psu_messages::ResponseBuffer;
 use std::alloc::Allocator;
 
 /// The answers of the lines of a piece that are not yet written.

@@ -2,7 +2,7 @@
 use Rattle.std.proofs.Common.{◌≡◌, ℕ, true, List, [], ◌∷◌, ◌++◌, refl, sym, ap, ◌∙◌, subst, inl, inr}
 use Rattle.std.proofs.lemmas.List.{append-nil}
 use Rattle.psu_hislip.specs.Answer.{IsAnswerCutAnywhere, IsPart}
-use Rattle.psu_answers.specs.Response.{are_some, end_of, joined, response}
+use Rattle.psu_messages.specs.Response.{are_some, end_of, joined, response}
 use Rattle.psu_messages.specs.Answers.{IsAnswered, answers, ends_text, text_sent}
 use Rattle.psu_messages.specs.Executions.{Reaches, Progress}
 use Rattle.psu_messages.specs.Effects.{Effect, Sent}

@@ -10,7 +10,7 @@ use Rattle.psu_hislip.specs.Transmitted.{IsStretch, Stretch, Transmission, piece
 use Rattle.psu_hislip.specs.Transmitted.Piece.{More}
 use Rattle.psu_hislip.specs.declared.origin.Origin.{Origin}
 use Rattle.psu_hislip.specs.declared.side.Side.TheVariants.{Sync, Async}
-use Rattle.psu_answers.specs.Response.{are_some, joined, response}
+use Rattle.psu_messages.specs.Response.{are_some, joined, response}
 use Rattle.psu_messages.specs.Answers.{answers}
 use Rattle.psu_messages.specs.Executions.{IsOver}
 use Rattle.psu_messages.specs.Effects.{Effect}

@@ -6,8 +6,8 @@ ghost use Rattle.psu_session.specs.State.{fresh};
 
 use crate::numbers::BEFORE_FIRST;
 use crate::{Credit, Release, Running, Work};
-use psu_answers::ResponseBuffer;
 use psu_hislip::{Channel, Message, SessionCore};
+use psu_messages::ResponseBuffer;
 use std::alloc::Global;
 use std::collections::VecDeque;
 

@@ -15,9 +15,8 @@ ghost use Rattle.psu_session.specs.declared.phase.EndCause.TheVariants.{Memory};
 use crate::execution::advance;
 use crate::next::Next;
 use crate::{Device, EndCause, Order, Parts, Proceeded, Running, Work};
-use psu_answers::ResponseBuffer;
 use psu_hislip::release_response;
-use psu_messages::Transmission;
+use psu_messages::{ResponseBuffer, Transmission};
 use std::mem;
 
 impl Parts {

@@ -3,7 +3,7 @@ use Rattle.std.proofs.Common.{◌≡◌, ◌⊎◌, ℕ, true, List, [], ◌∷�
 use Rattle.std.specs.List.{AllByRecursion}
 use Rattle.psu_hislip.specs.Answer.{IsAnswerCutAnywhere}
 use Rattle.psu_hislip.specs.declared.origin.Origin.{Origin}
-use Rattle.psu_answers.specs.Response.{are_some, response}
+use Rattle.psu_messages.specs.Response.{are_some, response}
 use Rattle.psu_exec.specs.Calls.{Entry}
 use Rattle.psu_messages.specs.Answers.{answer_in, answers}
 use Rattle.psu_messages.specs.Effects as messages

@@ -1,7 +1,7 @@
 -- A message of which one unit has a response.
 use Rattle.std.proofs.Common.{◌≡◌, ℕ, List, [], ◌∷◌, ◌++◌, flat_map, refl, ap, subst, inl, inr}
 use Rattle.psu_hislip.specs.Answer.{IsAnswerCutAnywhere}
-use Rattle.psu_answers.specs.Response.{response}
+use Rattle.psu_messages.specs.Response.{response}
 use Rattle.psu_exec.specs.Calls.{Entry}
 use Rattle.psu_exec.specs.Device as device
 use Rattle.psu_messages.specs.Answers.{answer_in}

@@ -6,7 +6,7 @@ use Rattle.std.specs.Prelude.{◌≡◌, ◌⊎◌, ℕ, ◌==◌, if◌then◌e
 use Rattle.psu_hislip.specs.Answer.{IsAnswerCutAnywhere}
 use Rattle.psu_hislip.specs.declared.origin.Origin.{Origin}
 use Rattle.psu_hislip.specs.declared.side.Side.TheVariants.{Sync}
-use Rattle.psu_answers.specs.Response.{are_some, response}
+use Rattle.psu_messages.specs.Response.{are_some, response}
 use Rattle.psu_exec.specs.Calls.{Entry}
 use Rattle.psu_exec.specs.Device as device
 use Rattle.psu_messages.specs.Answers.{answer_in}

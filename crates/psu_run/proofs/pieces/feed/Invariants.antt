@@ -1,5 +1,5 @@
 use Rattle.std.proofs.Common.{◌≡◌, ◌≤◌, length}
-use Rattle.psu_answers.specs.ResponseBuffer.{nothing}
+use Rattle.psu_messages.specs.ResponseBuffer.{nothing}
 use Rattle.psu_run.specs.Lines.{coming}
 use Rattle.psu_run.specs.Output.{output_state}
 use Rattle.psu_run.proofs.Feeding.{FedSo}

@@ -1,6 +1,6 @@
 -- The response buffer of a message: responses are appended one after another, and sent in parts.
 use Rattle.std.specs.Prelude.{◌≡◌, ℕ, Bool, true, false, List, [], ◌∷◌, ◌++◌}
-use Rattle.psu_answers.specs.Response.{end_of, joined, response}
+use Rattle.psu_messages.specs.Response.{end_of, joined, response}
 
 -- whether a unit of the message has responded, and the text that is not sent
 pub record Text : Type 0 where

@@ -1,6 +1,6 @@
 // The response buffer of a message.
 ghost use Rattle.std.specs.Prelude.{◌≡◌, ◌<◌, ◌↔◌, ◌++◌, ◌∷◌, length, IsTrue, OnOk, OnErr};
-ghost use Rattle.psu_answers.specs.ResponseBuffer.{Text, emptied, ended, nothing, appended};
+ghost use Rattle.psu_messages.specs.ResponseBuffer.{Text, emptied, ended, nothing, appended};
 
 use std::alloc::{AllocError, Allocator};
 use std::marker::Model;
@@ -16,7 +16,7 @@ pub struct ResponseBuffer<A: Allocator + Copy> {
 }
 
 impl<A: Allocator + Copy> Model for ResponseBuffer<A> {
-    ghost use Rattle.psu_answers.specs.ResponseBuffer.{Text};
+    ghost use Rattle.psu_messages.specs.ResponseBuffer.{Text};
 
     ghost Value = { Text };
 

@@ -1,9 +1,9 @@
 -- The responses of a message's units, appended and sent in parts.
 use Rattle.std.proofs.Common.{◌≡◌, ℕ, Bool, true, List, [], ◌∷◌, ◌++◌, refl, sym, ap, ◌∙◌}
 use Rattle.std.proofs.lemmas.List.{append_assoc}
-use Rattle.psu_answers.specs.ResponseBuffer.{Makes, Text, addition}
-use Rattle.psu_answers.specs.ResponseBuffer.Makes.{Begin, Append, Send}
-use Rattle.psu_answers.specs.Response.{are_some, end_of, joined, response}
+use Rattle.psu_messages.specs.ResponseBuffer.{Makes, Text, addition}
+use Rattle.psu_messages.specs.ResponseBuffer.Makes.{Begin, Append, Send}
+use Rattle.psu_messages.specs.Response.{are_some, end_of, joined, response}
 
 pub some_more : (xs : List (List ℕ)) (x : List ℕ) → true ≡ are_some (xs ++ x ∷ [])
 some_more [] x = refl

@@ -1,2 +1,0 @@
-pub mod ResponseBuffer
-pub mod Response
