@@ -24,7 +24,7 @@ import os
 import struct
 import subprocess
 import sys
-from typing import Iterator, Optional, Union
+from typing import Iterator, List, Optional, Union
 
 from .command_line import parser
 from .confirming import session_of, take_lock, write_to_disk
@@ -63,7 +63,7 @@ def is_locked_by_another(file: int) -> bool:
 
 
 def read_whole(file: int) -> bytes:
-    pieces = []
+    pieces: List[bytes] = []
     at = 0
     while True:
         piece = os.pread(file, 1 << 20, at)
@@ -175,7 +175,8 @@ def main() -> Optional[Union[int, str]]:
         if words.check:
             check(*words.paths)
         else:
-            make(*words.paths, words.port, words.timeout, words.program or find_program())
+            image, copy = words.paths
+            make(image, copy, words.port, words.timeout, words.program or find_program())
     except (NotMade, HislipError, OSError, ValueError) as fault:
         return f"{made.prog}: {told(fault)}"
     return None

@@ -9,7 +9,7 @@ use Rattle.psu_exec.specs.Lives.{broken_life}
 use Rattle.psu_exec.specs.World.{World, Running, Event, Call, DiskCall, Loss, Stop, Restart, DiskAfter, Happens, Run, recorded}
 use Rattle.psu_exec.proofs.BrokenLife.{breaks_and_mends}
 use Rattle.psu_exec.proofs.Events.{prefix_is_left}
-use Rattle.psu_turn.specs.History.{Leads}
+use Rattle.psu_turn.specs.History.{HistoryLeads}
 use Rattle.psu_turn.specs.declared.numbered.Numbered.{Numbered}
 use Rattle.psu_bench.specs.Calls.{Admits, AdmitsOn, HasDisk, HasNoSession}
 use Rattle.psu_bench.specs.Lives.{Happening, Called, Moved, HistoriesHappen, LeadsOverDisks, Lives, LivesAreEvents, SeenHistoriesHappen, SomeHistoryHappens, ThreadsLeavePrefix, by_one, calls_in}
@@ -27,7 +27,7 @@ still : (w mid : World) (disk : DiskState) → Happens w (DiskCall disk) mid →
 still w mid disk (moves, inl (keeps, is)) = ap (λ (z : World). z.state) is
 still w mid disk (moves, inr (keeps, is)) = ap (λ (z : World). z.state) is
 
-leads_of : (happenings : List Happening) (w new : World) → Lives w happenings new → Leads Admits w.state (calls_in happenings) new.state
+leads_of : (happenings : List Happening) (w new : World) → Lives w happenings new → HistoryLeads Admits w.state (calls_in happenings) new.state
 leads_of [] w new same = sym (ap (λ (z : World). z.state) same)
 leads_of (Called call disk ∷ more) w new (inl (mid, happens, rest)) = (
   mid.state,
@@ -35,7 +35,7 @@ leads_of (Called call disk ∷ more) w new (inl (mid, happens, rest)) = (
   leads_of more mid new rest,
 )
 leads_of (Called call disk ∷ more) w new (inr (absent, same, rest)) = (w.state, inr (absent, refl), leads_of more w new rest)
-leads_of (Moved disk ∷ more) w new (mid, happens, rest) = subst (λ (s : State). Leads Admits s (calls_in more) new.state) (still w mid disk happens) (leads_of more mid new rest)
+leads_of (Moved disk ∷ more) w new (mid, happens, rest) = subst (λ (s : State). HistoryLeads Admits s (calls_in more) new.state) (still w mid disk happens) (leads_of more mid new rest)
 
 pub lives_are_events : LivesAreEvents
 lives_are_events w new happenings lives = (events_of happenings w new lives, leads_of happenings w new lives)
@@ -167,7 +167,7 @@ on_disk honest s next (Ticked now failed) h admits = (admits, tt)
 on_disk honest s next (Informed info) h admits = (admits, tt)
 on_disk honest s next (Due deadline) h admits = (admits, tt)
 
-pub over_disks : (honest : Type 0) (history : List (Numbered Entry)) (first last : State) → honest → Leads (AdmitsOn honest) first history last → LeadsOverDisks first history last
+pub over_disks : (honest : Type 0) (history : List (Numbered Entry)) (first last : State) → honest → HistoryLeads (AdmitsOn honest) first history last → LeadsOverDisks first history last
 over_disks honest [] first last h leads = leads
 over_disks honest (call ∷ history) first last h (next, admits, rest) =
     let on = on_disk honest first next call.entry h admits in (next, on.0, on.1, over_disks honest history next last h rest)

@@ -1,6 +1,6 @@
 -- A unit that is answered causes nothing, whatever session made the call.
 use Rattle.std.proofs.Common.{◌≡◌, ℕ, List, inl, inr, sym, subst, ◌∙◌}
-use Rattle.psu_tree.specs.declared.unit_request.Request.{Request}
+use Rattle.psu_tree.specs.declared.command.Request.{Request}
 use Rattle.psu_exec.specs.Calls.{Allows}
 use Rattle.psu_exec.specs.Calls.Entry.{Executed}
 use Rattle.psu_exec.specs.Device.{Answer, Reply}

@@ -18,7 +18,7 @@ use Rattle.psu_turn.specs.History.{numbered}
 use Rattle.psu_turn.specs.declared.numbered.Numbered.{Numbered}
 use Rattle.psu_bench.specs.Calls.{AdmitsOn}
 use Rattle.psu_bench.specs.Lives.{Called, Moved, LeadsOverDisks, Lives, calls_in}
-use Rattle.psu_bench.specs.Threads.{DisksLeavePrefix, EndsAreTrue, HaveDisks, IsDiskCall, IsPlain, JobRun, SomeStepsExist, Step, Makes, Takes, Reaches, Gives, ThreadsAreEvents, shown, taken}
+use Rattle.psu_bench.specs.Threads.{DisksLeavePrefix, EndsAreTrue, HaveDisks, IsDiskCall, IsPlain, JobRun, SomeStepsExist, ThreadStep, CallMade, Takes, Reaches, Gives, ThreadsAreEvents, shown, taken}
 use Rattle.psu_bench.proofs.Lives.{lives_are_events, over_disks, threads_leave_prefix}
 
 -- ---- a call that takes no job, and by which no end is accepted
@@ -128,21 +128,21 @@ taken_out D A G run s new a = record {
 abbrev pub Counts : (D : Type 0) → Ghosts D → Type 0
 Counts D G = (d : D) (t : ℕ) (x : List ℕ) → t ≤ Ghosts.moment G d → IsCrashImage (Ghosts.state G d) x → Ghosts.left_since G d t x
 
-abbrev Stepped : (D A : Type 0) (G : Ghosts D) → World → List (Step D A G) → State → D → Type 0
+abbrev Stepped : (D A : Type 0) (G : Ghosts D) → World → List (ThreadStep D A G) → State → D → Type 0
 Stepped D A G w steps state last = (new : World) × Lives w (shown w.disk steps) new × (new.state ≡ state) × (new.disk ≡ Ghosts.state G last)
 
 abbrev after_call : World → Entry → State → DiskState → World
 after_call w entry next disk = record w { state = next; history = recorded w.state entry w.history; disk = disk }
 
 -- a call that is an event, before steps that happen
-one_call : (D A : Type 0) (G : Ghosts D) (w : World) (call : Numbered Entry) (next : State) (disk : DiskState) (steps : List (Step D A G)) (state : State) (last : D)
+one_call : (D A : Type 0) (G : Ghosts D) (w : World) (call : Numbered Entry) (next : State) (disk : DiskState) (steps : List (ThreadStep D A G)) (state : State) (last : D)
     → w.mode ≡ Running → Allows w.state call.entry next → DiskAfter w call.entry disk → Stepped D A G (after_call w call.entry next disk) steps state last
     → (new : World) × Lives w (Called call disk ∷ shown disk steps) new × (new.state ≡ state) × (new.disk ≡ Ghosts.state G last)
 one_call D A G w call next disk steps state last running allows after r = (r.0, inl (after_call w call.entry next disk, (next, running, allows, after, refl), r.1), r.2, r.3)
 
 -- a disk call of the run, before steps that happen
 one_disk_call : (D A : Type 0) (G : Ghosts D) → Counts D G → Ghosts.honest G → Ghosts.records G
-    → (run : JobRun D A G) (w : World) (disk next : D) (steps : List (Step D A G)) (state : State) (last : D) → w.mode ≡ Running → IsOut run w.state.flush → w.disk ≡ Ghosts.state G disk → IsDiskCall run disk next
+    → (run : JobRun D A G) (w : World) (disk next : D) (steps : List (ThreadStep D A G)) (state : State) (last : D) → w.mode ≡ Running → IsOut run w.state.flush → w.disk ≡ Ghosts.state G disk → IsDiskCall run disk next
     → Stepped D A G (record w { disk = Ghosts.state G next }) steps state last
     → (new : World) × Lives w (Moved (Ghosts.state G next) ∷ shown (Ghosts.state G next) steps) new × (new.state ≡ state) × (new.disk ≡ Ghosts.state G last)
 one_disk_call D A G counts honest records run w disk next steps state last running out is call r =
@@ -154,14 +154,14 @@ one_disk_call D A G counts honest records run w disk next steps state last runni
     (r.0, (mid, (moves, inl (record { running = running; out = out.out; either = either }, refl)), r.1), r.2, r.3)
 
 step_by_step : (D A : Type 0) (G : Ghosts D) → Counts D G → Ghosts.honest G → Ghosts.records G
-    → (steps : List (Step D A G)) (run : Option (JobRun D A G)) (w : World) (disk last : D) (state : State) → w.mode ≡ Running → IsConsistent w.state.flush → AreOut run w.state.flush → w.disk ≡ Ghosts.state G disk
+    → (steps : List (ThreadStep D A G)) (run : Option (JobRun D A G)) (w : World) (disk last : D) (state : State) → w.mode ≡ Running → IsConsistent w.state.flush → AreOut run w.state.flush → w.disk ≡ Ghosts.state G disk
     → HaveDisks D A G run disk steps last → LeadsOverDisks w.state (calls_in (shown w.disk steps)) state → Stepped D A G w steps state last
 step_by_step D A G counts honest records [] run w disk last state running k out is have leads = (w, refl, leads, is ∙ sym (ap (λ (d : D). Ghosts.state G d) have))
-step_by_step D A G counts honest records (Makes call ∷ steps) run w disk last state running k out is have (next, inl allows, on, rest) =
+step_by_step D A G counts honest records (CallMade call ∷ steps) run w disk last state running k out is have (next, inl allows, on, rest) =
     let still = still_out D A G run w.state.flush next.flush (plain_same w.state next call.entry have.0 allows) out in
     let r = step_by_step D A G counts honest records steps run (after_call w call.entry next w.disk) disk last state running (each_stays_consistent w.state next call.entry allows k) still is have.1 rest in
     one_call D A G w call next w.disk steps state last running allows (plain_after w call.entry have.0) r
-step_by_step D A G counts honest records (Makes call ∷ steps) run w disk last state running k out is have (next, inr (absent, same), on, rest) =
+step_by_step D A G counts honest records (CallMade call ∷ steps) run w disk last state running k out is have (next, inr (absent, same), on, rest) =
     let r = step_by_step D A G counts honest records steps run w disk last state running k out is have.1 (subst (λ (s : State). LeadsOverDisks s (calls_in (shown w.disk steps)) state) same rest) in
     (r.0, inr (absent, refl, r.1), r.2, r.3)
 step_by_step D A G counts honest records (Takes seat begun ∷ steps) run w disk last state running k out is have (next, inl allows, on, rest) =

@@ -1,7 +1,7 @@
 -- Tries of a worker, one after another.
 use Rattle.std.proofs.Common.{◌≡◌, ℕ, ◌+◌, true, All, length, Option, Some, None, List, [], ◌∷◌, ◌++◌, refl, ap, ◌∙◌, arith}
 use Rattle.std.proofs.lemmas.List.Elements.{All-push, All-nil}
-use Rattle.psu_tree.specs.declared.unit_request.Request.{Request}
+use Rattle.psu_tree.specs.declared.command.Request.{Request}
 use Rattle.psu_exec.specs.Device.{Reply}
 use Rattle.psu_exec.specs.Calls.{Entry}
 use Rattle.psu_bench.specs.Tries.{AreTries, is_put_off, try_after, tries_from}

@@ -2,9 +2,9 @@
 use Rattle.std.specs.Prelude.{◌≡◌, ◌⊎◌, ℕ, Bool, Option, Some, None, Result, Ok, Err, List, []}
 use Rattle.std.specs.declared.alloc.Global.{Global}
 use Rattle.psu_disk.specs.declared.disk.Disk.{Ghosts}
-use Rattle.psu_turn.specs.Seats.{Sight, Calls}
-use Rattle.psu_locks.specs.declared.freed.Freed.{Freed}
-use Rattle.psu_locks.specs.declared.lock_refusal.LockRefusal.{LockRefusal}
+use Rattle.psu_turn.specs.Seats.{Sight, SeatCalls}
+use Rattle.psu_locks.specs.declared.results.Freed.{Freed}
+use Rattle.psu_locks.specs.declared.results.LockRefusal.{LockRefusal}
 use Rattle.psu_exec.specs.Device.{State}
 use Rattle.psu_exec.specs.Quiet.{IsQuiet}
 use Rattle.psu_exec.specs.Calls.{Entry, JobEnd, Taken, Job}
@@ -19,19 +19,19 @@ use Rattle.psu_bench.specs.declared.granted.Granted.{Granted}
 
 -- The seat made this call, and perhaps took the notifications after it. What it has seen then is one legal history, which begins with all that it had seen
 -- and ends with what it called.
-abbrev pub Makes : Type 0 → Sight State Entry → Entry → Sight State Entry → Type 0
-Makes honest old entry new = Calls (AdmitsOn honest) old entry new
-    ⊎ ((mid : Sight State Entry) × (asking : List ℕ) × (work : Bool) × Calls (AdmitsOn honest) old entry mid × Calls (AdmitsOn honest) mid (Notified asking work) new)
+abbrev pub MakesCall : Type 0 → Sight State Entry → Entry → Sight State Entry → Type 0
+MakesCall honest old entry new = SeatCalls (AdmitsOn honest) old entry new
+    ⊎ ((mid : Sight State Entry) × (asking : List ℕ) × (work : Bool) × SeatCalls (AdmitsOn honest) old entry mid × SeatCalls (AdmitsOn honest) mid (Notified asking work) new)
 
 -- the result of a job was given back
 abbrev pub GivesBack : Type 0 → JobEnd → Sight State Entry → Sight State Entry → Type 0
-GivesBack honest end old new = (over : Option (List ℕ)) × Makes honest old (GaveBack end over) new
+GivesBack honest end old new = (over : Option (List ℕ)) × MakesCall honest old (GaveBack end over) new
 
 -- A round of the flusher is a take. Where it gave a job, that very job is run, its result is given back, and nothing else is called.
 abbrev pub MakesRound : {D : Type 0} (G : Ghosts D) → Taken → Sight State Entry → Sight State Entry → Type 0
 MakesRound {D} G (Job d) old new =
-    (job : AnyJob D Global G) × (mid : Sight State Entry) × (d ≡ job_data job) × Calls (AdmitsOn (Ghosts.honest G)) old (Took (Job d)) mid × ((end : JobEnd) × IsEndOf job end × GivesBack (Ghosts.honest G) end mid new)
-MakesRound G taken old new = Calls (AdmitsOn (Ghosts.honest G)) old (Took taken) new
+    (job : AnyJob D Global G) × (mid : Sight State Entry) × (d ≡ job_data job) × SeatCalls (AdmitsOn (Ghosts.honest G)) old (Took (Job d)) mid × ((end : JobEnd) × IsEndOf job end × GivesBack (Ghosts.honest G) end mid new)
+MakesRound G taken old new = SeatCalls (AdmitsOn (Ghosts.honest G)) old (Took taken) new
 
 -- ---- what calls cause for other threads
 
@@ -58,17 +58,17 @@ CausesNothing honest entry = (s new : State) → AdmitsOn honest s entry new →
 -- What this call has caused is what the notifications say that were then taken. Where none were taken it causes nothing.
 abbrev pub IsNotified : Type 0 → Entry → Sight State Entry → Option Caused → Sight State Entry → Type 0
 IsNotified honest entry old None new = (new ≡ old) × CausesNothing honest entry
-IsNotified honest entry old (Some caused) new = Calls (AdmitsOn honest) old (Notified caused.requesting caused.wakes_flusher) new
+IsNotified honest entry old (Some caused) new = SeatCalls (AdmitsOn honest) old (Notified caused.requesting caused.wakes_flusher) new
 
 -- the seat made this call, which has caused this
 abbrev pub Causes : Type 0 → Sight State Entry → Entry → Option Caused → Sight State Entry → Type 0
-Causes honest old entry caused new = (mid : Sight State Entry) × Calls (AdmitsOn honest) old entry mid × IsNotified honest entry mid caused new
+Causes honest old entry caused new = (mid : Sight State Entry) × SeatCalls (AdmitsOn honest) old entry mid × IsNotified honest entry mid caused new
 
 -- the seat made this call, which has caused what the notifications say that were then taken
 abbrev pub Notifies : Type 0 → Sight State Entry → Entry → Caused → Sight State Entry → Type 0
-Notifies honest old entry caused new = (mid : Sight State Entry) × Calls (AdmitsOn honest) old entry mid × Calls (AdmitsOn honest) mid (Notified caused.requesting caused.wakes_flusher) new
+Notifies honest old entry caused new = (mid : Sight State Entry) × SeatCalls (AdmitsOn honest) old entry mid × SeatCalls (AdmitsOn honest) mid (Notified caused.requesting caused.wakes_flusher) new
 
 -- the seat gave back the result of a job, which has caused what the notifications say that were then taken
 abbrev pub HasEnded : Type 0 → JobEnd → Sight State Entry → CausedByJob → Sight State Entry → Type 0
 HasEnded honest end old caused new = (over : Option (List ℕ)) × (mid : Sight State Entry) × (work : Bool) × (caused.over ≡ over_sessions over)
-    × Calls (AdmitsOn honest) old (GaveBack end over) mid × Calls (AdmitsOn honest) mid (Notified caused.requesting work) new
+    × SeatCalls (AdmitsOn honest) old (GaveBack end over) mid × SeatCalls (AdmitsOn honest) mid (Notified caused.requesting work) new

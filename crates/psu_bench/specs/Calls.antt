@@ -5,8 +5,8 @@ use Rattle.psu_exec.specs.Device.{State, is_open, target, Later}
 use Rattle.psu_exec.specs.Calls.{Entry, Allows}
 use Rattle.psu_exec.specs.Calls.Entry.{Executed, Settled, Took, GaveBack, Opened, Closed, Cleared, Sent, Delivered, Queried, Fetched, Notified, Locked, Released, Ticked, Informed, Due}
 use Rattle.psu_exec.specs.World.{IsTrueOf}
-use Rattle.psu_locks.specs.declared.grant.Grant.TheVariants.{Failed}
-use Rattle.psu_locks.specs.declared.lock_refusal.LockRefusal.TheVariants.{NotHeld}
+use Rattle.psu_locks.specs.declared.results.Grant.TheVariants.{Failed}
+use Rattle.psu_locks.specs.declared.results.LockRefusal.TheVariants.{NotHeld}
 
 -- The session isn't open, as another thread may have closed it: the call has no effect, and this reply.
 abbrev pub HasNoSession : State → Entry → Type 0

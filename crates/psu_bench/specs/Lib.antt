@@ -1,6 +1,6 @@
 pub mod Calls
 pub mod Callers
-pub mod Condition
+pub mod ReportedCondition
 pub mod Seconds
 pub mod Lines
 pub mod Reopenings

@@ -1,13 +1,13 @@
 -- The lines on the store's condition that an operator reads. At most one is due a second. It names the latest condition, and
 -- says how often the condition has changed since the line before it.
 use Rattle.std.specs.Prelude.{◌≡◌, ◌<◌, ◌+◌, ◌-◌, ◌^◌, ℕ, min, Some}
-use Rattle.psu_bench.specs.declared.condition.Condition.{Condition}
+use Rattle.psu_bench.specs.declared.reported_condition.ReportedCondition.{ReportedCondition}
 use Rattle.psu_bench.specs.declared.condition_lines.ConditionLines.{ConditionLines}
 use Rattle.psu_bench.specs.declared.condition_line.ConditionLine.{ConditionLine}
 use Rattle.psu_bench.specs.Seconds.{left_of_second}
 
 -- after a change to this condition
-abbrev pub with_change : ConditionLines → Condition → ConditionLines
+abbrev pub with_change : ConditionLines → ReportedCondition → ConditionLines
 with_change lines condition = record lines { latest = condition; changes = min (lines.changes + 1) (2 ^ 64 - 1) }
 
 -- A line is due: the condition has changed since the last one, which was at least a second ago.

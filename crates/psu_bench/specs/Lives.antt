@@ -9,7 +9,7 @@ use Rattle.psu_exec.specs.Calls.{Entry}
 use Rattle.psu_exec.specs.Headline.{IsPrefix}
 use Rattle.psu_exec.specs.Lives.{cleared, broken_life}
 use Rattle.psu_exec.specs.World.{World, Running, Event, Call, DiskCall, Loss, Stop, Restart, Happens, IsStart, Moves, Run, after, answered}
-use Rattle.psu_turn.specs.History.{Leads, numbered}
+use Rattle.psu_turn.specs.History.{HistoryLeads, numbered}
 use Rattle.psu_turn.specs.declared.numbered.Numbered.{Numbered}
 use Rattle.psu_bench.specs.Calls.{Admits, AdmitsOn, HasDisk, HasNoSession}
 
@@ -36,7 +36,7 @@ Lives w (Moved disk ∷ more) new = (mid : World) × Happens w (DiskCall disk) m
 -- What happens are events of the power-loss theorem, and its calls are a legal history.
 abbrev pub LivesAreEvents : Type 0
 LivesAreEvents = (w new : World) (happenings : List Happening) → Lives w happenings new
-    → ((events : List Event) × Run w events new) × Leads Admits w.state (calls_in happenings) new.state
+    → ((events : List Event) × Run w events new) × HistoryLeads Admits w.state (calls_in happenings) new.state
 
 -- a legal history whose accepted ends are each true of some disk
 abbrev pub LeadsOverDisks : State → List (Numbered Entry) → State → Type 0
@@ -50,7 +50,7 @@ HistoriesHappen = (w : World) (history : List (Numbered Entry)) (last : State) �
 
 -- So the history that a seat has seen happens, if the disks of the bench's kind are honest.
 abbrev pub SeenHistoriesHappen : Type 0 → Type 0
-SeenHistoriesHappen honest = (w : World) (history : List (Numbered Entry)) (last : State) → honest → w.mode ≡ Running → Leads (AdmitsOn honest) w.state history last
+SeenHistoriesHappen honest = (w : World) (history : List (Numbered Entry)) (last : State) → honest → w.mode ≡ Running → HistoryLeads (AdmitsOn honest) w.state history last
     → (happenings : List Happening) × (new : World) × (calls_in happenings ≡ history) × Lives w happenings new × (new.state ≡ last)
 
 -- the happenings of one thread that causes these events, up to a power loss, the process's end or a restart

@@ -1,6 +1,6 @@
 -- What a thread's calls of the device cause for other threads, as it is reported to them.
 use Rattle.std.specs.Prelude.{◌≡◌, ℕ, Bool, true, false, List, [], ◌∷◌, ◌++◌}
-use Rattle.psu_locks.specs.declared.grant.Grant.{Grant}
+use Rattle.psu_locks.specs.declared.results.Grant.{Grant}
 use Rattle.psu_bench.specs.declared.caused.Caused.{Caused}
 use Rattle.psu_bench.specs.declared.caused_by_job.CausedByJob.{CausedByJob}
 

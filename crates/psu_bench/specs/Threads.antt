@@ -14,7 +14,7 @@ use Rattle.psu_exec.specs.Jobs.{EndStands, finished_disk, finished_of, job_data,
 use Rattle.psu_exec.specs.World.{World, Running, Event, Moves, Run, IsStart, IsTrueOf, after}
 use Rattle.psu_exec.specs.declared.job.Job.{Job}
 use Rattle.psu_exec.specs.declared.finished.End.{End as EndOf}
-use Rattle.psu_turn.specs.History.{Leads, numbered}
+use Rattle.psu_turn.specs.History.{HistoryLeads, numbered}
 use Rattle.psu_turn.specs.declared.numbered.Numbered.{Numbered}
 use Rattle.psu_bench.specs.Calls.{AdmitsOn}
 use Rattle.psu_bench.specs.Lives.{Happening, Called, Moved, Lives, calls_in}
@@ -30,20 +30,20 @@ pub record JobRun (D A : Type 0) (G : Ghosts D) : Type 0 where
       → LeavesOnly (Ghosts.moment G) (Ghosts.left_since G) (job_disk job) (finished_disk finished) (IsEither (job_data job).limit (job_data job).before (job_data job).target)
 
 -- A step of a thread.
-pub data Step (D A : Type 0) (G : Ghosts D) : Type 0 where
+pub data ThreadStep (D A : Type 0) (G : Ghosts D) : Type 0 where
   -- a call that takes no job and whose end, if it gives one back, is not accepted
-  Makes : (call : Numbered Entry) → Step D A G
+  CallMade : (call : Numbered Entry) → ThreadStep D A G
   -- a take, under the seat's number, of the job that is then run
-  Takes : (seat : ℕ) → (run : JobRun D A G) → Step D A G
+  Takes : (seat : ℕ) → (run : JobRun D A G) → ThreadStep D A G
   -- a disk call of that run, with the disk that it leaves
-  Reaches : (disk : D) → Step D A G
+  Reaches : (disk : D) → ThreadStep D A G
   -- a give-back of this finished job, which is accepted, with the sessions whose wait is then over
-  Gives : (seat : ℕ) → (finished : EndOf D A G) → (over : List ℕ) → Step D A G
+  Gives : (seat : ℕ) → (finished : EndOf D A G) → (over : List ℕ) → ThreadStep D A G
 
 -- The steps as calls and disk calls, each with the disk after it: that of the threads, which is this one before them.
-abbrev pub shown : {D A : Type 0} {G : Ghosts D} → DiskState → List (Step D A G) → List Happening
+abbrev pub shown : {D A : Type 0} {G : Ghosts D} → DiskState → List (ThreadStep D A G) → List Happening
 shown disk [] = []
-shown disk (Makes call ∷ more) = Called call disk ∷ shown disk more
+shown disk (CallMade call ∷ more) = Called call disk ∷ shown disk more
 shown disk (Takes seat run ∷ more) = Called (numbered seat (Took (Taken.Job (job_data run.job)))) disk ∷ shown disk more
 shown {D} {A} {G} disk (Reaches next ∷ more) = Moved (Ghosts.state G next) ∷ shown (Ghosts.state G next) more
 shown {D} {A} {G} disk (Gives seat finished over ∷ more) =
@@ -72,9 +72,9 @@ IsDiskCallOf (Some run) old new = IsDiskCall run old new
 -- The steps have these disks, from one to the last, with this run under way before them or none. A job has the disk
 -- that is there when it is taken; a disk call is one of its run; then the disk is the one that the accepted end
 -- carries, of which that is true which `Job::run` states of each end.
-abbrev pub HaveDisks : (D A : Type 0) (G : Ghosts D) → Option (JobRun D A G) → D → List (Step D A G) → D → Type 0
+abbrev pub HaveDisks : (D A : Type 0) (G : Ghosts D) → Option (JobRun D A G) → D → List (ThreadStep D A G) → D → Type 0
 HaveDisks D A G run disk [] last = last ≡ disk
-HaveDisks D A G run disk (Makes call ∷ more) last = IsPlain call.entry × HaveDisks D A G run disk more last
+HaveDisks D A G run disk (CallMade call ∷ more) last = IsPlain call.entry × HaveDisks D A G run disk more last
 HaveDisks D A G run disk (Takes seat begun ∷ more) last = (job_disk begun.job ≡ disk) × HaveDisks D A G (Some begun) disk more last
 HaveDisks D A G run disk (Reaches next ∷ more) last = IsDiskCallOf run disk next × HaveDisks D A G run next more last
 HaveDisks D A G run disk (Gives seat finished over ∷ more) last = (Ghosts.honest G → EndStands finished) × HaveDisks D A G None (finished_disk finished) more last
@@ -88,7 +88,7 @@ EndsAreTrue D A G = (s new : State) (finished : EndOf D A G) (over : List ℕ)
 
 -- The steps happen in world w, one after another, each with the disk of the threads, and are events of the power-loss
 -- theorem. In the end the state is the history's, and the disk the threads' last.
-pub record Occurs {D A : Type 0} {G : Ghosts D} (w : World) (steps : List (Step D A G)) (state : State) (disk : D) : Type 0 where
+pub record Occurs {D A : Type 0} {G : Ghosts D} (w : World) (steps : List (ThreadStep D A G)) (state : State) (disk : D) : Type 0 where
   pub new : World
   pub lives : Lives w (shown w.disk steps) new
   pub state_is : new.state ≡ state
@@ -97,15 +97,15 @@ pub record Occurs {D A : Type 0} {G : Ghosts D} (w : World) (steps : List (Step 
 
 -- So do the steps of threads whose calls are a legal history.
 abbrev pub ThreadsAreEvents : (D A : Type 0) → Ghosts D → Type 0
-ThreadsAreEvents D A G = (w : World) (first last : D) (steps : List (Step D A G)) (state : State)
-    → w.mode ≡ Running → IsConsistent w.state.flush → w.disk ≡ Ghosts.state G first → HaveDisks D A G None first steps last → Leads (AdmitsOn (Ghosts.honest G)) w.state (calls_in (shown w.disk steps)) state
+ThreadsAreEvents D A G = (w : World) (first last : D) (steps : List (ThreadStep D A G)) (state : State)
+    → w.mode ≡ Running → IsConsistent w.state.flush → w.disk ≡ Ghosts.state G first → HaveDisks D A G None first steps last → HistoryLeads (AdmitsOn (Ghosts.honest G)) w.state (calls_in (shown w.disk steps)) state
     → Occurs w steps state last
 
 -- Therefore each possible crash image of the threads' disk, after any of their steps since a power-on, represents the
 -- contents after a prefix of the executed units that includes every unit before an answered `*OPC?`.
 abbrev pub DisksLeavePrefix : (D A : Type 0) → Ghosts D → Type 0
-DisksLeavePrefix D A G = (w : World) (first last : D) (steps : List (Step D A G)) (state : State) (image : List ℕ)
-    → IsStart w → w.disk ≡ Ghosts.state G first → HaveDisks D A G None first steps last → Leads (AdmitsOn (Ghosts.honest G)) w.state (calls_in (shown w.disk steps)) state → IsCrashImage (Ghosts.state G last) image
+DisksLeavePrefix D A G = (w : World) (first last : D) (steps : List (ThreadStep D A G)) (state : State) (image : List ℕ)
+    → IsStart w → w.disk ≡ Ghosts.state G first → HaveDisks D A G None first steps last → HistoryLeads (AdmitsOn (Ghosts.honest G)) w.state (calls_in (shown w.disk steps)) state → IsCrashImage (Ghosts.state G last) image
     → (now : World) × (k : ℕ) × Lives w (shown w.disk steps) now × IsPrefix now k × MayBeKept now.limit (after now k) × Represents image now.limit (items_of (after now k))
 
 -- ---- such steps exist
@@ -129,10 +129,10 @@ abbrev pub taken : World → State
 taken w = record w.state { flush = job_out w.state.flush }
 
 -- its steps: the job is taken, its disk call is made, and its end is given back
-abbrev pub one_job : {D A : Type 0} {G : Ghosts D} → World → JobRun D A G → List (Step D A G)
+abbrev pub one_job : {D A : Type 0} {G : Ghosts D} → World → JobRun D A G → List (ThreadStep D A G)
 one_job w run = Takes 1 run ∷ Reaches (finished_disk run.finished) ∷ Gives 1 run.finished (sessions_over (with_stored (taken w)).flush) ∷ []
 
 -- The premises of the laws hold of these steps: they have the disks, and their calls are a legal history.
 abbrev pub SomeStepsExist : (D A : Type 0) → Ghosts D → Type 0
 SomeStepsExist D A G = (w : World) (first : D) (run : JobRun D A G) (store : MapOn D) → StoresTarget w first run store
-    → HaveDisks D A G None first (one_job w run) (finished_disk run.finished) × Leads (AdmitsOn (Ghosts.honest G)) w.state (calls_in (shown w.disk (one_job w run))) (with_stored (taken w))
+    → HaveDisks D A G None first (one_job w run) (finished_disk run.finished) × HistoryLeads (AdmitsOn (Ghosts.honest G)) w.state (calls_in (shown w.disk (one_job w run))) (with_stored (taken w))

@@ -1,6 +1,6 @@
 -- The calls of a session's worker.
 use Rattle.std.specs.Prelude.{◌≡◌, ℕ, ◌+◌, ◌≤◌, Bool, true, false, All, length, Option, Some, None, List, [], ◌∷◌, ◌++◌}
-use Rattle.psu_tree.specs.declared.unit_request.Request.{Request}
+use Rattle.psu_tree.specs.declared.command.Request.{Request}
 use Rattle.psu_exec.specs.Device.{Reply, Parked, Held, Later}
 use Rattle.psu_exec.specs.Calls.{Entry}
 use Rattle.psu_exec.specs.Calls.Entry.{Executed, Settled}

@@ -1,6 +1,6 @@
 //! The shared state, which threads call in turns.
 ghost use Rattle.std.specs.Prelude.{◌≡◌, IfOk, IfErr, length};
-ghost use Rattle.psu_turn.specs.Seats.{Begins, IsOf, Calls, Sees, Splits, Joins, Closes};
+ghost use Rattle.psu_turn.specs.Seats.{Begins, IsOf, SeatCalls, Sees, Splits, Joins, Closes};
 ghost use Rattle.psu_exec.specs.Calls.Entry.{Executed, Settled, Took, GaveBack, Opened, Closed, Cleared, Sent, Delivered, Queried, Fetched, Notified, Locked, Released, Ticked, Informed, Due};
 ghost use Rattle.psu_exec.specs.Shown.{outcome_of, over_of};
 ghost use Rattle.psu_bench.specs.Calls.{AdmitsOn, session_of};
@@ -72,7 +72,7 @@ impl<D: Disk, A: Allocator + Copy> Bench<D, A> {
         request: &Request<'_>,
     ) -> Outcome<A>
         requires own { IsOf self.now seat.old }
-        ensures call { Calls (AdmitsOn D.honest) seat.old (Executed session request.now (outcome_of result)) seat.new }
+        ensures call { SeatCalls (AdmitsOn D.honest) seat.old (Executed session request.now (outcome_of result)) seat.new }
         ensures own { IsOf self.now seat.new }
     {
         let mut taken = self.turn.enter(rt, seat);
@@ -85,7 +85,7 @@ impl<D: Disk, A: Allocator + Copy> Bench<D, A> {
     /// Returns the result of a session's wait, in a turn; Later if the session isn't open.
     pub fn settle<R: Wait>(&self, rt: &R, seat: &mut Seat<A>, session: Session) -> Outcome<A>
         requires own { IsOf self.now seat.old }
-        ensures call { Calls (AdmitsOn D.honest) seat.old (Settled session (outcome_of result)) seat.new }
+        ensures call { SeatCalls (AdmitsOn D.honest) seat.old (Settled session (outcome_of result)) seat.new }
         ensures own { IsOf self.now seat.new }
     {
         let mut taken = self.turn.enter(rt, seat);
@@ -98,7 +98,7 @@ impl<D: Disk, A: Allocator + Copy> Bench<D, A> {
     /// Takes a job, in a turn.
     pub fn take<R: Wait>(&self, rt: &R, seat: &mut Seat<A>) -> Result<Job<D, A>, NoJob>
         requires own { IsOf self.now seat.old }
-        ensures call { Calls (AdmitsOn D.honest) seat.old (Took (taken_of result)) seat.new }
+        ensures call { SeatCalls (AdmitsOn D.honest) seat.old (Took (taken_of result)) seat.new }
         ensures own { IsOf self.now seat.new }
     {
         let mut taken = self.turn.enter(rt, seat);
@@ -115,7 +115,7 @@ impl<D: Disk, A: Allocator + Copy> Bench<D, A> {
         finished: Finished<D, A>,
     ) -> Result<Sessions, Stranger<D, A>>
         requires own { IsOf self.now seat.old }
-        ensures call { Calls (AdmitsOn D.honest) seat.old (GaveBack (finished_of finished.end) (over_of result)) seat.new }
+        ensures call { SeatCalls (AdmitsOn D.honest) seat.old (GaveBack (finished_of finished.end) (over_of result)) seat.new }
         ensures own { IsOf self.now seat.new }
     {
         let call = Snapshot::of(&finished);
@@ -128,7 +128,7 @@ impl<D: Disk, A: Allocator + Copy> Bench<D, A> {
     /// Opens a session under the least free number, in a turn.
     pub fn open_session<R: Wait>(&self, rt: &R, seat: &mut Seat<A>) -> Result<Session, Crowded>
         requires own { IsOf self.now seat.old }
-        ensures call { Calls (AdmitsOn D.honest) seat.old (Opened (session_of result)) seat.new }
+        ensures call { SeatCalls (AdmitsOn D.honest) seat.old (Opened (session_of result)) seat.new }
         ensures own { IsOf self.now seat.new }
     {
         let mut taken = self.turn.enter(rt, seat);
@@ -140,7 +140,7 @@ impl<D: Disk, A: Allocator + Copy> Bench<D, A> {
     /// Closes a session if it is open, in a turn. Returns the sessions whose lock requests were then granted.
     pub fn close_session<R: Wait>(&self, rt: &R, seat: &mut Seat<A>, session: Session) -> Sessions
         requires own { IsOf self.now seat.old }
-        ensures call { Calls (AdmitsOn D.honest) seat.old (Closed session result) seat.new }
+        ensures call { SeatCalls (AdmitsOn D.honest) seat.old (Closed session result) seat.new }
         ensures own { IsOf self.now seat.new }
     {
         let mut taken = self.turn.enter(rt, seat);
@@ -153,7 +153,7 @@ impl<D: Disk, A: Allocator + Copy> Bench<D, A> {
     /// Drops the wait of a session if it is open, in a turn.
     pub fn clear<R: Wait>(&self, rt: &R, seat: &mut Seat<A>, session: Session)
         requires own { IsOf self.now seat.old }
-        ensures call { Calls (AdmitsOn D.honest) seat.old (Cleared session) seat.new }
+        ensures call { SeatCalls (AdmitsOn D.honest) seat.old (Cleared session) seat.new }
         ensures own { IsOf self.now seat.new }
     {
         let mut taken = self.turn.enter(rt, seat);
@@ -164,7 +164,7 @@ impl<D: Disk, A: Allocator + Copy> Bench<D, A> {
     /// If a session is open, records that a response was sent to it, in a turn.
     pub fn sent<R: Wait>(&self, rt: &R, seat: &mut Seat<A>, session: Session)
         requires own { IsOf self.now seat.old }
-        ensures call { Calls (AdmitsOn D.honest) seat.old (Sent session) seat.new }
+        ensures call { SeatCalls (AdmitsOn D.honest) seat.old (Sent session) seat.new }
         ensures own { IsOf self.now seat.new }
     {
         let mut taken = self.turn.enter(rt, seat);
@@ -175,7 +175,7 @@ impl<D: Disk, A: Allocator + Copy> Bench<D, A> {
     /// If a session is open, records that what was sent to it is delivered, in a turn.
     pub fn delivered<R: Wait>(&self, rt: &R, seat: &mut Seat<A>, session: Session)
         requires own { IsOf self.now seat.old }
-        ensures call { Calls (AdmitsOn D.honest) seat.old (Delivered session) seat.new }
+        ensures call { SeatCalls (AdmitsOn D.honest) seat.old (Delivered session) seat.new }
         ensures own { IsOf self.now seat.new }
     {
         let mut taken = self.turn.enter(rt, seat);
@@ -186,7 +186,7 @@ impl<D: Disk, A: Allocator + Copy> Bench<D, A> {
     /// Returns the response to a status query of a session, in a turn; 0 if the session isn't open.
     pub fn status<R: Wait>(&self, rt: &R, seat: &mut Seat<A>, session: Session) -> u8
         requires own { IsOf self.now seat.old }
-        ensures call { Calls (AdmitsOn D.honest) seat.old (Queried session result) seat.new }
+        ensures call { SeatCalls (AdmitsOn D.honest) seat.old (Queried session result) seat.new }
         ensures own { IsOf self.now seat.new }
     {
         let mut taken = self.turn.enter(rt, seat);
@@ -199,7 +199,7 @@ impl<D: Disk, A: Allocator + Copy> Bench<D, A> {
     /// Fetches the service request of a session, in a turn; none if the session isn't open.
     pub fn requests<R: Wait>(&self, rt: &R, seat: &mut Seat<A>, session: Session) -> Option<u8>
         requires own { IsOf self.now seat.old }
-        ensures call { Calls (AdmitsOn D.honest) seat.old (Fetched session result) seat.new }
+        ensures call { SeatCalls (AdmitsOn D.honest) seat.old (Fetched session result) seat.new }
         ensures own { IsOf self.now seat.new }
     {
         let mut taken = self.turn.enter(rt, seat);
@@ -213,7 +213,7 @@ impl<D: Disk, A: Allocator + Copy> Bench<D, A> {
     /// in a turn.
     pub fn take_notifications<R: Wait>(&self, rt: &R, seat: &mut Seat<A>) -> Notifications
         requires own { IsOf self.now seat.old }
-        ensures call { Calls (AdmitsOn D.honest) seat.old (Notified result.requesting result.has_work) seat.new }
+        ensures call { SeatCalls (AdmitsOn D.honest) seat.old (Notified result.requesting result.has_work) seat.new }
         ensures own { IsOf self.now seat.new }
     {
         let mut taken = self.turn.enter(rt, seat);
@@ -234,7 +234,7 @@ impl<D: Disk, A: Allocator + Copy> Bench<D, A> {
         timeout: u32,
     ) -> Result<Grant, LockRefusal>
         requires own { IsOf self.now seat.old }
-        ensures call { Calls (AdmitsOn D.honest) seat.old (Locked session kind now timeout result) seat.new }
+        ensures call { SeatCalls (AdmitsOn D.honest) seat.old (Locked session kind now timeout result) seat.new }
         ensures own { IsOf self.now seat.new }
     {
         let call = (session, Snapshot::of(&kind), now, timeout);
@@ -252,7 +252,7 @@ impl<D: Disk, A: Allocator + Copy> Bench<D, A> {
         session: Session,
     ) -> Result<(Freed, Sessions), LockRefusal>
         requires own { IsOf self.now seat.old }
-        ensures call { Calls (AdmitsOn D.honest) seat.old (Released session result) seat.new }
+        ensures call { SeatCalls (AdmitsOn D.honest) seat.old (Released session result) seat.new }
         ensures own { IsOf self.now seat.new }
     {
         let mut taken = self.turn.enter(rt, seat);
@@ -265,7 +265,7 @@ impl<D: Disk, A: Allocator + Copy> Bench<D, A> {
     /// Fails the lock requests whose timeout has expired, in a turn.
     pub fn tick<R: Wait>(&self, rt: &R, seat: &mut Seat<A>, now: u64) -> Sessions
         requires own { IsOf self.now seat.old }
-        ensures call { Calls (AdmitsOn D.honest) seat.old (Ticked now result) seat.new }
+        ensures call { SeatCalls (AdmitsOn D.honest) seat.old (Ticked now result) seat.new }
         ensures own { IsOf self.now seat.new }
     {
         let mut taken = self.turn.enter(rt, seat);
@@ -277,7 +277,7 @@ impl<D: Disk, A: Allocator + Copy> Bench<D, A> {
     /// Returns whether the exclusive lock is held, and how many sessions hold a lock, in a turn.
     pub fn info<R: Wait>(&self, rt: &R, seat: &mut Seat<A>) -> Info
         requires own { IsOf self.now seat.old }
-        ensures call { Calls (AdmitsOn D.honest) seat.old (Informed result) seat.new }
+        ensures call { SeatCalls (AdmitsOn D.honest) seat.old (Informed result) seat.new }
         ensures own { IsOf self.now seat.new }
     {
         let taken = self.turn.enter(rt, seat);
@@ -289,7 +289,7 @@ impl<D: Disk, A: Allocator + Copy> Bench<D, A> {
     /// Returns the earliest time at which a waiting lock request fails, in a turn.
     pub fn next_deadline<R: Wait>(&self, rt: &R, seat: &mut Seat<A>) -> Option<u128>
         requires own { IsOf self.now seat.old }
-        ensures call { Calls (AdmitsOn D.honest) seat.old (Due result) seat.new }
+        ensures call { SeatCalls (AdmitsOn D.honest) seat.old (Due result) seat.new }
         ensures own { IsOf self.now seat.new }
     {
         let taken = self.turn.enter(rt, seat);
@@ -298,7 +298,7 @@ impl<D: Disk, A: Allocator + Copy> Bench<D, A> {
         reply
     }
 
-    /// Returns the number of calls so far. It waits for no other thread.
+    /// Returns the number of calls so far. It waits for no other thread. It is for a program that watches others call.
     pub fn progress(&self, seat: &mut Seat<A>) -> u64
         requires own { IsOf self.now seat.old }
         ensures look { Sees (AdmitsOn D.honest) seat.old seat.new }
@@ -318,7 +318,8 @@ impl<D: Disk, A: Allocator + Copy> Bench<D, A> {
         self.turn.split(seat)
     }
 
-    /// Consumes another seat; this seat has then seen its calls. It waits for no other thread.
+    /// Consumes another seat; this seat has then seen its calls. It waits for no other thread. It is for a program that
+    /// joins its threads, as the server never does.
     pub fn join(&self, seat: &mut Seat<A>, other: Seat<A>)
         requires own { IsOf self.now seat.old × IsOf self.now other }
         ensures join { Joins (AdmitsOn D.honest) seat.old other seat.new }
@@ -327,7 +328,8 @@ impl<D: Disk, A: Allocator + Copy> Bench<D, A> {
         self.turn.join(seat, other);
     }
 
-    /// Waits for the last turn, and returns the state.
+    /// Waits for the last turn, and returns the state. It is for a program that joins its threads, as the server never
+    /// does.
     pub fn close<R: Wait>(self, rt: &R, seat: Seat<A>) -> Exec<D, A>
         requires own { IsOf self seat }
         ensures close { Closes (AdmitsOn D.honest) seat result.device }

@@ -1,13 +1,13 @@
-// A thread's calls of the device.
+//! A thread's calls of the device.
 ghost use Rattle.std.specs.Prelude.{◌≡◌, ◌⊎◌, ◌↔◌, ℕ, Bool, List, [], Ok, IfOk, IsTrue, is_some, true};
 ghost use Rattle.std.specs.Arc.{arc_value};
-ghost use Rattle.psu_turn.specs.Seats.{Begins, Calls, IsOf, Splits};
+ghost use Rattle.psu_turn.specs.Seats.{Begins, SeatCalls, IsOf, Splits};
 ghost use Rattle.psu_exec.specs.Calls.Entry.{Executed, Settled, Took, Opened, Closed, Cleared, Sent, Delivered, Queried, Fetched, Notified, Locked, Released, Ticked, Informed, Due};
 ghost use Rattle.psu_exec.specs.Shown.{outcome_of, over_of};
-ghost use Rattle.psu_tree.specs.declared.unit_request.Request.{Request as UnitRequest};
-ghost use Rattle.psu_locks.specs.declared.grant.Grant.TheVariants as grants;
+ghost use Rattle.psu_tree.specs.declared.command.Request.{Request as UnitRequest};
+ghost use Rattle.psu_locks.specs.declared.results.Grant.TheVariants as grants;
 ghost use Rattle.psu_bench.specs.Calls.{AdmitsOn, session_of};
-ghost use Rattle.psu_bench.specs.Callers.{Causes, GivesBack, HasEnded, IsNotified, Makes, Notifies, over_sessions, released_of};
+ghost use Rattle.psu_bench.specs.Callers.{Causes, GivesBack, HasEnded, IsNotified, MakesCall, Notifies, over_sessions, released_of};
 
 use crate::{Bench, Caused, CausedByJob, Gate, Granted, Point, Seat, SharedGate, Visit};
 use psu_disk::Disk;
@@ -37,7 +37,7 @@ fn caused_by<D: Disk, R: Wait>(
     outcome: &Outcome<Global>,
 ) -> Option<Caused>
     requires own { IsOf bench.now seat.old }
-    ensures call { (seat.new ≡ seat.old) ⊎ ((asking : List ℕ) × (work : Bool) × Calls (AdmitsOn D.honest) seat.old (Notified asking work) seat.new) }
+    ensures call { (seat.new ≡ seat.old) ⊎ ((asking : List ℕ) × (work : Bool) × SeatCalls (AdmitsOn D.honest) seat.old (Notified asking work) seat.new) }
     ensures caused { (session : ℕ) → (request : UnitRequest) → IsNotified D.honest (Executed session request (outcome_of outcome.now)) seat.old result seat.new }
     ensures own { IsOf bench.now seat.new }
 {
@@ -101,7 +101,7 @@ impl<D: Disk + Drop, G: Gate + Drop> Caller<D, G> {
         session: Session,
         request: &Request<'_>,
     ) -> (Outcome<Global>, Option<Caused>)
-        ensures call { Makes D.honest self.old.seat (Executed session request.now (outcome_of result.0)) self.new.seat }
+        ensures call { MakesCall D.honest self.old.seat (Executed session request.now (outcome_of result.0)) self.new.seat }
         ensures caused { Causes D.honest self.old.seat (Executed session request.now (outcome_of result.0)) result.1 self.new.seat }
     {
         let guard = visit.enter(rt);
@@ -124,7 +124,7 @@ impl<D: Disk + Drop, G: Gate + Drop> Caller<D, G> {
         visit: &mut Visit<'_>,
         session: Session,
     ) -> (Outcome<Global>, Caused)
-        ensures call { Makes D.honest self.old.seat (Settled session (outcome_of result.0)) self.new.seat }
+        ensures call { MakesCall D.honest self.old.seat (Settled session (outcome_of result.0)) self.new.seat }
         ensures caused { Notifies D.honest self.old.seat (Settled session (outcome_of result.0)) result.1 self.new.seat }
     {
         let _guard = visit.enter(rt);
@@ -136,7 +136,7 @@ impl<D: Disk + Drop, G: Gate + Drop> Caller<D, G> {
     /// Takes a job.
     #[tactic(auto, using(crate::proofs::Seats::is_of))]
     pub fn take<R: Wait>(&mut self, rt: &R, visit: &mut Visit<'_>) -> Result<Job<D, Global>, NoJob>
-        ensures call { Calls (AdmitsOn D.honest) self.old.seat (Took (taken_of result)) self.new.seat }
+        ensures call { SeatCalls (AdmitsOn D.honest) self.old.seat (Took (taken_of result)) self.new.seat }
     {
         let _guard = visit.enter(rt);
         self.bench.take(rt, &mut self.seat)
@@ -166,7 +166,7 @@ impl<D: Disk + Drop, G: Gate + Drop> Caller<D, G> {
         rt: &R,
         visit: &mut Visit<'_>,
     ) -> Result<Session, Crowded>
-        ensures call { Calls (AdmitsOn D.honest) self.old.seat (Opened (session_of result)) self.new.seat }
+        ensures call { SeatCalls (AdmitsOn D.honest) self.old.seat (Opened (session_of result)) self.new.seat }
     {
         let _guard = visit.enter(rt);
         self.bench.open_session(rt, &mut self.seat)
@@ -180,7 +180,7 @@ impl<D: Disk + Drop, G: Gate + Drop> Caller<D, G> {
         visit: &mut Visit<'_>,
         session: Session,
     ) -> Granted
-        ensures call { Calls (AdmitsOn D.honest) self.old.seat (Closed session result.sessions) self.new.seat }
+        ensures call { SeatCalls (AdmitsOn D.honest) self.old.seat (Closed session result.sessions) self.new.seat }
         ensures grant { result.grant ≡ grants.Granted }
     {
         let _guard = visit.enter(rt);
@@ -191,7 +191,7 @@ impl<D: Disk + Drop, G: Gate + Drop> Caller<D, G> {
     /// Drops the wait of a session.
     #[tactic(auto, using(crate::proofs::Seats::is_of))]
     pub fn clear<R: Wait>(&mut self, rt: &R, visit: &mut Visit<'_>, session: Session)
-        ensures call { Calls (AdmitsOn D.honest) self.old.seat (Cleared session) self.new.seat }
+        ensures call { SeatCalls (AdmitsOn D.honest) self.old.seat (Cleared session) self.new.seat }
     {
         let _guard = visit.enter(rt);
         self.bench.clear(rt, &mut self.seat, session);
@@ -200,7 +200,7 @@ impl<D: Disk + Drop, G: Gate + Drop> Caller<D, G> {
     /// Records that a response is sent to a session, and calls the gate. Returns what that has caused.
     #[tactic(auto, using(crate::proofs::Seats::is_of))]
     pub fn sent<R: Wait>(&mut self, rt: &R, visit: &mut Visit<'_>, session: Session) -> Caused
-        ensures call { Makes D.honest self.old.seat (Sent session) self.new.seat }
+        ensures call { MakesCall D.honest self.old.seat (Sent session) self.new.seat }
         ensures caused { Notifies D.honest self.old.seat (Sent session) result self.new.seat }
     {
         let guard = visit.enter(rt);
@@ -214,7 +214,7 @@ impl<D: Disk + Drop, G: Gate + Drop> Caller<D, G> {
     /// Records that what was sent to a session is delivered.
     #[tactic(auto, using(crate::proofs::Seats::is_of))]
     pub fn delivered<R: Wait>(&mut self, rt: &R, visit: &mut Visit<'_>, session: Session)
-        ensures call { Calls (AdmitsOn D.honest) self.old.seat (Delivered session) self.new.seat }
+        ensures call { SeatCalls (AdmitsOn D.honest) self.old.seat (Delivered session) self.new.seat }
     {
         let _guard = visit.enter(rt);
         self.bench.delivered(rt, &mut self.seat, session);
@@ -223,7 +223,7 @@ impl<D: Disk + Drop, G: Gate + Drop> Caller<D, G> {
     /// Returns the response to a status query of a session.
     #[tactic(auto, using(crate::proofs::Seats::is_of))]
     pub fn status<R: Wait>(&mut self, rt: &R, visit: &mut Visit<'_>, session: Session) -> u8
-        ensures call { Calls (AdmitsOn D.honest) self.old.seat (Queried session result) self.new.seat }
+        ensures call { SeatCalls (AdmitsOn D.honest) self.old.seat (Queried session result) self.new.seat }
     {
         let _guard = visit.enter(rt);
         self.bench.status(rt, &mut self.seat, session)
@@ -237,7 +237,7 @@ impl<D: Disk + Drop, G: Gate + Drop> Caller<D, G> {
         visit: &mut Visit<'_>,
         session: Session,
     ) -> Option<u8>
-        ensures call { Calls (AdmitsOn D.honest) self.old.seat (Fetched session result) self.new.seat }
+        ensures call { SeatCalls (AdmitsOn D.honest) self.old.seat (Fetched session result) self.new.seat }
     {
         let _guard = visit.enter(rt);
         self.bench.requests(rt, &mut self.seat, session)
@@ -255,7 +255,7 @@ impl<D: Disk + Drop, G: Gate + Drop> Caller<D, G> {
         now: u64,
         timeout: u32,
     ) -> (Result<Grant, LockRefusal>, Caused)
-        ensures call { Calls (AdmitsOn D.honest) self.old.seat (Locked session kind now timeout result.0) self.new.seat }
+        ensures call { SeatCalls (AdmitsOn D.honest) self.old.seat (Locked session kind now timeout result.0) self.new.seat }
         ensures requesting { result.1.requesting ≡ [] }
         ensures flusher { IsTrue result.1.wakes_flusher ↔ (result.0 ≡ Ok grants.Queued) }
     {
@@ -275,7 +275,7 @@ impl<D: Disk + Drop, G: Gate + Drop> Caller<D, G> {
         visit: &mut Visit<'_>,
         session: Session,
     ) -> Result<(Freed, Granted), LockRefusal>
-        ensures call { Calls (AdmitsOn D.honest) self.old.seat (Released session (released_of result)) self.new.seat }
+        ensures call { SeatCalls (AdmitsOn D.honest) self.old.seat (Released session (released_of result)) self.new.seat }
         ensures grant { IfOk result (λ released. released.1.grant ≡ grants.Granted) }
     {
         let _guard = visit.enter(rt);
@@ -288,7 +288,7 @@ impl<D: Disk + Drop, G: Gate + Drop> Caller<D, G> {
     /// Fails the lock requests whose timeout has expired, and returns their sessions.
     #[tactic(auto, using(crate::proofs::Seats::is_of))]
     pub fn tick<R: Wait>(&mut self, rt: &R, visit: &mut Visit<'_>, now: u64) -> Granted
-        ensures call { Calls (AdmitsOn D.honest) self.old.seat (Ticked now result.sessions) self.new.seat }
+        ensures call { SeatCalls (AdmitsOn D.honest) self.old.seat (Ticked now result.sessions) self.new.seat }
         ensures grant { result.grant ≡ grants.Failed }
     {
         let _guard = visit.enter(rt);
@@ -299,7 +299,7 @@ impl<D: Disk + Drop, G: Gate + Drop> Caller<D, G> {
     /// Returns whether the exclusive lock is held, and how many sessions hold a lock.
     #[tactic(auto, using(crate::proofs::Seats::is_of))]
     pub fn info<R: Wait>(&mut self, rt: &R, visit: &mut Visit<'_>) -> Info
-        ensures call { Calls (AdmitsOn D.honest) self.old.seat (Informed result) self.new.seat }
+        ensures call { SeatCalls (AdmitsOn D.honest) self.old.seat (Informed result) self.new.seat }
     {
         let _guard = visit.enter(rt);
         self.bench.info(rt, &mut self.seat)
@@ -308,7 +308,7 @@ impl<D: Disk + Drop, G: Gate + Drop> Caller<D, G> {
     /// Returns the earliest time at which a waiting lock request fails.
     #[tactic(auto, using(crate::proofs::Seats::is_of))]
     pub fn next_deadline<R: Wait>(&mut self, rt: &R, visit: &mut Visit<'_>) -> Option<u128>
-        ensures call { Calls (AdmitsOn D.honest) self.old.seat (Due result) self.new.seat }
+        ensures call { SeatCalls (AdmitsOn D.honest) self.old.seat (Due result) self.new.seat }
     {
         let _guard = visit.enter(rt);
         self.bench.next_deadline(rt, &mut self.seat)

@@ -1,21 +1,20 @@
-// What a call causes for other threads.
+//! What a call causes for other threads.
 ghost use Rattle.std.specs.Prelude.{◌≡◌, ◌↔◌, IsTrue, [], Ok};
 ghost use Rattle.psu_bench.specs.Reports.{Reports, flusher_reports, reports_of, service_reports};
 
 use crate::Others;
-use crate::duty::Duty;
-use psu_exec::{Grant, LockRefusal, Notifications, Sessions};
+use psu_exec::{CannotDrop, Grant, LockRefusal, Notifications, Sessions};
 
 /// What a call of the device has caused for other threads: sessions request service, or the flusher has something to
 /// do. It has no `Drop`: it is reported, and there is no other way to end it.
 pub struct Caused {
     requesting: Sessions,
     wakes_flusher: bool,
-    duty: Duty,
+    duty: CannotDrop,
 }
 
 impl Caused {
-    ghost use Rattle.psu_locks.specs.declared.grant.Grant.TheVariants.{Queued};
+    ghost use Rattle.psu_locks.specs.declared.results.Grant.TheVariants.{Queued};
 
     // Returns what the notifications of the device say.
     pub(crate) fn of(notifications: Notifications) -> Caused
@@ -25,7 +24,7 @@ impl Caused {
         Caused {
             requesting: notifications.requesting,
             wakes_flusher: notifications.has_work,
-            duty: Duty(()),
+            duty: CannotDrop::begin(),
         }
     }
 
@@ -37,11 +36,12 @@ impl Caused {
         Caused {
             requesting: Sessions::new(),
             wakes_flusher: matches!(reply, Ok(Grant::Queued)),
-            duty: Duty(()),
+            duty: CannotDrop::begin(),
         }
     }
 
     /// Reports it to the other threads: each part of it once, and nothing else.
+    #[inline(always)]
     pub fn report<O: Others>(self, others: &mut O)
         ensures { Reports O.tells others.old (reports_of self) others.new }
     {
@@ -50,13 +50,14 @@ impl Caused {
             wakes_flusher,
             duty,
         } = self;
-        let Duty(_) = duty;
+        duty.end();
         report_service(others, &requesting);
         report_work(others, wakes_flusher);
     }
 }
 
 // Reports that sessions request service, if there are any.
+#[inline(always)]
 pub(crate) fn report_service<O: Others>(others: &mut O, requesting: &Sessions)
     ensures { Reports O.tells others.old (service_reports requesting.now) others.new }
 {
@@ -66,6 +67,7 @@ pub(crate) fn report_service<O: Others>(others: &mut O, requesting: &Sessions)
 }
 
 // Wakes the flusher, if it has something to do.
+#[inline(always)]
 fn report_work<O: Others>(others: &mut O, wakes_flusher: bool)
     ensures { Reports O.tells others.old (flusher_reports wakes_flusher) others.new }
 {

@@ -1,11 +1,10 @@
-// What the end of a job causes for other threads.
+//! What the end of a job causes for other threads.
 ghost use Rattle.std.specs.Prelude.{◌≡◌};
 ghost use Rattle.psu_bench.specs.Reports.{Reports, reports_of_job};
 
 use crate::Others;
 use crate::caused::report_service;
-use crate::duty::Duty;
-use psu_exec::Sessions;
+use psu_exec::{CannotDrop, Sessions};
 
 /// What the end of a job has caused for threads other than the flusher: waits are over, and sessions request service.
 /// Whether there is more to flush the flusher finds out itself, as it takes the next job. It has no `Drop`: it is
@@ -13,7 +12,7 @@ use psu_exec::Sessions;
 pub struct CausedByJob {
     over: Sessions,
     requesting: Sessions,
-    duty: Duty,
+    duty: CannotDrop,
 }
 
 impl CausedByJob {
@@ -25,7 +24,7 @@ impl CausedByJob {
         CausedByJob {
             over,
             requesting,
-            duty: Duty(()),
+            duty: CannotDrop::begin(),
         }
     }
 
@@ -38,7 +37,7 @@ impl CausedByJob {
             requesting,
             duty,
         } = self;
-        let Duty(_) = duty;
+        duty.end();
         others.job_ended(&over);
         report_service(others, &requesting);
     }

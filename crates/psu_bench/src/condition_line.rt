@@ -1,12 +1,12 @@
-// A line for an operator.
-use crate::Condition;
+//! A line for an operator.
+use crate::ReportedCondition;
 use std::fmt;
 
 /// A line on the store's condition for an operator.
 #[derive(Clone, Copy, Debug, PartialEq, Eq)]
 pub struct ConditionLine {
     /// The latest condition.
-    pub condition: Condition,
+    pub condition: ReportedCondition,
     /// How often the condition has changed since the line before.
     pub changes: u64,
 }

@@ -1,18 +1,18 @@
-// The lines on the store's condition that are due.
+//! The lines on the store's condition that are due.
 ghost use Rattle.std.specs.Prelude.{◌≡◌, ◌≢◌, ◌↔◌, ◌<◌, IfNone, IfSome, IsSome, IsTrue, None};
 ghost use Rattle.psu_bench.specs.Lines.{IsDue, due_line, with_change, with_line};
 ghost use Rattle.psu_bench.specs.Seconds.{left_of_second};
-ghost use Rattle.psu_bench.specs.declared.condition.Condition.TheVariants.{Works};
+ghost use Rattle.psu_bench.specs.declared.reported_condition.ReportedCondition.TheVariants.{Works};
 
 use crate::second::left_of_second;
-use crate::{Condition, ConditionLine};
+use crate::{ConditionLine, ReportedCondition};
 
 /// Which lines on the store's condition an operator is to read, and when: at most one a second, with how often the
 /// condition has changed since the line before.
 #[derive(Clone, Copy, Debug, PartialEq, Eq)]
 pub struct ConditionLines {
     // The condition at present.
-    latest: Condition,
+    latest: ReportedCondition,
     // How often it has changed since the last line.
     changes: u64,
     // When the last line was due, in milliseconds.
@@ -27,14 +27,14 @@ impl ConditionLines {
         ensures last { result.last ≡ None }
     {
         ConditionLines {
-            latest: Condition::Works,
+            latest: ReportedCondition::Works,
             changes: 0,
             last: None,
         }
     }
 
     /// Notes the condition that the store has now.
-    pub fn note(&mut self, condition: Condition)
+    pub fn note(&mut self, condition: ReportedCondition)
         ensures same { condition ≡ self.old.latest → self.new ≡ self.old }
         ensures change { condition ≢ self.old.latest → self.new ≡ with_change self.old condition }
     {

@@ -12,7 +12,8 @@ use std::alloc::Allocator;
 use std::sync::Wait;
 
 /// Runs this number of rounds: each takes a job, runs it outside the turn, and gives back its result. The gate is
-/// called before a job is run. With one round it returns at once.
+/// called before a job is run. With one round it returns at once. It is for a program without the server, whose own
+/// flusher is in psu_threads.
 pub fn flusher<D: Disk + Drop, A: Allocator + Copy, R: Wait, G: Gate>(
     rt: &R,
     bench: &Bench<D, A>,

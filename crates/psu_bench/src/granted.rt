@@ -1,16 +1,15 @@
-// Results of lock requests of other sessions.
+//! Results of lock requests of other sessions.
 ghost use Rattle.std.specs.Prelude.{◌≡◌};
 
 use crate::LockedRegistry;
-use crate::duty::Duty;
-use psu_exec::{Grant, Sessions};
+use psu_exec::{CannotDrop, Grant, Sessions};
 
 /// The sessions whose lock requests a call of the device has granted, or failed. It has no `Drop`: the result is passed
 /// on to them, and there is no other way to end it.
 pub struct Granted {
     sessions: Sessions,
     grant: Grant,
-    duty: Duty,
+    duty: CannotDrop,
 }
 
 impl Granted {
@@ -22,7 +21,7 @@ impl Granted {
         Granted {
             sessions,
             grant,
-            duty: Duty(()),
+            duty: CannotDrop::begin(),
         }
     }
 
@@ -35,7 +34,7 @@ impl Granted {
             grant,
             duty,
         } = self;
-        let Duty(_) = duty;
+        duty.end();
         registry.pass_on(&sessions, grant);
     }
 }

@@ -15,7 +15,7 @@ use std::alloc::Allocator;
 
 /// The device's state with its store. A call for a session that isn't open has no effect.
 #[derive(Drop)]
-pub struct Guarded<D: Disk, A: Allocator + Copy> {
+pub(crate) struct Guarded<D: Disk, A: Allocator + Copy> {
     // Several kilobytes, which would otherwise be moved twice in each turn.
     pub exec: Box<Exec<D, A>, A>,
 }

@@ -1,6 +1,6 @@
-//! The device's state, shared by threads that call it in turns, and the one legal history of their calls; and the device
-//! as the callers of a server see it: its power-on, its lock, how a thread calls it, and what these calls cause for other
-//! threads, which can't be forgotten.
+//! The device shared by threads, which call it in turns, and the one legal history of their calls; and the device as the
+//! callers of a server see it: its power-on, its lock, how a thread calls it, and what these calls cause for other threads,
+//! which can't be forgotten.
 #![tactic(auto)]
 
 mod bench;
@@ -8,10 +8,8 @@ mod call;
 mod caller;
 mod caused;
 mod caused_by_job;
-mod condition;
 mod condition_line;
 mod condition_lines;
-mod duty;
 mod flushing;
 mod gate;
 mod gated;
@@ -22,6 +20,7 @@ mod others;
 mod point;
 mod power_on_fault;
 mod reopenings;
+mod reported_condition;
 mod second;
 mod shared_gate;
 mod starting;
@@ -33,7 +32,6 @@ pub use call::Call;
 pub use caller::Caller;
 pub use caused::Caused;
 pub use caused_by_job::CausedByJob;
-pub use condition::Condition;
 pub use condition_line::ConditionLine;
 pub use condition_lines::ConditionLines;
 pub use flushing::flusher;
@@ -45,6 +43,7 @@ pub use others::{LockedRegistry, Others};
 pub use point::Point;
 pub use power_on_fault::PowerOnFault;
 pub use reopenings::Reopenings;
+pub use reported_condition::ReportedCondition;
 pub use shared_gate::SharedGate;
 pub use starting::{Served, power_on};
 pub use visit::{DeviceLock, Visit};

@@ -1,4 +1,4 @@
-// The other threads, as a thread that calls the device reports to them.
+//! The other threads, as a thread that calls the device reports to them.
 ghost use Rattle.psu_bench.specs.Reports.{Report, ServiceRequested, FlusherWoken, JobEnded};
 
 use psu_exec::{Grant, Sessions};

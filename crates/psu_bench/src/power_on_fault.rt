@@ -1,4 +1,4 @@
-// Why a device is not powered on.
+//! Why a device is not powered on.
 use psu_exec::{PowerCause, StartCause};
 use psu_items::OpenCause;
 use std::alloc::AllocError;

@@ -1,4 +1,4 @@
-// When a store that broke is opened again.
+//! When a store that broke is opened again.
 ghost use Rattle.std.specs.Prelude.{◌≡◌, None};
 ghost use Rattle.psu_bench.specs.Reopenings.{after_job, broken, reopened};
 ghost use Rattle.psu_bench.specs.Seconds.{left_of_second};

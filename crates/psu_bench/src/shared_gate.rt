@@ -1,4 +1,4 @@
-// One gate for all threads.
+//! One gate for all threads.
 use crate::{Gate, Point};
 use std::alloc::AllocError;
 use std::sync::Arc;

@@ -1,4 +1,4 @@
-// The power-on of a served device.
+//! The power-on of a served device.
 ghost use Rattle.std.specs.Prelude.{IfOk};
 ghost use Rattle.psu_bench.specs.PowerOn.{BeginsWith};
 

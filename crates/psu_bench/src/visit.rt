@@ -1,4 +1,4 @@
-// The lock of the device.
+//! The lock of the device.
 ghost use Rattle.std.specs.Prelude.{◌≡◌};
 
 use std::marker::Model;

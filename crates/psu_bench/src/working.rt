@@ -1,6 +1,6 @@
 //! The thread of a session.
 ghost use Rattle.std.specs.Prelude.{◌≡◌, ◌++◌, ◌<◌, List, Some};
-ghost use Rattle.psu_turn.specs.Seats.{Calls, IsOf, IsSame};
+ghost use Rattle.psu_turn.specs.Seats.{SeatCalls, IsOf, IsSame};
 ghost use Rattle.psu_exec.specs.Calls.{Entry};
 ghost use Rattle.psu_exec.specs.Shown.{outcome_of};
 ghost use Rattle.psu_bench.specs.Calls.{AdmitsOn};
@@ -14,7 +14,8 @@ use std::alloc::Allocator;
 use std::sync::Wait;
 
 /// Executes a unit of a session in at most `tries` tries: after Parked it is settled, after Held or Later it is
-/// executed again. Returns the last outcome, after the gate was called. With one try it returns at once.
+/// executed again. Returns the last outcome, after the gate was called. With one try it returns at once. It
+/// is for a program without the server, whose own workers are in psu_threads.
 pub fn session_worker<D: Disk, A: Allocator + Copy, R: Wait, G: Gate>(
     rt: &R,
     bench: &Bench<D, A>,
@@ -58,7 +59,7 @@ fn next_try<D: Disk, A: Allocator + Copy, R: Wait>(
     before: &Outcome<A>,
 ) -> Outcome<A>
     requires own { IsOf bench.now seat.old }
-    ensures call { Calls (AdmitsOn D.honest) seat.old (try_after session request.now (Some (outcome_of before.now)) (outcome_of result)) seat.new }
+    ensures call { SeatCalls (AdmitsOn D.honest) seat.old (try_after session request.now (Some (outcome_of before.now)) (outcome_of result)) seat.new }
     ensures own { IsOf bench.now seat.new }
 {
     match before {

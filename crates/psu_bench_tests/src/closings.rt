@@ -1,4 +1,4 @@
-// Sessions that others close, and the counted turn, used directly.
+//! Sessions that others close, and the counted turn, used directly.
 ghost use Rattle.psu_turn.specs.Seats.{IsOf};
 
 use crate::benches::{
@@ -67,14 +67,14 @@ fn a_session_that_is_not_open_acts_on_nothing(rt: HostRuntime) {
 }
 
 // Whether the service request enable register reads as 4.
-fn is_told<R: Wait>(rt: &R, bench: &Device, seat: &mut Seat<Global>, session: Session) -> bool
+fn reads<R: Wait>(rt: &R, bench: &Device, seat: &mut Seat<Global>, session: Session) -> bool
     requires { IsOf bench.now seat.old }
     ensures { IsOf bench.now seat.new }
 {
     is_answer(&unit(rt, bench, seat, session, b"*SRE?"), b"4")
 }
 
-fn asked<R: Wait>(
+fn queried<R: Wait>(
     rt: &R,
     bench: &Device,
     mut seat: Seat<Global>,
@@ -83,12 +83,12 @@ fn asked<R: Wait>(
     requires { IsOf bench.now seat }
     ensures { IsOf bench.now result.1 }
 {
-    let is_told = is_told(rt, bench, &mut seat, session);
-    (is_told, seat)
+    let reads = reads(rt, bench, &mut seat, session);
+    (reads, seat)
 }
 
 // Whether it reads so in another thread.
-fn asked_elsewhere<R: Threads + Wait + Sync>(
+fn queried_elsewhere<R: Threads + Wait + Sync>(
     rt: &R,
     bench: &Device,
     seat: Seat<Global>,
@@ -97,20 +97,20 @@ fn asked_elsewhere<R: Threads + Wait + Sync>(
     requires { IsOf bench.now seat }
     ensures { IsOf bench.now result.1 }
 {
-    let (asked, ()) = join(
+    let (queried, ()) = join(
         rt,
         || -> (bool, Seat<Global>)
             requires { IsOf bench.now seat }
             ensures { IsOf bench.entry.now result.1 }
-        { asked(rt, bench, seat, session) },
+        { queried(rt, bench, seat, session) },
         || (),
     );
-    asked
+    queried
 }
 
 // Whether it reads so in another thread, with a seat that is split off for it, and the number of calls that is seen
 // grows by that one.
-fn is_told_elsewhere<R: Threads + Wait + Sync>(
+fn reads_elsewhere<R: Threads + Wait + Sync>(
     rt: &R,
     bench: &Device,
     seat: &mut Seat<Global>,
@@ -121,10 +121,10 @@ fn is_told_elsewhere<R: Threads + Wait + Sync>(
 {
     let other = bench.split(seat);
     let before = bench.progress(seat);
-    let (is_told, other) = asked_elsewhere(rt, bench, other, session);
+    let (reads, other) = queried_elsewhere(rt, bench, other, session);
     let is_one_more = bench.progress(seat) == before.wrapping_add(1);
     bench.join(seat, other);
-    is_told && is_one_more
+    reads && is_one_more
 }
 
 // Whether another thread reads what one thread sets, and then the one again.
@@ -138,8 +138,8 @@ fn is_read_elsewhere<R: Threads + Wait + Sync>(
     ensures { IsOf bench.now seat.new }
 {
     executes(rt, bench, seat, session, b"*SRE 4")
-        && is_told_elsewhere(rt, bench, seat, session)
-        && is_told(rt, bench, seat, session)
+        && reads_elsewhere(rt, bench, seat, session)
+        && reads(rt, bench, seat, session)
 }
 
 // Another thread reads what one thread set; the number of calls that a seat sees grows by that one call, and the

@@ -1,14 +1,15 @@
-// A gate that blocks the flusher until a session was answered.
+//! A gate that blocks the flusher until a session was answered.
 use psu_bench::{Gate, Point};
 use std::sync::atomic::{AtomicBool, AtomicU64, Ordering};
 use std::thread;
 
+// How often a flag is checked: the thread that sets it runs meanwhile.
 const LOOKS: u32 = 1_000_000;
 
 /// A gate at which the first thread to reach this point waits until an answer was given, for at most a number of
 /// checks.
 #[derive(Drop)]
-pub struct Hold {
+pub(crate) struct Hold {
     point: Point,
     held: AtomicBool,
     answered: AtomicBool,
@@ -17,7 +18,8 @@ pub struct Hold {
 }
 
 impl Hold {
-    pub fn new(point: Point) -> Hold {
+    /// Returns a gate that blocks the first thread at this point.
+    pub(crate) fn new(point: Point) -> Hold {
         Hold {
             point,
             held: AtomicBool::new(false),
@@ -28,17 +30,17 @@ impl Hold {
     }
 
     /// Waits until the flusher is held, and returns whether it is.
-    pub fn wait_until_held(&self) -> bool {
+    pub(crate) fn wait_until_held(&self) -> bool {
         came_true(&self.held)
     }
 
     /// Whether an answer was given while the flusher was held.
-    pub fn overlapped(&self) -> bool {
+    pub(crate) fn overlapped(&self) -> bool {
         self.overlapped.load(Ordering::SeqCst)
     }
 
     /// The number of pages that were to be written.
-    pub fn writes(&self) -> u64 {
+    pub(crate) fn writes(&self) -> u64 {
         self.writes.load(Ordering::SeqCst)
     }
 

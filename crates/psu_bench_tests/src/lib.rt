@@ -5,6 +5,8 @@
 #[cfg(test)]
 mod benches;
 #[cfg(test)]
+mod callers;
+#[cfg(test)]
 mod closings;
 #[cfg(test)]
 mod holds;

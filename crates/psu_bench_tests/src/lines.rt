@@ -1,5 +1,5 @@
-// The lines on the store's condition, and when a store that broke is opened again.
-use psu_bench::{Condition, ConditionLines, Reopenings};
+//! The lines on the store's condition, and when a store that broke is opened again.
+use psu_bench::{ConditionLines, Reopenings, ReportedCondition};
 use psu_tables::row;
 use std::alloc::Global;
 
@@ -37,11 +37,11 @@ const REOPENINGS: &str = "
 ";
 
 // The condition of this name, if it is one.
-fn condition_of(name: &str) -> Option<Condition> {
+fn condition_of(name: &str) -> Option<ReportedCondition> {
     match name {
-        "works" => Some(Condition::Works),
-        "broken" => Some(Condition::Broken),
-        "worn" => Some(Condition::Worn),
+        "works" => Some(ReportedCondition::Works),
+        "broken" => Some(ReportedCondition::Broken),
+        "worn" => Some(ReportedCondition::Worn),
         _ => None,
     }
 }

@@ -1,4 +1,4 @@
-// Many threads on one bench.
+//! Many threads on one bench.
 ghost use Rattle.std.specs.Prelude.{◌≡◌, ◌<◌, ◌≤◌};
 ghost use Rattle.psu_turn.specs.Seats.{IsOf};
 

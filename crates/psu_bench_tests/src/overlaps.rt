@@ -1,4 +1,4 @@
-// A session is answered while the flusher works.
+//! A session is answered while the flusher works.
 ghost use Rattle.std.specs.Prelude.{◌≡◌};
 ghost use Rattle.psu_turn.specs.Seats.{IsOf};
 
@@ -15,7 +15,7 @@ use std::sync::Wait;
 use std::thread::{Threads, join};
 
 // Whether the outcome of a unit is this answer, or a storage fault.
-fn is_told(outcome: &Outcome<Global>, wanted: &[u8]) -> bool {
+fn is_outcome(outcome: &Outcome<Global>, wanted: &[u8]) -> bool {
     match outcome {
         Outcome::Error(ScpiError::StorageFault) => wanted == b"storage fault".as_slice(),
         _ => is_answer(outcome, wanted),
@@ -24,7 +24,7 @@ fn is_told(outcome: &Outcome<Global>, wanted: &[u8]) -> bool {
 
 // Whether the outcomes of two units are these while the flusher is blocked, that of the second being the name; that
 // outcome releases the flusher.
-fn are_told<D: Disk, R: Wait>(
+fn are_outcomes<D: Disk, R: Wait>(
     rt: &R,
     bench: &Bench<D, Global>,
     seat: &mut Seat<Global>,
@@ -36,9 +36,9 @@ fn are_told<D: Disk, R: Wait>(
     ensures { IsOf bench.now seat.new }
 {
     let [text, wanted] = first;
-    let is_first_told = is_told(&unit(rt, bench, seat, session, text), wanted);
+    let is_first = is_outcome(&unit(rt, bench, seat, session, text), wanted);
     let name = session_worker(rt, bench, seat, session, &read(b"*IDN?"), 1, hold);
-    is_first_told && is_answer(&name, b"EXAMPLE,PSU4,0,1.0")
+    is_first && is_answer(&name, b"EXAMPLE,PSU4,0,1.0")
 }
 
 fn answered<D: Disk, R: Wait>(
@@ -55,13 +55,13 @@ fn answered<D: Disk, R: Wait>(
     if !hold.wait_until_held() {
         return (false, seat);
     }
-    let are_told = are_told(rt, bench, &mut seat, session, first, hold);
-    (are_told, seat)
+    let are_outcomes = are_outcomes(rt, bench, &mut seat, session, first, hold);
+    (are_outcomes, seat)
 }
 
 // One thread flushes in one round, while another executes two units. Returns whether their outcomes are these, while
 // the flusher is held.
-fn are_told_beside<D: Disk + Drop + Send, R: Threads + Wait + Sync>(
+fn are_outcomes_beside<D: Disk + Drop + Send, R: Threads + Wait + Sync>(
     rt: &R,
     bench: &Bench<D, Global>,
     seat: &mut Seat<Global>,
@@ -74,7 +74,7 @@ fn are_told_beside<D: Disk + Drop + Send, R: Threads + Wait + Sync>(
 {
     let flushing = bench.split(seat);
     let asking = bench.split(seat);
-    let ((are_told, asking), flushing) = join(
+    let ((are_outcomes, asking), flushing) = join(
         rt,
         || -> (bool, Seat<Global>)
             requires { IsOf bench.now asking }
@@ -87,7 +87,7 @@ fn are_told_beside<D: Disk + Drop + Send, R: Threads + Wait + Sync>(
     );
     bench.join(seat, asking);
     bench.join(seat, flushing);
-    are_told && hold.overlapped()
+    are_outcomes && hold.overlapped()
 }
 
 // Makes a round of the flusher that is not blocked.
@@ -128,10 +128,10 @@ fn is_answered_beside<D: Disk + Drop + Send, R: Threads + Wait + Sync + Abort>(
     let one = opened(rt, bench, seat);
     let two = opened(rt, bench, seat);
     let waits = waits(rt, bench, seat, one);
-    let are_told = are_told_beside(rt, bench, seat, two, [b"VOLT?", b"7.000"], hold);
+    let are_outcomes = are_outcomes_beside(rt, bench, seat, two, [b"VOLT?", b"7.000"], hold);
     let are_seen = bench.progress(seat) >= 2;
-    let is_told = is_answer(&bench.settle(rt, seat, one), b"1");
-    waits && are_told && are_seen && is_told
+    let is_outcome = is_answer(&bench.settle(rt, seat, one), b"1");
+    waits && are_outcomes && are_seen && is_outcome
 }
 
 // The flusher is blocked before its first page while a session is answered; the save it commits is then confirmed. It
@@ -160,7 +160,7 @@ fn is_refused_beside<D: Disk + Drop + Send, R: Threads + Wait + Sync + Abort>(
     let is_saved = executes(rt, bench, seat, one, b"*SAV 1");
     flush(rt, bench, seat);
     is_saved
-        && are_told_beside(rt, bench, seat, one, [b"*SAV 2", b"storage fault"], hold)
+        && are_outcomes_beside(rt, bench, seat, one, [b"*SAV 2", b"storage fault"], hold)
         && executes(rt, bench, seat, one, b"*SAV 2")
 }
 

@@ -1,4 +1,4 @@
-// A bench for which there is no memory.
+//! A bench for which there is no memory.
 use crate::benches::formatted;
 use bumpalo::Bump;
 use psu_bench::Bench;

@@ -1,4 +1,4 @@
-// The turns of a bench are not used up soon.
+//! The turns of a bench are not used up soon.
 ghost use Rattle.std.specs.Prelude.{◌≡◌};
 ghost use Rattle.psu_turn.specs.Seats.{IsOf};
 

@@ -1,12 +1,12 @@
-// Files of scripts.
+//! Files of scripts.
 use psu_call_steps::{StepFault, play_anew};
 use std::alloc::Allocator;
 
 /// The number of scripts of a file, and of their steps.
 #[derive(Clone, Copy)]
-pub struct Count {
-    pub scripts: u32,
-    pub steps: u32,
+pub(crate) struct Count {
+    pub(crate) scripts: u32,
+    pub(crate) steps: u32,
 }
 
 impl Count {
@@ -49,7 +49,7 @@ fn play_script<A: Allocator + Copy>(
 
 /// Plays the scripts of a file, up to a step that does not hold, which is returned with its line. Each begins on a
 /// device with a fresh image, whose contents may cost this many pages.
-pub fn play_scripts<A: Allocator + Copy>(
+pub(crate) fn play_scripts<A: Allocator + Copy>(
     alloc: A,
     limit: u16,
     text: &str,

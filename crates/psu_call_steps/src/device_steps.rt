@@ -1,4 +1,4 @@
-// The steps of a device, by their words: sessions that open, jobs, notifications and moments.
+//! The steps of a device, by their words: sessions that open, jobs, notifications and moments.
 use crate::job_steps::{beside, flushes, takes_none};
 use crate::words::are;
 use psu_disk::Disk;
@@ -7,9 +7,9 @@ use std::alloc::Allocator;
 
 /// A step of a device.
 #[derive(Clone, Copy)]
-pub enum Doing {
+pub(crate) enum Doing {
     Opens,
-    Full,
+    Crowded,
     Flush,
     Beside,
     Idle,
@@ -19,10 +19,10 @@ pub enum Doing {
 }
 
 /// Returns the step of a word.
-pub fn doing_of(word: &str) -> Option<Doing> {
+pub(crate) fn doing_of(word: &str) -> Option<Doing> {
     match word {
         "open" => Some(Doing::Opens),
-        "full" => Some(Doing::Full),
+        "crowded" => Some(Doing::Crowded),
         "flush" => Some(Doing::Flush),
         "beside" => Some(Doing::Beside),
         "idle" => Some(Doing::Idle),
@@ -61,14 +61,14 @@ fn ticks<D: Disk, A: Allocator + Copy>(exec: &mut Exec<D, A>, wanted: &str) -> b
 }
 
 /// Whether the result of a device's step is the one that it states.
-pub fn device_step_holds<D: Disk + Drop, A: Allocator + Copy>(
+pub(crate) fn device_step_holds<D: Disk + Drop, A: Allocator + Copy>(
     exec: &mut Exec<D, A>,
     doing: Doing,
     rest: &str,
 ) -> bool {
     match doing {
         Doing::Opens => opens(exec, rest),
-        Doing::Full => exec.open_session().is_err(),
+        Doing::Crowded => exec.open_session().is_err(),
         Doing::Flush => flushes(exec, rest),
         Doing::Beside => beside(exec, rest) == Some(true),
         Doing::Idle => takes_none(exec, NoJob::Nothing),

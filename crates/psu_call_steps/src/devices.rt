@@ -1,4 +1,4 @@
-// Devices with their images.
+//! Devices with their images.
 use psu_disk::{Disk, MemDisk};
 use psu_exec::Exec;
 use psu_items::Store;

@@ -1,4 +1,4 @@
-// Jobs, from their take to their end, and the steps of sessions meanwhile.
+//! Jobs, from their take to their end, and the steps of sessions meanwhile.
 use crate::session_steps::session_step;
 use crate::words::are;
 use psu_disk::Disk;
@@ -30,7 +30,10 @@ pub fn ends_waits<D: Disk + Drop, A: Allocator + Copy>(
 }
 
 /// Whether one job ends the waits of these sessions, or there is nothing to do and no session is given.
-pub fn flushes<D: Disk + Drop, A: Allocator + Copy>(exec: &mut Exec<D, A>, wanted: &str) -> bool {
+pub(crate) fn flushes<D: Disk + Drop, A: Allocator + Copy>(
+    exec: &mut Exec<D, A>,
+    wanted: &str,
+) -> bool {
     match exec.take() {
         Ok(job) => ends_waits(exec, job.run(), wanted),
         Err(cause) => cause == NoJob::Nothing && wanted.is_empty(),
@@ -38,7 +41,7 @@ pub fn flushes<D: Disk + Drop, A: Allocator + Copy>(exec: &mut Exec<D, A>, wante
 }
 
 /// Whether no job is taken, for this cause. One that is taken is run and given back.
-pub fn takes_none<D: Disk + Drop, A: Allocator + Copy>(
+pub(crate) fn takes_none<D: Disk + Drop, A: Allocator + Copy>(
     exec: &mut Exec<D, A>,
     wanted: NoJob,
 ) -> bool {

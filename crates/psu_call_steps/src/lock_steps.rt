@@ -1,26 +1,27 @@
-// The steps of an open session on locks, and its end, by their words.
+//! The steps of an open session on locks, and its end, by their words.
 ghost use Rattle.std.specs.Prelude.{◌≡◌, true};
 ghost use Rattle.psu_exec.specs.Device.{is_open};
 
-use crate::words::{are, parted};
+use crate::words::are;
 use psu_disk::Disk;
 use psu_exec::{Exec, Freed, Grant, Kind, LockRefusal, LockString, Session};
+use psu_tables::parted;
 use std::alloc::Allocator;
 
 /// A step of a session on locks.
 #[derive(Clone, Copy)]
-pub enum LockAction {
+pub(crate) enum LockAction {
     Shares,
-    Locks,
+    Requests,
     Releases,
     Closes,
 }
 
 /// Returns the step of a word.
-pub fn lock_action_of(word: &str) -> Option<LockAction> {
+pub(crate) fn lock_action_of(word: &str) -> Option<LockAction> {
     match word {
         "shares" => Some(LockAction::Shares),
-        "locks" => Some(LockAction::Locks),
+        "requests" => Some(LockAction::Requests),
         "releases" => Some(LockAction::Releases),
         "closes" => Some(LockAction::Closes),
         _ => None,
@@ -34,7 +35,7 @@ fn called(granted: Result<Grant, LockRefusal>) -> &'static str {
         Ok(Grant::Queued) => "queued",
         Ok(Grant::Failed) => "failed",
         Err(LockRefusal::Waiting) => "waiting",
-        Err(LockRefusal::AlreadyHeld) => "held",
+        Err(LockRefusal::AlreadyHeld) => "already-held",
         Err(LockRefusal::NotHeld) => "not-held",
     }
 }
@@ -48,17 +49,21 @@ fn freed_as(freed: Freed) -> &'static str {
 }
 
 // Reads a moment and the timeout of a request: `at 0 for 10`.
-fn moment_and_wait(asked: &str) -> Option<(u64, u32)> {
-    let (now, wait) = asked.strip_prefix("at ")?.split_once(" for ")?;
+fn moment_and_wait(request: &str) -> Option<(u64, u32)> {
+    let (now, wait) = request.strip_prefix("at ")?.split_once(" for ")?;
     Some((now.parse().ok()?, wait.parse().ok()?))
 }
 
 // Whether this is the result of a request of the exclusive lock at a moment: `queued at 0 for 10`.
-fn locks<D: Disk, A: Allocator + Copy>(exec: &mut Exec<D, A>, session: Session, doing: &str) -> bool
+fn requests<D: Disk, A: Allocator + Copy>(
+    exec: &mut Exec<D, A>,
+    session: Session,
+    doing: &str,
+) -> bool
     requires { is_open exec.old.device session ≡ true }
 {
-    let (wanted, asked) = parted(doing);
-    match moment_and_wait(asked) {
+    let (wanted, request) = parted(doing);
+    match moment_and_wait(request) {
         Some((now, wait)) => called(exec.lock(session, Kind::Exclusive, now, wait)) == wanted,
         None => false,
     }
@@ -101,7 +106,7 @@ fn closes<D: Disk, A: Allocator + Copy>(
 }
 
 /// Whether the result of an open session's step on locks is the one that it states.
-pub fn lock_step_holds<D: Disk, A: Allocator + Copy>(
+pub(crate) fn lock_step_holds<D: Disk, A: Allocator + Copy>(
     exec: &mut Exec<D, A>,
     session: Session,
     action: LockAction,
@@ -111,7 +116,7 @@ pub fn lock_step_holds<D: Disk, A: Allocator + Copy>(
 {
     match action {
         LockAction::Shares => shares(exec, session),
-        LockAction::Locks => locks(exec, session, rest),
+        LockAction::Requests => requests(exec, session, rest),
         LockAction::Releases => releases(exec, session, rest),
         LockAction::Closes => closes(exec, session, rest),
     }

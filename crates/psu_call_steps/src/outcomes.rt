@@ -1,4 +1,4 @@
-// The words for outcomes in a step.
+//! The words for outcomes in a step.
 use psu_exec::{Outcome, ScpiError};
 use std::alloc::Allocator;
 
@@ -11,7 +11,7 @@ fn refused_as(error: ScpiError) -> &'static [u8] {
 }
 
 /// Returns the answer of an outcome, or the word for it.
-pub fn said<A: Allocator + Copy>(outcome: &Outcome<A>) -> &[u8] {
+pub(crate) fn said<A: Allocator + Copy>(outcome: &Outcome<A>) -> &[u8] {
     match outcome {
         Outcome::Done => b"done".as_slice(),
         Outcome::Answer(text) => text.as_slice(),

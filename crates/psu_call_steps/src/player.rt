@@ -1,11 +1,11 @@
-// Steps that are played, one after another.
+//! Steps that are played, one after another.
 use crate::device_steps::{device_step_holds, doing_of};
 use crate::devices::{image, powered_on};
 use crate::session_steps::session_step;
 use crate::sights::{is_seen, sight_of};
-use crate::words::parted;
 use psu_disk::{Disk, MemDisk};
 use psu_exec::Exec;
+use psu_tables::{is_step, parted};
 use std::alloc::Allocator;
 
 /// A step that does not hold, and its line in its script, from 1.
@@ -33,11 +33,6 @@ pub fn step_holds<D: Disk + Drop, A: Allocator + Copy>(exec: &mut Exec<D, A>, st
     }
 }
 
-// Whether a line is to be played.
-fn is_played(line: &str) -> bool {
-    !line.is_empty() && !line.starts_with("#")
-}
-
 /// Plays a script on a device, up to a step that does not hold, and returns the number of its steps.
 pub fn play<'s, D: Disk + Drop, A: Allocator + Copy>(
     exec: &mut Exec<D, A>,
@@ -47,7 +42,7 @@ pub fn play<'s, D: Disk + Drop, A: Allocator + Copy>(
     let mut steps = 0u32;
     for step in script.lines() {
         line = line.saturating_add(1);
-        if is_played(step) {
+        if is_step(step) {
             if !step_holds(exec, step) {
                 return Err(StepFault { line, step });
             }

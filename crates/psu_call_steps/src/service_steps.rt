@@ -1,4 +1,4 @@
-// The steps of an open session on its units, its wait and its service, by their words.
+//! The steps of an open session on its units, its wait and its service, by their words.
 ghost use Rattle.std.specs.Prelude.{◌≡◌, true};
 ghost use Rattle.psu_exec.specs.Device.{is_open};
 
@@ -9,11 +9,11 @@ use std::alloc::Allocator;
 
 /// A step of a session.
 #[derive(Clone, Copy)]
-pub enum Action {
+pub(crate) enum Action {
     Does,
     Fills,
     Settles,
-    Asks,
+    Srq,
     Polls,
     Sent,
     Delivered,
@@ -21,12 +21,12 @@ pub enum Action {
 }
 
 /// Returns the step of a word.
-pub fn action_of(word: &str) -> Option<Action> {
+pub(crate) fn action_of(word: &str) -> Option<Action> {
     match word {
         "does" => Some(Action::Does),
         "fills" => Some(Action::Fills),
         "settles" => Some(Action::Settles),
-        "asks" => Some(Action::Asks),
+        "srq" => Some(Action::Srq),
         "polls" => Some(Action::Polls),
         "sent" => Some(Action::Sent),
         "delivered" => Some(Action::Delivered),
@@ -36,7 +36,11 @@ pub fn action_of(word: &str) -> Option<Action> {
 }
 
 // Whether this is the service request that is sent now: a status byte, or `nothing`.
-fn asks<D: Disk, A: Allocator + Copy>(exec: &mut Exec<D, A>, session: Session, wanted: &str) -> bool
+fn requests_service<D: Disk, A: Allocator + Copy>(
+    exec: &mut Exec<D, A>,
+    session: Session,
+    wanted: &str,
+) -> bool
     requires { is_open exec.old.device session ≡ true }
 {
     match exec.requests(session) {
@@ -57,7 +61,7 @@ fn polls<D: Disk, A: Allocator + Copy>(
 }
 
 /// Whether the result of an open session's step is the one that it states.
-pub fn service_step_holds<D: Disk, A: Allocator + Copy>(
+pub(crate) fn service_step_holds<D: Disk, A: Allocator + Copy>(
     exec: &mut Exec<D, A>,
     session: Session,
     action: Action,
@@ -69,7 +73,7 @@ pub fn service_step_holds<D: Disk, A: Allocator + Copy>(
         Action::Does => return are_done(exec, session, rest),
         Action::Fills => return fills(exec, session, rest),
         Action::Settles => return settles(exec, session, rest),
-        Action::Asks => return asks(exec, session, rest),
+        Action::Srq => return requests_service(exec, session, rest),
         Action::Polls => return polls(exec, session, rest),
         Action::Sent => exec.sent(session),
         Action::Delivered => exec.delivered(session),

@@ -1,10 +1,11 @@
-// The steps of a session: a unit, or another step.
+//! The steps of a session: a unit, or another step.
 use crate::lock_steps::{lock_action_of, lock_step_holds};
 use crate::service_steps::{action_of, service_step_holds};
 use crate::unit_steps::executes;
-use crate::words::{parted, session};
+use crate::words::session;
 use psu_disk::Disk;
 use psu_exec::{Exec, Session};
+use psu_tables::parted;
 use std::alloc::Allocator;
 
 // Whether a step of a session other than a single unit holds. `false` where it is not a step, or the session is not
@@ -33,7 +34,10 @@ fn session_of(word: &str) -> Option<Session> {
 }
 
 /// Whether a step of a session holds: a unit, or another.
-pub fn session_step<D: Disk, A: Allocator + Copy>(exec: &mut Exec<D, A>, step: &str) -> bool {
+pub(crate) fn session_step<D: Disk, A: Allocator + Copy>(
+    exec: &mut Exec<D, A>,
+    step: &str,
+) -> bool {
     let (word, rest) = parted(step);
     let Some(session) = session_of(word) else {
         return false;

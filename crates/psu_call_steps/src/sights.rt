@@ -1,31 +1,31 @@
-// The observations of a device, by their words: what it keeps, its store, the holders of locks, and their deadlines.
-use crate::words::parted;
+//! The observations of a device, by their words: what it keeps, its store, the holders of locks, and their deadlines.
 use psu_disk::Disk;
 use psu_exec::{Condition, Exec, Info};
 use psu_status::Enables;
+use psu_tables::parted;
 use std::alloc::Allocator;
 
 /// An observation of a device.
 #[derive(Clone, Copy)]
-pub enum Sight {
+pub(crate) enum Sight {
     Flushed,
     Unflushed,
     Whole,
     Broken,
     Keeps,
-    Locks,
+    LockInfo,
     Next,
 }
 
 /// Returns the observation of a word.
-pub fn sight_of(word: &str) -> Option<Sight> {
+pub(crate) fn sight_of(word: &str) -> Option<Sight> {
     match word {
         "flushed" => Some(Sight::Flushed),
         "unflushed" => Some(Sight::Unflushed),
         "whole" => Some(Sight::Whole),
         "broken" => Some(Sight::Broken),
         "keeps" => Some(Sight::Keeps),
-        "locks" => Some(Sight::Locks),
+        "lock-info" => Some(Sight::LockInfo),
         "next" => Some(Sight::Next),
         _ => None,
     }
@@ -55,14 +55,18 @@ fn is_due(deadline: Option<u128>, wanted: &str) -> bool {
 }
 
 /// Whether a device is in the state that its step states.
-pub fn is_seen<D: Disk, A: Allocator + Copy>(exec: &Exec<D, A>, sight: Sight, rest: &str) -> bool {
+pub(crate) fn is_seen<D: Disk, A: Allocator + Copy>(
+    exec: &Exec<D, A>,
+    sight: Sight,
+    rest: &str,
+) -> bool {
     match sight {
         Sight::Flushed => exec.is_flushed(),
         Sight::Unflushed => !exec.is_flushed(),
         Sight::Whole => exec.condition() == Condition::Whole,
         Sight::Broken => exec.condition() == Condition::Broken,
         Sight::Keeps => are_kept(exec.contents().enables(), rest),
-        Sight::Locks => are_locked(exec.info(), rest),
+        Sight::LockInfo => are_locked(exec.info(), rest),
         Sight::Next => is_due(exec.next_deadline(), rest),
     }
 }

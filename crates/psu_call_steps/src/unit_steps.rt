@@ -1,4 +1,4 @@
-// Units that a session executes, and its wait.
+//! Units that a session executes, and its wait.
 ghost use Rattle.std.specs.Prelude.{◌≡◌, true};
 ghost use Rattle.psu_exec.specs.Device.{is_open};
 
@@ -23,7 +23,7 @@ fn read(text: &str) -> Request<'_> {
 }
 
 // Whether this is the outcome of a unit of an open session.
-fn comes<D: Disk, A: Allocator + Copy>(
+fn has_outcome<D: Disk, A: Allocator + Copy>(
     exec: &mut Exec<D, A>,
     session: Session,
     text: &str,
@@ -44,7 +44,7 @@ fn is_executed<D: Disk, A: Allocator + Copy>(
     if !exec.is_open(session) {
         return false;
     }
-    comes(exec, session, text, want)
+    has_outcome(exec, session, text, want)
 }
 
 // Whether the contents cost this many pages.
@@ -66,7 +66,7 @@ fn is_met<D: Disk, A: Allocator + Copy>(
 }
 
 /// Whether the outcome of a unit is the one that is written after it: `*SRE 4 -> done`, `*SAV 0 -> done; costs 2`.
-pub fn executes<D: Disk, A: Allocator + Copy>(
+pub(crate) fn executes<D: Disk, A: Allocator + Copy>(
     exec: &mut Exec<D, A>,
     session: Session,
     doing: &str,
@@ -78,7 +78,7 @@ pub fn executes<D: Disk, A: Allocator + Copy>(
 }
 
 /// Whether each of these units is done: `VOLT 2;*SAV 3`.
-pub fn are_done<D: Disk, A: Allocator + Copy>(
+pub(crate) fn are_done<D: Disk, A: Allocator + Copy>(
     exec: &mut Exec<D, A>,
     session: Session,
     units: &str,
@@ -92,7 +92,7 @@ pub fn are_done<D: Disk, A: Allocator + Copy>(
 }
 
 /// Whether a unit is done each time that it is executed, until no more changes may be unflushed.
-pub fn fills<D: Disk, A: Allocator + Copy>(
+pub(crate) fn fills<D: Disk, A: Allocator + Copy>(
     exec: &mut Exec<D, A>,
     session: Session,
     unit: &str,
@@ -106,7 +106,7 @@ pub fn fills<D: Disk, A: Allocator + Copy>(
 }
 
 /// Whether this is the outcome of the wait of an open session.
-pub fn settles<D: Disk, A: Allocator + Copy>(
+pub(crate) fn settles<D: Disk, A: Allocator + Copy>(
     exec: &mut Exec<D, A>,
     session: Session,
     want: &str,

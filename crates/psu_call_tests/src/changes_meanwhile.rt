@@ -1,5 +1,5 @@
-// Changes while a job is out, which may break the store: none is lost. After the last job the store holds what the
-// device has.
+//! Changes while a job is out, which may break the store: none is lost. After the last job the store holds what the
+//! device has.
 use crate::holds::holds;
 use crate::plays::{device_with, image_of, plays, whole};
 use crate::stores::opened;
@@ -92,7 +92,7 @@ fn flush_both<D: Disk + Drop, A: Allocator + Copy>(
 
 // Makes two changes, the first of which may break the store, and returns whether it does; then a third is refused, and
 // made once the store is reopened.
-fn go_on<D: Disk + Drop, A: Allocator + Copy>(
+fn break_and_reopen<D: Disk + Drop, A: Allocator + Copy>(
     rt: &impl Abort,
     exec: &mut Exec<D, A>,
     first: &str,
@@ -200,7 +200,7 @@ fn is_broken<A: Allocator + Copy>(
     second: &str,
 ) -> bool {
     let mut exec = failing_after(rt, alloc, calls);
-    if !go_on(rt, &mut exec, first, second) {
+    if !break_and_reopen(rt, &mut exec, first, second) {
         whole(rt, exec);
         return false;
     }

@@ -1,20 +1,20 @@
-// A disk that counts its calls.
+//! A disk that counts its calls.
 use psu_disk::{Disk, DiskFault};
 
 /// A disk that counts its calls, the bytes that are read, and those that are written.
 #[derive(Drop)]
-pub struct Counted<D: Disk> {
+pub(crate) struct Counted<D: Disk> {
     inner: D,
-    pub reads: u64,
-    pub bytes_read: u64,
-    pub writes: u64,
-    pub bytes_written: u64,
-    pub syncs: u64,
+    pub(crate) reads: u64,
+    pub(crate) bytes_read: u64,
+    pub(crate) writes: u64,
+    pub(crate) bytes_written: u64,
+    pub(crate) syncs: u64,
 }
 
 impl<D: Disk> Counted<D> {
     /// Returns a disk of which nothing is counted yet.
-    pub fn new(inner: D) -> Counted<D> {
+    pub(crate) fn new(inner: D) -> Counted<D> {
         Counted {
             inner,
             reads: 0,

@@ -1,14 +1,11 @@
-// The cost of a store's calls: the number of disk calls, and of bytes written.
+//! The cost of a store's calls: the number of disk calls, and of bytes written.
 use crate::counted::Counted;
 use crate::plays::{disk_after, image_of};
 use crate::stores::{assign, opened, remove, stored};
 use psu_disk::{Disk, MemDisk};
-use psu_items::{Batch, Items, Store};
+use psu_items::{Batch, IMAGE_LIMIT, Items, Store};
 use std::alloc::{Allocator, Global};
 use std::process::Abort;
-
-// The limit of an image of ordinary size.
-const LIMIT: u16 = 256;
 
 // The file A.
 const FILE: &[u8] = &[5, 65];
@@ -23,7 +20,7 @@ fn assign_file<A: Allocator + Copy>(rt: &impl Abort, alloc: A, batch: &mut Batch
 fn with_file(rt: &impl Abort, alloc: Global) -> MemDisk<Global> {
     let mut batch = Batch::new(alloc);
     assign_file(rt, alloc, &mut batch);
-    let store = opened(rt, alloc, image_of(rt, alloc, LIMIT));
+    let store = opened(rt, alloc, image_of(rt, alloc, IMAGE_LIMIT));
     stored(rt, alloc, store, batch)
 }
 
@@ -39,7 +36,7 @@ fn is_read<D: Disk>(disk: &Counted<D>, reads: u64, bytes: u64) -> bool {
 
 // Whether an opening reads this much of an empty map.
 fn empty_is_read<A: Allocator + Copy>(rt: &impl Abort, alloc: A) -> bool {
-    let store = opened(rt, alloc, Counted::new(image_of(rt, alloc, LIMIT)));
+    let store = opened(rt, alloc, Counted::new(image_of(rt, alloc, IMAGE_LIMIT)));
     is_read(&store.into_disk(), 2, 1_024)
 }
 

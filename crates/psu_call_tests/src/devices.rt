@@ -1,4 +1,4 @@
-// Devices whose disks fail: stores that break, power losses in a job, and a store that does not power on.
+//! Devices whose disks fail: stores that break, power losses in a job, and a store that does not power on.
 use crate::holds::holds;
 use crate::plays::{LEAST, device_with, disk_after, disk_of, image_of, played, whole};
 use crate::stores::{assign, opened, stored};

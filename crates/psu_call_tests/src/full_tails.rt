@@ -1,5 +1,5 @@
-// Units at the greatest number of unflushed changes, and at one less, on a store that is broken or worn: none of them
-// waits.
+//! Units at the greatest number of unflushed changes, and at one less, on a store that is broken or worn: none of them
+//! waits.
 use crate::plays::{LEAST, device_with, disk_after, disk_of, image_of, plays};
 use psu_disk::{Disk, FailingDisk, MemDisk};
 use psu_exec::Exec;

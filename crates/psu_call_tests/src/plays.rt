@@ -1,4 +1,4 @@
-// Devices that play scripts.
+//! Devices that play scripts.
 use crate::holds::holds;
 use psu_call_steps::{ends_waits, image, play, powered_on};
 use psu_disk::{Disk, MemDisk};
@@ -7,15 +7,15 @@ use std::alloc::Allocator;
 use std::process::Abort;
 
 /// The limit of an image of the smallest size.
-pub const LEAST: u16 = 4;
+pub(crate) const LEAST: u16 = 4;
 
 /// Returns a formatted image of this limit.
-pub fn image_of<A: Allocator + Copy>(rt: &impl Abort, alloc: A, limit: u16) -> MemDisk<A> {
+pub(crate) fn image_of<A: Allocator + Copy>(rt: &impl Abort, alloc: A, limit: u16) -> MemDisk<A> {
     image(alloc, limit).expect(rt, "an image")
 }
 
 /// Returns a device that is powered on with the contents of a disk.
-pub fn device_with<D: Disk + Drop, A: Allocator + Copy>(
+pub(crate) fn device_with<D: Disk + Drop, A: Allocator + Copy>(
     rt: &impl Abort,
     alloc: A,
     disk: D,
@@ -24,7 +24,7 @@ pub fn device_with<D: Disk + Drop, A: Allocator + Copy>(
 }
 
 /// Plays a script, each step of which holds.
-pub fn plays<D: Disk + Drop, A: Allocator + Copy>(
+pub(crate) fn plays<D: Disk + Drop, A: Allocator + Copy>(
     rt: &impl Abort,
     exec: &mut Exec<D, A>,
     script: &str,
@@ -36,7 +36,7 @@ pub fn plays<D: Disk + Drop, A: Allocator + Copy>(
 }
 
 /// Returns a device with the contents of a disk, after it has played a script.
-pub fn played<D: Disk + Drop, A: Allocator + Copy>(
+pub(crate) fn played<D: Disk + Drop, A: Allocator + Copy>(
     rt: &impl Abort,
     alloc: A,
     disk: D,
@@ -48,7 +48,7 @@ pub fn played<D: Disk + Drop, A: Allocator + Copy>(
 }
 
 /// Returns the disk of a device with a whole store.
-pub fn whole<D: Disk + Drop, A: Allocator + Copy>(rt: &impl Abort, exec: Exec<D, A>) -> D {
+pub(crate) fn whole<D: Disk + Drop, A: Allocator + Copy>(rt: &impl Abort, exec: Exec<D, A>) -> D {
     match exec.end() {
         Ended::Whole(store) => store.into_disk(),
         _ => panic!(rt; "no whole store"),
@@ -56,7 +56,7 @@ pub fn whole<D: Disk + Drop, A: Allocator + Copy>(rt: &impl Abort, exec: Exec<D,
 }
 
 /// Returns the disk of such a device, after it has played a script.
-pub fn disk_after<D: Disk + Drop, A: Allocator + Copy>(
+pub(crate) fn disk_after<D: Disk + Drop, A: Allocator + Copy>(
     rt: &impl Abort,
     alloc: A,
     disk: D,
@@ -66,7 +66,7 @@ pub fn disk_after<D: Disk + Drop, A: Allocator + Copy>(
 }
 
 /// Returns the disk of a device that ends with no job out.
-pub fn disk_of<D: Disk + Drop, A: Allocator + Copy>(rt: &impl Abort, exec: Exec<D, A>) -> D {
+pub(crate) fn disk_of<D: Disk + Drop, A: Allocator + Copy>(rt: &impl Abort, exec: Exec<D, A>) -> D {
     match exec.end() {
         Ended::Whole(store) => store.into_disk(),
         Ended::Failed(broken) => broken.into_disk(),
@@ -75,7 +75,7 @@ pub fn disk_of<D: Disk + Drop, A: Allocator + Copy>(rt: &impl Abort, exec: Exec<
 }
 
 /// Takes the job that there is.
-pub fn taken<D: Disk + Drop, A: Allocator + Copy>(
+pub(crate) fn taken<D: Disk + Drop, A: Allocator + Copy>(
     rt: &impl Abort,
     exec: &mut Exec<D, A>,
 ) -> Job<D, A> {
@@ -83,7 +83,7 @@ pub fn taken<D: Disk + Drop, A: Allocator + Copy>(
 }
 
 /// Runs a job, whose end ends the waits of these sessions.
-pub fn ends<D: Disk + Drop, A: Allocator + Copy>(
+pub(crate) fn ends<D: Disk + Drop, A: Allocator + Copy>(
     rt: &impl Abort,
     exec: &mut Exec<D, A>,
     job: Job<D, A>,

@@ -1,4 +1,4 @@
-// Each allocation of a take is refused: nothing has changed, and with memory it continues. A settle needs none.
+//! Each allocation of a take is refused: nothing has changed, and with memory it continues. A settle needs none.
 use crate::holds::holds;
 use crate::plays::{LEAST, ends, image_of, played, plays, whole};
 use bumpalo::Bump;

@@ -1,4 +1,4 @@
-// Stores for an execution: the store of an opened disk, and one with given items.
+//! Stores for an execution: the store of an opened disk, and one with given items.
 ghost use Rattle.std.specs.Prelude.{IsTrue};
 ghost use Rattle.psu_map.specs.Batch.{changed};
 ghost use Rattle.psu_map.specs.Capacity.{CanHold, Fits};
@@ -9,7 +9,7 @@ use std::alloc::{Allocator, Global};
 use std::process::Abort;
 
 /// Returns the store of a disk that is opened.
-pub fn opened<D: Disk + Drop, A: Allocator + Copy>(
+pub(crate) fn opened<D: Disk + Drop, A: Allocator + Copy>(
     rt: &impl Abort,
     alloc: A,
     disk: D,
@@ -45,7 +45,7 @@ fn takes<D: Disk>(alloc: Global, store: &Store<D, Global>, batch: &Batch<Global>
 }
 
 /// Returns the disk of a store after a commit, which has to succeed.
-pub fn stored<D: Disk + Drop>(
+pub(crate) fn stored<D: Disk + Drop>(
     rt: &impl Abort,
     alloc: Global,
     store: Store<D, Global>,
@@ -66,7 +66,7 @@ fn owned<A: Allocator + Copy>(rt: &impl Abort, alloc: A, bytes: &[u8]) -> Vec<u8
 }
 
 /// Adds the edit that assigns this value to an item.
-pub fn assign<A: Allocator + Copy>(
+pub(crate) fn assign<A: Allocator + Copy>(
     rt: &impl Abort,
     alloc: A,
     batch: &mut Batch<A>,
@@ -81,7 +81,12 @@ pub fn assign<A: Allocator + Copy>(
 }
 
 /// Adds the edit that removes an item.
-pub fn remove<A: Allocator + Copy>(rt: &impl Abort, alloc: A, batch: &mut Batch<A>, key: &[u8]) {
+pub(crate) fn remove<A: Allocator + Copy>(
+    rt: &impl Abort,
+    alloc: A,
+    batch: &mut Batch<A>,
+    key: &[u8],
+) {
     let removed = batch.remove(owned(rt, alloc, key)).is_ok();
     assert!(rt; removed);
 }

@@ -1,4 +1,4 @@
-// Ends of jobs that a device does not expect.
+//! Ends of jobs that a device does not expect.
 use crate::plays::{LEAST, ends, image_of, played, taken, whole};
 use psu_call_steps::ends_waits;
 use psu_disk::Disk;

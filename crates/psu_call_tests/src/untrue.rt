@@ -1,4 +1,4 @@
-// Steps that do not hold, and lines that are not steps: the player refuses each.
+//! Steps that do not hold, and lines that are not steps: the player refuses each.
 use crate::holds::holds;
 use crate::plays::{image_of, played, whole};
 use psu_call_steps::step_holds;
@@ -10,7 +10,7 @@ use std::process::Abort;
 // A device with a session that holds a lock, and with changes that are not flushed.
 const BEGUN: &str = "open 1
 1: *SRE 4 -> done
-1 locks granted at 0 for 0
+1 requests granted at 0 for 0
 1: *PSC 0 -> done";
 
 // Steps that do not hold on it, one after another.
@@ -24,7 +24,7 @@ const UNTRUE: &str = "1: *PSC? -> 1
 1 settles 1
 2 settles done
 2 sent
-1 asks 68
+1 srq 68
 1 polls 4
 work 1
 rest
@@ -32,19 +32,19 @@ flushed
 broken
 keeps 4 1
 keeps 0 0
-locks shared 1
-locks exclusive 2
+lock-info shared 1
+lock-info exclusive 2
 tick 0 fails 1
 next 10
-1 locks granted at 0 for 0
+1 requests granted at 0 for 0
 open 3
 2 shares
 1 releases exclusive 2
 1 releases exclusive
-full
+crowded
 1 does *PSC 0;FOO
 1 fills FOO
-1 asks nothing
+1 srq nothing
 beside 1: *PSC? -> 1
 unflushed
 flush 1

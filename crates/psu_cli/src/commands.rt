@@ -1,8 +1,8 @@
 //! The commands of the program, thin over the server.
 use crate::fault::Fault;
-use crate::image::{LIMIT, SIZE, new_image};
+use crate::image::new_image;
 use psu_disk::{Disk, FileDisk, MemDisk, OsFiles};
-use psu_items::Store;
+use psu_items::{IMAGE_LIMIT, IMAGE_SIZE, Store};
 use psu_run::{Recovered, recover, report_text, run};
 use std::alloc::Global;
 use std::fs::File;
@@ -17,10 +17,10 @@ pub fn make_image<R: Files<File = File>>(rt: &R, alloc: Global, path: &str) -> R
 
 /// Reads messages from standard input, on a fresh image in memory.
 pub fn run_in_memory<R: Input + Print>(rt: &R, alloc: Global) -> Result<(), Fault> {
-    let Ok(disk) = MemDisk::new(alloc, SIZE) else {
+    let Ok(disk) = MemDisk::new(alloc, IMAGE_SIZE) else {
         return Err(Fault::Memory);
     };
-    match Store::format(alloc, disk, LIMIT) {
+    match Store::format(alloc, disk, IMAGE_LIMIT) {
         Ok(store) => run_on(rt, alloc, store.into_disk()),
         Err(fault) => Err(Fault::from(fault.cause)),
     }

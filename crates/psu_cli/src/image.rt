@@ -5,14 +5,8 @@ ghost use Rattle.psu_items.specs.Standing.{IsOnDisk};
 
 use crate::fault::Fault;
 use psu_disk::{FileCalls, FileSystem, KeptDisk, SystemFile};
-use psu_items::Store;
+use psu_items::{IMAGE_LIMIT, IMAGE_SIZE, Store};
 use std::alloc::Global;
-
-/// How many pages the contents of an image that the program makes may cost.
-pub(crate) const LIMIT: u16 = 256;
-
-/// The bytes of such an image: two roots and twice the limit, in pages of 512 bytes.
-pub(crate) const SIZE: u64 = 263_168;
 
 /// Makes a formatted image in a new file at a path, and returns its store, which is empty. If that fails, no new file is
 /// left there, and a file that was there is unchanged.
@@ -26,11 +20,11 @@ pub fn new_image<F: FileCalls + Drop, S: FileSystem<F>>(
     ensures represents { F.keeps → IfOk result (λ store. IsOnDisk (λ disk. F.state disk.medium.file) store) }
     ensures refused { IfErr result (λ _. LeavesNoFile S.made path.now system.old system.new) }
 {
-    let disk = match KeptDisk::make(system, alloc, path, SIZE) {
+    let disk = match KeptDisk::make(system, alloc, path, IMAGE_SIZE) {
         Ok(disk) => disk,
         Err(fault) => return Err(Fault::File(fault)),
     };
-    match Store::format(alloc, disk, LIMIT) {
+    match Store::format(alloc, disk, IMAGE_LIMIT) {
         Ok(store) => Ok(store),
         Err(fault) => {
             system.remove(path);

@@ -1,4 +1,4 @@
-//! The command line: which of the program's commands is asked for.
+//! The command line: which of the program's commands is requested.
 use clap::error::ErrorKind;
 use clap::{Arg, ArgAction, ArgMatches, Command, value_parser};
 use std::alloc::{AllocError, Global};
@@ -12,7 +12,7 @@ pub enum Choice<'a> {
     Run(Option<&'a str>),
     /// Serves the image at a path over the loopback address, at a port.
     Serve(&'a str, u16),
-    /// Tells what a restart would find in the image at a path.
+    /// Reports what a restart would find in the image at a path.
     Recover(&'a str),
 }
 

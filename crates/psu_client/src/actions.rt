@@ -1,43 +1,44 @@
-// The steps of a script, each by its word and the text after it.
+//! The steps of a script, each by its word and the text after it.
 use crate::client::Client;
 use crate::long_answer::{ask_much, is_drained, repeated};
 use crate::missed::{Missed, holds};
-use crate::wire::{is_ended, is_held_back, is_silent, send, text_comes};
-use psu_tables::{bytes, written};
+use crate::wire::{expect_bytes, is_ended, is_held_back, is_silent, send};
+use psu_tables::{bytes, parted, row, written};
 use std::alloc::Global;
 use std::net::TcpStream;
 use std::time::{Clock, Duration, Instant};
 
 /// The fault of a line that is not a step.
-pub const UNREAD: Missed = Missed::Ground("a step");
+pub(crate) const UNREAD: Missed = Missed::Ground("a step");
 
 /// Reads a number in a step.
-pub fn number(word: &str) -> Option<u32> {
-    word.parse().ok()
+pub(crate) fn number(word: &str) -> Result<u32, Missed> {
+    match word.parse() {
+        Ok(number) => Ok(number),
+        Err(_) => Err(UNREAD),
+    }
 }
 
 // Reads a byte in a step, as two hexadecimal digits.
-fn byte(word: &str) -> Option<u8> {
-    u8::from_str_radix(word, 16).ok()
+fn byte(word: &str) -> Result<u8, Missed> {
+    match u8::from_str_radix(word, 16) {
+        Ok(byte) => Ok(byte),
+        Err(_) => Err(UNREAD),
+    }
 }
 
-/// Returns the first word of a step, and the rest.
-pub fn parted(step: &str) -> (&str, &str) {
-    step.split_once(" ").unwrap_or((step, ""))
-}
-
-// Sends bytes, as they are spelled.
-fn sends(stream: &mut TcpStream, alloc: Global, cell: &str) -> Result<(), Missed> {
+// Reads bytes in a step, as tables spell them.
+fn spelled(alloc: Global, cell: &str) -> Result<Vec<u8>, Missed> {
     match bytes(alloc, cell) {
-        Some(bytes) => send(stream, bytes.as_slice()),
+        Some(bytes) => Ok(bytes),
         None => Err(UNREAD),
     }
 }
 
-// Receives bytes, as they are spelled.
-fn gets(stream: &mut TcpStream, alloc: Global, cell: &str) -> Result<(), Missed> {
-    match bytes(alloc, cell) {
-        Some(bytes) => text_comes(stream, bytes.as_slice()),
+// Reads a text in a step.
+fn text(alloc: Global, cell: &str) -> Result<String, Missed> {
+    match written(alloc, cell) {
+        Some(text) => Ok(text),
         None => Err(UNREAD),
     }
 }
@@ -45,25 +46,23 @@ fn gets(stream: &mut TcpStream, alloc: Global, cell: &str) -> Result<(), Missed>
 // Sends bytes, repeated this many times, again and again until they are no longer accepted.
 fn floods(stream: &mut TcpStream, alloc: Global, rest: &str) -> Result<(), Missed> {
     let (count, cell) = parted(rest);
-    let (Some(count), Some(bytes)) = (number(count), bytes(alloc, cell)) else {
-        return Err(UNREAD);
-    };
-    match repeated(alloc, bytes.as_slice(), count) {
+    let bytes = spelled(alloc, cell)?;
+    match repeated(alloc, bytes.as_slice(), number(count)?) {
         Ok(frames) => is_held_back(stream, frames.as_slice()),
         Err(_) => Err(Missed::Ground("memory")),
     }
 }
 
 /// Makes a step of a connection.
-pub fn stream_does(
+pub(crate) fn stream_does(
     stream: &mut TcpStream,
     alloc: Global,
     word: &str,
     rest: &str,
 ) -> Result<(), Missed> {
     match word {
-        "sends" => sends(stream, alloc, rest),
-        "gets" => gets(stream, alloc, rest),
+        "sends" => send(stream, spelled(alloc, rest)?.as_slice()),
+        "gets" => expect_bytes(stream, spelled(alloc, rest)?.as_slice()),
         "floods" => floods(stream, alloc, rest),
         "silent" => is_silent(stream),
         "ends" => is_ended(stream),
@@ -72,31 +71,23 @@ pub fn stream_does(
 }
 
 fn says(client: &mut Client, alloc: Global, cell: &str) -> Result<(), Missed> {
-    match written(alloc, cell) {
-        Some(text) => client.say(text.as_bytes()),
-        None => Err(UNREAD),
-    }
+    client.say(text(alloc, cell)?.as_bytes())
 }
 
 fn continues(client: &mut Client, alloc: Global, cell: &str) -> Result<(), Missed> {
-    match written(alloc, cell) {
-        Some(text) => client.say_on(text.as_bytes()),
-        None => Err(UNREAD),
-    }
+    client.say_on(text(alloc, cell)?.as_bytes())
 }
 
 fn hears(client: &mut Client, alloc: Global, cell: &str) -> Result<(), Missed> {
-    let Some(mut text) = written(alloc, cell) else {
-        return Err(UNREAD);
-    };
+    let mut text = text(alloc, cell)?;
     match text.push('\n') {
         Ok(()) => client.hear(text.as_bytes()),
         Err(_) => Err(Missed::Ground("memory")),
     }
 }
 
-fn asks(client: &mut Client, alloc: Global, row: &str) -> Result<(), Missed> {
-    let Some((question, answer)) = row.split_once(" -> ") else {
+fn asks(client: &mut Client, alloc: Global, cells: &str) -> Result<(), Missed> {
+    let Some((question, answer)) = row(cells) else {
         return Err(UNREAD);
     };
     says(client, alloc, question)?;
@@ -118,12 +109,10 @@ fn talks(client: &mut Client, alloc: Global, word: &str, rest: &str) -> Option<R
     }
 }
 
-// Makes a step in which a client waits; `None` for any other step.
+// Makes a step in which a client waits, or clears the device; `None` for any other step.
 fn listens(client: &mut Client, word: &str) -> Option<Result<(), Missed>> {
     match word {
         "denied" => Some(client.is_denied()),
-        "silent" => Some(is_silent(&mut client.sync)),
-        "quiet" => Some(is_silent(&mut client.other)),
         "awaits" => Some(client.await_message()),
         "clears" => Some(client.clear()),
         "clearing" => Some(client.begin_clear()),
@@ -133,41 +122,26 @@ fn listens(client: &mut Client, word: &str) -> Option<Result<(), Missed>> {
     }
 }
 
-fn status(client: &mut Client, rest: &str) -> Result<(), Missed> {
+fn polls(client: &mut Client, rest: &str) -> Result<(), Missed> {
     let (control, expected) = parted(rest);
-    match (byte(control), byte(expected)) {
-        (Some(control), Some(expected)) => client.status(control, expected),
-        _ => Err(UNREAD),
-    }
+    client.poll(byte(control)?, byte(expected)?)
 }
 
-fn called(client: &mut Client, rest: &str) -> Result<(), Missed> {
-    match byte(rest) {
-        Some(expected) => client.is_requested(expected),
-        None => Err(UNREAD),
-    }
+fn is_requested(client: &mut Client, rest: &str) -> Result<(), Missed> {
+    client.is_requested(byte(rest)?)
 }
 
-fn wants(client: &mut Client, rest: &str) -> Result<(), Missed> {
-    match number(rest) {
-        Some(timeout) => client.want_lock(timeout),
-        None => Err(UNREAD),
-    }
+fn requests(client: &mut Client, rest: &str) -> Result<(), Missed> {
+    client.request_lock(number(rest)?)
 }
 
 fn expect_response(client: &mut Client, rest: &str) -> Result<(), Missed> {
-    match byte(rest) {
-        Some(control) => client.expect_lock_response(control),
-        None => Err(UNREAD),
-    }
+    client.expect_lock_response(byte(rest)?)
 }
 
-fn counts(client: &mut Client, rest: &str) -> Result<(), Missed> {
+fn lock_info(client: &mut Client, rest: &str) -> Result<(), Missed> {
     let (exclusive, holders) = parted(rest);
-    match (byte(exclusive), number(holders)) {
-        (Some(exclusive), Some(holders)) => client.locks_are(exclusive, holders),
-        _ => Err(UNREAD),
-    }
+    client.lock_info_is(byte(exclusive)?, number(holders)?)
 }
 
 // Makes a step on locks; `None` for any other step.
@@ -175,17 +149,17 @@ fn locks(client: &mut Client, word: &str, rest: &str) -> Option<Result<(), Misse
     match word {
         "shares" => Some(client.share()),
         "locks" => Some(client.lock()),
-        "wants" => Some(wants(client, rest)),
-        "told" => Some(expect_response(client, rest)),
-        "waits" => Some(client.wait_for_lock()),
-        "drops" => Some(client.let_lock_go(client.last)),
-        "counts" => Some(counts(client, rest)),
+        "requests" => Some(requests(client, rest)),
+        "lock-response" => Some(expect_response(client, rest)),
+        "queues" => Some(client.queue_for_lock()),
+        "drops" => Some(client.request_release(client.last)),
+        "lock-info" => Some(lock_info(client, rest)),
         _ => None,
     }
 }
 
 fn releases(client: &mut Client, rest: &str) -> Result<(), Missed> {
-    client.let_lock_go(client.last)?;
+    client.request_release(client.last)?;
     expect_response(client, rest)
 }
 
@@ -197,19 +171,19 @@ fn ends(client: &mut Client) -> Result<(), Missed> {
 // Makes a step on a client's status or connections.
 fn exchanges(client: &mut Client, alloc: Global, word: &str, rest: &str) -> Result<(), Missed> {
     match word {
-        "status" => status(client, rest),
-        "called" => called(client, rest),
+        "polls" => polls(client, rest),
+        "srq" => is_requested(client, rest),
         "releases" => releases(client, rest),
-        "puts" => sends(&mut client.other, alloc, rest),
-        "takes" => gets(&mut client.other, alloc, rest),
-        "swamps" => floods(&mut client.other, alloc, rest),
         "ends" => ends(client),
-        _ => stream_does(&mut client.sync, alloc, word, rest),
+        _ => match word.strip_prefix("async-") {
+            Some(word) => stream_does(&mut client.other, alloc, word, rest),
+            None => stream_does(&mut client.sync, alloc, word, rest),
+        },
     }
 }
 
 /// Makes a step of a client.
-pub fn client_does(
+pub(crate) fn client_does(
     client: &mut Client,
     alloc: Global,
     word: &str,
@@ -228,11 +202,11 @@ pub fn client_does(
 }
 
 /// Requests the exclusive lock, which is refused when this time is over and not before.
-pub fn fails<R: Clock>(rt: &R, client: &mut Client, timeout: u32) -> Result<(), Missed> {
+pub(crate) fn expires<R: Clock>(rt: &R, client: &mut Client, timeout: u32) -> Result<(), Missed> {
     let Ok(start) = Instant::now(rt) else {
         return Err(Missed::Ground("a clock"));
     };
-    client.want_lock(timeout)?;
+    client.request_lock(timeout)?;
     client.expect_lock_response(0)?;
     let Ok(taken) = start.elapsed(rt) else {
         return Err(Missed::Ground("a clock"));

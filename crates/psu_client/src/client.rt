@@ -1,13 +1,14 @@
-// A client with a session: a synchronous and an asynchronous connection.
+//! A client with a session: a synchronous and an asynchronous connection.
 use crate::missed::{Missed, holds};
-use crate::wire::{bare, comes, header, is_silent, length, next, send, skip, text_comes};
+use crate::wire::{bare, expect_bytes, expect_header, is_silent, length, next, send, skip};
+use psu_tables::header;
 use std::net::TcpStream;
 
 /// The MessageID of the messages that a client sends.
 const MESSAGE: u32 = 0xffff_ff00;
 
 /// The MessageID that means that a client has sent no message yet.
-pub const NO_MESSAGE: u32 = 0xffff_fefe;
+pub(crate) const NO_MESSAGE: u32 = 0xffff_fefe;
 
 /// A client with a session.
 #[derive(Drop)]
@@ -33,7 +34,7 @@ impl Client {
     }
 
     /// Sends a transmission, and reports that the responses before it were delivered.
-    pub fn say_on(&mut self, text: &[u8]) -> Result<(), Missed> {
+    pub(crate) fn say_on(&mut self, text: &[u8]) -> Result<(), Missed> {
         self.last = MESSAGE;
         send(&mut self.sync, &header(7, 1, MESSAGE, text.len() as u64))?;
         send(&mut self.sync, text)
@@ -41,8 +42,8 @@ impl Client {
 
     /// Reads this response, in one DataEnd.
     pub fn hear(&mut self, text: &[u8]) -> Result<(), Missed> {
-        comes(&mut self.sync, header(7, 0, MESSAGE, text.len() as u64))?;
-        text_comes(&mut self.sync, text)
+        expect_header(&mut self.sync, header(7, 0, MESSAGE, text.len() as u64))?;
+        expect_bytes(&mut self.sync, text)
     }
 
     /// Sends a query and reads this response.
@@ -73,70 +74,70 @@ impl Client {
     }
 
     /// Sends a frame on the asynchronous connection and reads this answer.
-    pub fn exchange(&mut self, question: [u8; 16], answer: [u8; 16]) -> Result<(), Missed> {
+    pub(crate) fn exchange(&mut self, question: [u8; 16], answer: [u8; 16]) -> Result<(), Missed> {
         send(&mut self.other, &question)?;
-        comes(&mut self.other, answer)
+        expect_header(&mut self.other, answer)
     }
 
     /// Queries the status byte, which must be this; `control` reports whether the responses that were sent are
     /// delivered.
-    pub fn status(&mut self, control: u8, byte: u8) -> Result<(), Missed> {
+    pub fn poll(&mut self, control: u8, byte: u8) -> Result<(), Missed> {
         self.exchange(bare(21, control), bare(22, byte))
     }
 
     /// Reads a service request with this status byte.
     pub fn is_requested(&mut self, byte: u8) -> Result<(), Missed> {
-        comes(&mut self.other, bare(20, byte))
+        expect_header(&mut self.other, bare(20, byte))
     }
 
     /// Requests the exclusive lock, with a timeout in milliseconds.
-    pub fn want_lock(&mut self, timeout: u32) -> Result<(), Missed> {
+    pub fn request_lock(&mut self, timeout: u32) -> Result<(), Missed> {
         send(&mut self.other, &header(4, 1, timeout, 0))
     }
 
     /// Reads the answer to a lock request or to a release.
     pub fn expect_lock_response(&mut self, control: u8) -> Result<(), Missed> {
-        comes(&mut self.other, bare(5, control))
+        expect_header(&mut self.other, bare(5, control))
     }
 
     /// Requests the exclusive lock, which another client has; no answer comes.
-    pub fn wait_for_lock(&mut self) -> Result<(), Missed> {
-        self.want_lock(60_000)?;
+    pub(crate) fn queue_for_lock(&mut self) -> Result<(), Missed> {
+        self.request_lock(60_000)?;
         is_silent(&mut self.other)
     }
 
     /// Takes the shared lock by the name `k`.
-    pub fn share(&mut self) -> Result<(), Missed> {
+    pub(crate) fn share(&mut self) -> Result<(), Missed> {
         send(&mut self.other, &header(4, 1, 0, 1))?;
         send(&mut self.other, b"k")?;
         self.expect_lock_response(1)
     }
 
     /// Sends a query that a lock holds back; no answer comes.
-    pub fn is_denied(&mut self) -> Result<(), Missed> {
+    pub(crate) fn is_denied(&mut self) -> Result<(), Missed> {
         self.say(b"*IDN?\n")?;
         is_silent(&mut self.sync)
     }
 
     /// Takes the exclusive lock, which no client has.
     pub fn lock(&mut self) -> Result<(), Missed> {
-        self.want_lock(0)?;
+        self.request_lock(0)?;
         self.expect_lock_response(1)
     }
 
     /// Requests the release of a lock, after the message of this number.
-    pub fn let_lock_go(&mut self, number: u32) -> Result<(), Missed> {
+    pub fn request_release(&mut self, number: u32) -> Result<(), Missed> {
         send(&mut self.other, &header(4, 0, number, 0))
     }
 
     /// Releases a lock; the answer is 1 for the exclusive one, 2 for the shared one, 3 where none was held.
     pub fn release(&mut self, control: u8) -> Result<(), Missed> {
-        self.let_lock_go(self.last)?;
+        self.request_release(self.last)?;
         self.expect_lock_response(control)
     }
 
     /// Queries the locks: whether the exclusive lock is held, and how many clients hold one.
-    pub fn locks_are(&mut self, exclusive: u8, holders: u32) -> Result<(), Missed> {
+    pub(crate) fn lock_info_is(&mut self, exclusive: u8, holders: u32) -> Result<(), Missed> {
         self.exchange(bare(24, 0), header(25, exclusive, holders, 0))
     }
 
@@ -148,7 +149,7 @@ impl Client {
     /// Ends a device clear: nothing is received before it is acknowledged.
     pub fn end_clear(&mut self) -> Result<(), Missed> {
         send(&mut self.sync, &bare(8, 0))?;
-        comes(&mut self.sync, bare(9, 0))
+        expect_header(&mut self.sync, bare(9, 0))
     }
 
     /// Ends a device clear: a response from before it may be on its way.
@@ -160,7 +161,7 @@ impl Client {
         }
         holds(got[2] == 7, "an answer")?;
         skip(&mut self.sync, length(&got))?;
-        comes(&mut self.sync, bare(9, 0))
+        expect_header(&mut self.sync, bare(9, 0))
     }
 
     /// Clears the device for this session.
@@ -174,7 +175,7 @@ impl Client {
         for _ in 0..1_000_000u32 {
             send(&mut self.other, &bare(21, 0))?;
             let got = next(&mut self.other)?;
-            holds(got[2] == 22 && length(&got) == 0, "a status is told")?;
+            holds(got[2] == 22 && length(&got) == 0, "a status response")?;
             if got[3] & 16 != 0 {
                 return Ok(());
             }

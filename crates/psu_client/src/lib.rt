@@ -12,7 +12,8 @@ mod wire;
 
 pub use client::Client;
 pub use joining::{begun, connected, joined_again, joined_as, joined_soon, settle};
-pub use long_answer::{ask_much, is_drained, repeated};
+pub use long_answer::repeated;
 pub use missed::{Missed, holds};
+pub use psu_tables::header;
 pub use script::Cast;
-pub use wire::{bare, comes, header, is_ended, is_held_back, is_silent, next, send, text_comes};
+pub use wire::{bare, expect_header, is_ended, is_silent, next, send};

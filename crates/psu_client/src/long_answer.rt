@@ -1,4 +1,4 @@
-// A response that is longer than the buffers of the connections.
+//! A response that is longer than the buffers of the connections.
 use crate::client::Client;
 use crate::missed::{Missed, holds};
 use crate::wire::{bare, length, next, send, skip};
@@ -21,7 +21,7 @@ fn file(alloc: Global) -> Result<Vec<u8>, AllocError> {
 }
 
 /// Makes a file of 32,768 bytes and queries it 4,096 times in one message: 134 million bytes.
-pub fn ask_much(client: &mut Client, alloc: Global) -> Result<(), Missed> {
+pub(crate) fn ask_much(client: &mut Client, alloc: Global) -> Result<(), Missed> {
     let Ok(file) = file(alloc) else {
         return Err(Missed::Ground("memory"));
     };
@@ -44,7 +44,7 @@ fn is_acknowledged(client: &mut Client, got: [u8; 16]) -> Result<bool, Missed> {
 }
 
 /// Ends a clear; at most half of the response comes before the acknowledgement, in parts that were on their way.
-pub fn is_drained(client: &mut Client) -> Result<(), Missed> {
+pub(crate) fn is_drained(client: &mut Client) -> Result<(), Missed> {
     send(&mut client.sync, &bare(8, 0))?;
     for _ in 0..1_024u32 {
         let got = next(&mut client.sync)?;

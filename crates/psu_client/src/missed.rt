@@ -1,4 +1,4 @@
-// Why a step failed.
+//! Why a step failed.
 
 /// Why a step failed: what a client expected and did not receive.
 #[derive(Clone, Copy, Debug, PartialEq, Eq)]

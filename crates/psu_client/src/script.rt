@@ -1,39 +1,40 @@
-// Scripts of what clients do with a server, and of the results: one step a line. A text costs a proof far less than one
-// call a step, and reads as a sequence of events. In a message or a response `{x*64}` means 64 x.
-//
-// | step | means |
-// |---|---|
-// | `1 joins`, `1 rejoins` | a client opens session 1, at once or once the number is free |
-// | `1 leaves` | it ends both of its connections |
-// | `1 says *SRE?`, `1 hears 0` | it sends a transmission, reads a response; `\n` is NL, omitted at a response's end |
-// | `1 continues *SRE?` | it sends a transmission that reports the responses before it as delivered |
-// | `1 asks *SRE? -> 0` | it sends a query and reads the response |
-// | `1 named`, `1 works` | it queries the device's name and reads it, once or a hundred times |
-// | `1 fills` | it saves as often as changes may be unflushed |
-// | `1 denied` | it queries the name, and nothing is received |
-// | `1 silent`, `1 quiet` | nothing is received on its synchronous connection, on its asynchronous one |
-// | `1 status 0 60`, `1 status 1 00` | its status byte; the responses sent are delivered where the first is 1 |
-// | `1 called 60` | it receives a service request |
-// | `1 awaits` | it queries its status until a message is available |
-// | `1 shares`, `1 locks` | it requests the shared lock, the exclusive one, and is granted it |
-// | `1 wants 300`, `1 told 1` | it requests the exclusive lock with a timeout in milliseconds; the answer |
-// | `1 waits` | it requests the exclusive lock, and nothing is received |
-// | `1 fails 300` | it requests the exclusive lock, which is refused, and not before that time |
-// | `1 drops`, `1 releases 1` | it requests the release of a lock, without and with the answer |
-// | `1 counts 1 2` | whether the exclusive lock is held, and how many clients hold a lock |
-// | `1 clears`, `1 clearing`, `1 cleared` | a device clear: the whole, its beginning, its end |
-// | `1 much`, `1 drained` | it queries 134 million bytes; a clear ends after some of them |
-// | `1 sends 48 53 'HS`, `1 gets 07*2` | bytes on its synchronous connection, as tables spell them |
-// | `1 puts 48 53`, `1 takes 48 53` | bytes on its asynchronous connection |
-// | `1 floods 2 48 53`, `1 swamps 2 48 53` | bytes, twice each time, on either connection until no more are accepted |
-// | `1 ends` | both of its connections are ended |
-// | `a connects`, `a begins` | a connection, plain or of a session that is not joined |
-// | `a sends 48 53`, `a gets 48 53`, `a silent`, `a ends` | these steps on that connection |
-// | `pause`, `rest 700` | wait until the effects so far have settled; wait this many milliseconds |
-use crate::actions::{UNREAD, client_does, fails, number, parted, stream_does};
+//! Scripts of what clients do with a server, and of the results: one step a line. A text costs a proof far less than one
+//! call a step, and reads as a sequence of events. In a message or a response `{x*64}` means 64 x.
+//!
+//! | step | means |
+//! |---|---|
+//! | `1 joins`, `1 rejoins` | a client opens session 1, at once or once the number is free |
+//! | `1 leaves` | it ends both of its connections |
+//! | `1 says *SRE?`, `1 hears 0` | it sends a transmission, reads a response; `\n` is NL, omitted at a response's end |
+//! | `1 continues *SRE?` | it sends a transmission that reports the responses before it as delivered |
+//! | `1 asks *SRE? -> 0` | it sends a query and reads the response |
+//! | `1 named`, `1 works` | it queries the device's name and reads it, once or a hundred times |
+//! | `1 fills` | it saves as often as changes may be unflushed |
+//! | `1 denied` | it queries the name, and nothing is received |
+//! | `1 polls 0 60`, `1 polls 1 00` | its status byte; the responses sent are delivered where the first is 1 |
+//! | `1 srq 60` | it receives a service request with this status byte |
+//! | `1 awaits` | it queries its status until a message is available |
+//! | `1 shares`, `1 locks` | it requests the shared lock, the exclusive one, and is granted it |
+//! | `1 requests 300`, `1 lock-response 1` | it requests the exclusive lock with a timeout in milliseconds; the response |
+//! | `1 queues` | it requests the exclusive lock, and nothing is received |
+//! | `1 expires 300` | it requests the exclusive lock, which is refused, and not before that time |
+//! | `1 drops`, `1 releases 1` | it requests the release of a lock, without and with the response |
+//! | `1 lock-info 1 2` | whether the exclusive lock is held, and how many clients hold a lock |
+//! | `1 clears`, `1 clearing`, `1 cleared` | a device clear: the whole, its beginning, its end |
+//! | `1 much`, `1 drained` | it queries 134 million bytes; a clear ends after some of them |
+//! | `1 sends 48 53 'HS`, `1 gets 07*2` | bytes on its synchronous connection, as tables spell them |
+//! | `1 floods 2 48 53` | bytes, twice each time, until no more are accepted |
+//! | `1 silent` | nothing is received for a fifth of a second |
+//! | `1 async-sends 48 53` | `async-` before one of the last four: the same on its asynchronous connection |
+//! | `1 ends` | both of its connections are ended |
+//! | `a connects`, `a begins` | a connection, plain or of a session that is not joined |
+//! | `a sends 48 53`, `a gets 48 53`, `a silent`, `a ends` | these steps on that connection |
+//! | `pause`, `sleep 700` | wait until the effects so far have settled, 300 milliseconds; wait this many milliseconds |
+use crate::actions::{UNREAD, client_does, expires, number, stream_does};
 use crate::client::Client;
 use crate::joining::{begun, connected, joined_again, joined_as, settle};
 use crate::missed::Missed;
+use psu_tables::parted;
 use std::alloc::Global;
 use std::net::{Net, TcpStream};
 use std::thread;
@@ -57,14 +58,10 @@ pub struct Cast<R: Drop> {
 }
 
 // Waits this many milliseconds.
-fn rests<R: Clock>(rt: &R, milliseconds: &str) -> Result<(), Missed> {
-    match number(milliseconds) {
-        Some(count) => {
-            thread::sleep(rt, Duration::from_millis(u64::from(count)));
-            Ok(())
-        }
-        None => Err(UNREAD),
-    }
+fn sleeps<R: Clock>(rt: &R, milliseconds: &str) -> Result<(), Missed> {
+    let count = u64::from(number(milliseconds)?);
+    thread::sleep(rt, Duration::from_millis(count));
+    Ok(())
 }
 
 impl<R: Net<Stream = TcpStream> + Clock + Copy> Cast<R> {
@@ -87,6 +84,17 @@ impl<R: Net<Stream = TcpStream> + Clock + Copy> Cast<R> {
             }
         }
         None
+    }
+
+    // Returns the client with this number.
+    fn client(&mut self, number: u8) -> Result<&mut Client, Missed> {
+        let Some(at) = self.place(number) else {
+            return Err(UNREAD);
+        };
+        match self.clients.get_mut(at) {
+            Some(client) => Ok(client),
+            None => Err(UNREAD),
+        }
     }
 
     // Returns the place of the connection with this letter.
@@ -126,25 +134,15 @@ impl<R: Net<Stream = TcpStream> + Clock + Copy> Cast<R> {
         }
     }
 
-    fn fails(&mut self, session: u8, rest: &str) -> Result<(), Missed> {
-        let (Some(timeout), Some(at)) = (number(rest), self.place(session)) else {
-            return Err(UNREAD);
-        };
-        match self.clients.get_mut(at) {
-            Some(client) => fails(&self.rt, client, timeout),
-            None => Err(UNREAD),
-        }
+    fn expires(&mut self, session: u8, rest: &str) -> Result<(), Missed> {
+        let rt = self.rt;
+        expires(&rt, self.client(session)?, number(rest)?)
     }
 
     // Makes a step of the client with this number.
     fn acts(&mut self, number: u8, word: &str, rest: &str) -> Result<(), Missed> {
-        let Some(at) = self.place(number) else {
-            return Err(UNREAD);
-        };
-        match self.clients.get_mut(at) {
-            Some(client) => client_does(client, self.alloc, word, rest),
-            None => Err(UNREAD),
-        }
+        let alloc = self.alloc;
+        client_does(self.client(number)?, alloc, word, rest)
     }
 
     fn session_does(&mut self, session: u8, word: &str, rest: &str) -> Result<(), Missed> {
@@ -152,7 +150,7 @@ impl<R: Net<Stream = TcpStream> + Clock + Copy> Cast<R> {
             "joins" => self.joins(session),
             "rejoins" => self.rejoins(session),
             "leaves" => self.leaves(session),
-            "fails" => self.fails(session, rest),
+            "expires" => self.expires(session, rest),
             _ => self.acts(session, word, rest),
         }
     }
@@ -203,8 +201,8 @@ impl<R: Net<Stream = TcpStream> + Clock + Copy> Cast<R> {
             return Ok(());
         }
         let (who, action) = parted(step);
-        if who == "rest" {
-            return rests(&self.rt, action);
+        if who == "sleep" {
+            return sleeps(&self.rt, action);
         }
         let (word, rest) = parted(action);
         match who.parse::<u8>() {

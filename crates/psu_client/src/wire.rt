@@ -1,5 +1,6 @@
-// Frames on a connection, as a client sends and reads them.
+//! Frames on a connection, as a client sends and reads them.
 use crate::missed::{Missed, holds};
+use psu_tables::header;
 use std::io::{self, ErrorKind, Read, Write};
 use std::net::TcpStream;
 use std::time::Duration;
@@ -7,35 +8,26 @@ use std::time::Duration;
 /// How long a client waits for a read, in milliseconds.
 const PATIENCE: u64 = 10_000;
 
-/// Returns the header of a frame: its type, control code, parameter, and the length of its payload.
-pub fn header(kind: u8, control: u8, parameter: u32, length: u64) -> [u8; 16] {
-    let [p, q, r, s] = parameter.to_be_bytes();
-    let [a, b, c, d, e, f, g, h] = length.to_be_bytes();
-    [
-        0x48, 0x53, kind, control, p, q, r, s, a, b, c, d, e, f, g, h,
-    ]
-}
-
 /// Returns a frame that has only a type and a control code.
 pub fn bare(kind: u8, control: u8) -> [u8; 16] {
     header(kind, control, 0, 0)
 }
 
 /// Returns the length of the payload after a header.
-pub fn length(header: &[u8; 16]) -> u64 {
+pub(crate) fn length(header: &[u8; 16]) -> u64 {
     let [_, _, _, _, _, _, _, _, a, b, c, d, e, f, g, h] = *header;
     u64::from_be_bytes([a, b, c, d, e, f, g, h])
 }
 
 /// Limits each read from now on to this many milliseconds.
-pub fn wait_at_most(stream: &TcpStream, milliseconds: u64) -> Result<(), Missed> {
+pub(crate) fn wait_at_most(stream: &TcpStream, milliseconds: u64) -> Result<(), Missed> {
     stream
         .set_read_timeout(Some(Duration::from_millis(milliseconds)))
         .map_err(|_| Missed::Ground("a limit for reads"))
 }
 
 /// Limits each read to the time that a client waits.
-pub fn wait(stream: &TcpStream) -> Result<(), Missed> {
+pub(crate) fn wait(stream: &TcpStream) -> Result<(), Missed> {
     wait_at_most(stream, PATIENCE)
 }
 
@@ -54,7 +46,7 @@ pub fn next(stream: &mut TcpStream) -> Result<[u8; 16], Missed> {
 }
 
 /// Reads a header, which must be this one.
-pub fn comes(stream: &mut TcpStream, want: [u8; 16]) -> Result<(), Missed> {
+pub fn expect_header(stream: &mut TcpStream, want: [u8; 16]) -> Result<(), Missed> {
     let got = next(stream)?;
     if got == want {
         Ok(())
@@ -64,7 +56,7 @@ pub fn comes(stream: &mut TcpStream, want: [u8; 16]) -> Result<(), Missed> {
 }
 
 /// Reads bytes, which must be these.
-pub fn text_comes(stream: &mut TcpStream, want: &[u8]) -> Result<(), Missed> {
+pub(crate) fn expect_bytes(stream: &mut TcpStream, want: &[u8]) -> Result<(), Missed> {
     let mut got = [0u8; 1];
     for (at, byte) in want.iter().enumerate() {
         if stream.read_exact(&mut got).is_err() {
@@ -78,7 +70,7 @@ pub fn text_comes(stream: &mut TcpStream, want: &[u8]) -> Result<(), Missed> {
 }
 
 /// Reads this many bytes, whatever they are.
-pub fn skip(stream: &mut TcpStream, count: u64) -> Result<(), Missed> {
+pub(crate) fn skip(stream: &mut TcpStream, count: u64) -> Result<(), Missed> {
     let skipped = io::copy(&mut stream.take(count), &mut io::sink());
     match skipped {
         Ok(skipped) if skipped == count => Ok(()),
@@ -92,7 +84,7 @@ fn is_late(error: &io::Error) -> bool {
 }
 
 /// Sends bytes again and again until they are no longer accepted, while the connection stays open.
-pub fn is_held_back(stream: &mut TcpStream, bytes: &[u8]) -> Result<(), Missed> {
+pub(crate) fn is_held_back(stream: &mut TcpStream, bytes: &[u8]) -> Result<(), Missed> {
     let limit = Some(Duration::from_millis(500));
     if stream.set_write_timeout(limit).is_err() {
         return Err(Missed::Ground("a limit for writes"));
@@ -111,7 +103,7 @@ pub fn is_silent(stream: &mut TcpStream) -> Result<(), Missed> {
     let mut got = [0u8; 1];
     match stream.read(&mut got) {
         Err(error) if is_late(&error) => wait(stream),
-        _ => Err(Missed::Claim("nothing comes")),
+        _ => Err(Missed::Claim("nothing is received")),
     }
 }
 

@@ -1,10 +1,10 @@
 -- Lists of calls on a file, with one more call appended.
 use Rattle.std.proofs.Common.{◌≡◌, ◌+◌, ℕ, true, false, List, [], ◌∷◌, ◌++◌, length, replicate, refl, sym, ap, subst, arith}
 use Rattle.std.proofs.lemmas.List.{length-replicate}
-use Rattle.psu_disk.specs.FileCalls.{FileCall, Calls, AreZeros}
+use Rattle.psu_disk.specs.FileCalls.{FileCall, AreFileCalls, AreZeros}
 
 -- one more call, after others
-pub call_more : {F : Type 0} (made : F → FileCall → F → Type 0) (calls : List FileCall) (call : FileCall) (old mid new : F) → Calls made calls old mid → made mid call new → Calls made (calls ++ call ∷ []) old new
+pub call_more : {F : Type 0} (made : F → FileCall → F → Type 0) (calls : List FileCall) (call : FileCall) (old mid new : F) → AreFileCalls made calls old mid → made mid call new → AreFileCalls made (calls ++ call ∷ []) old new
 call_more made [] call old mid new is was = (new, subst (λ f. made f call new) (sym is) was, refl)
 call_more made (first ∷ calls) call old mid new are was = (are.0, are.1, call_more made calls call are.0 mid new are.2 was)
 

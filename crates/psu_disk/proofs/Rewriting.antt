@@ -4,7 +4,7 @@ use Rattle.std.proofs.lemmas.Bool.{cases_lt}
 use Rattle.std.proofs.lemmas.Bool.Decides.{nat_tests}
 use Rattle.psu_disk.specs.declared.touched.Span.{Span}
 use Rattle.psu_disk.specs.Disk.{DiskState, IsCrashImage, Touches, IsFlagged, IsSynced, is_unsynced}
-use Rattle.psu_disk.specs.Medium.{NoneMore, IsKept, KeepsRange}
+use Rattle.psu_disk.specs.Medium.{NoneMore, CoversUnsynced, KeepsRange}
 use Rattle.psu_disk.specs.Touched.{is_in, is_covered}
 use Rattle.psu_disk.specs.Ranges.{reads_left}
 use Rattle.psu_disk.proofs.Covered.{covered_at, last_in, is_in_bounds}
@@ -57,7 +57,7 @@ pushed_new spans new k is = covered_push spans new k ∙ or_right (is_covered sp
 
 -- what is written is kept, whether or not there is room for its range
 module _ (old new : DiskState) (forgotten forgotten' : ℕ → Bool) (spans : List Span) (span : Span) (full failed : Bool) (at n : ℕ) (low : span.low ≡ at) (high : span.high ≡ at + n)
-    (touches : Touches at n old new) (flagged : IsFlagged at n new) (fewer : NoneMore forgotten forgotten') (kept : IsKept old forgotten spans full failed) where
+    (touches : Touches at n old new) (flagged : IsFlagged at n new) (fewer : NoneMore forgotten forgotten') (kept : CoversUnsynced old forgotten spans full failed) where
   still : (k : ℕ) → is_covered spans k ≡ true → is_unsynced new k ≡ true
   still k is = touches.stays k (kept.flagged k is)
 
@@ -85,23 +85,23 @@ module _ (old new : DiskState) (forgotten forgotten' : ℕ → Bool) (spans : Li
   new_flagged : (k : ℕ) → is_in span k ≡ true → is_unsynced new k ≡ true
   new_flagged k is = let bounds = is_in_bounds span k is in flagged k (omega (arith, bounds.0, low)) (omega (arith, bounds.1, high))
 
-  pub kept_with_room : IsKept new forgotten' (spans ++ span ∷ []) full failed
+  pub kept_with_room : CoversUnsynced new forgotten' (spans ++ span ∷ []) full failed
   kept_with_room = record {
     covers = covers;
     flagged = λ k is. ⊎_elim (still k) (new_flagged k) (pushed_only spans span k is);
     none = none;
   }
 
-  pub kept_without_room : IsKept new forgotten' spans true failed
+  pub kept_without_room : CoversUnsynced new forgotten' spans true failed
   kept_without_room = record {
     covers = λ none k is. absurd cc;
     flagged = still;
     none = none;
   }
 
-  pub kept_written : (spans' : List Span) (full' : Bool) → KeepsRange span spans spans' full full' → IsKept new forgotten' spans' full' failed
-  kept_written spans' full' (inl kept_one) = subst (λ (l : List Span). IsKept new forgotten' l full' failed) (sym kept_one.0) (subst (λ (b : Bool). IsKept new forgotten' (spans ++ span ∷ []) b failed) (sym kept_one.1) kept_with_room)
-  kept_written spans' full' (inr dropped) = subst (λ (l : List Span). IsKept new forgotten' l full' failed) (sym dropped.0) (subst (λ (b : Bool). IsKept new forgotten' spans b failed) (sym dropped.1) kept_without_room)
+  pub kept_written : (spans' : List Span) (full' : Bool) → KeepsRange span spans spans' full full' → CoversUnsynced new forgotten' spans' full' failed
+  kept_written spans' full' (inl kept_one) = subst (λ (l : List Span). CoversUnsynced new forgotten' l full' failed) (sym kept_one.0) (subst (λ (b : Bool). CoversUnsynced new forgotten' (spans ++ span ∷ []) b failed) (sym kept_one.1) kept_with_room)
+  kept_written spans' full' (inr dropped) = subst (λ (l : List Span). CoversUnsynced new forgotten' l full' failed) (sym dropped.0) (subst (λ (b : Bool). CoversUnsynced new forgotten' spans b failed) (sym dropped.1) kept_without_room)
 
 -- each range lies in the disk
 pub pushed_within : (spans : List Span) (span : Span) (size : ℕ) → span.high ≤ size → ((k : ℕ) → is_covered spans k ≡ true → k < size) → (k : ℕ) → is_covered (spans ++ span ∷ []) k ≡ true → k < size

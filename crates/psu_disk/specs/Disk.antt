@@ -1,6 +1,6 @@
 -- A disk as data, the effect of its calls on it, and its possible crash images.
 use Rattle.std.specs.Prelude.{Bool, true, false, slice_index_or, ◌<◌, ◌≡◌, ◌⊎◌, ℕ, ◌+◌, ◌≤◌, ◌^◌, List, ◌++◌, length, take, drop, slice_index, Result, IsOk, IsErr}
-use Rattle.psu_disk.specs.declared.disk_fault.DiskFault.{DiskFault}
+use Rattle.psu_disk.specs.declared.faults.DiskFault.{DiskFault}
 
 -- n bytes from `at` on
 abbrev pub Range : ℕ → ℕ → List ℕ → List ℕ

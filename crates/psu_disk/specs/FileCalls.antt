@@ -31,9 +31,9 @@ pub data PathCall (F : Type 0) : Type 0 where
   Removed : List ℕ → PathCall F
 
 -- these calls were made, in this order and no others
-abbrev pub Calls : {F : Type 0} → (F → FileCall → F → Type 0) → List FileCall → F → F → Type 0
-Calls made [] old new = old ≡ new
-Calls {F} made (call ∷ calls) old new = (next : F) × made old call next × Calls made calls next new
+abbrev pub AreFileCalls : {F : Type 0} → (F → FileCall → F → Type 0) → List FileCall → F → F → Type 0
+AreFileCalls made [] old new = old ≡ new
+AreFileCalls {F} made (call ∷ calls) old new = (next : F) × made old call next × AreFileCalls made calls next new
 
 -- a file is whole: it has this length, and a name by which it is found again
 abbrev pub IsWhole : ℕ → Option FileFacts → Type 0
@@ -46,12 +46,12 @@ LooksWhole made size old whole new = (seen : Option FileFacts) × made old (File
 
 -- A successful sync made the file's data durable, and then saw the file whole.
 abbrev pub IsSync : {F : Type 0} → (F → FileCall → F → Type 0) → ℕ → F → F → Type 0
-IsSync made size old new = (seen : Option FileFacts) × Calls made (FileCall.SyncData true ∷ FileCall.Looked seen ∷ []) old new × IsWhole size seen
+IsSync made size old new = (seen : Option FileFacts) × AreFileCalls made (FileCall.SyncData true ∷ FileCall.Looked seen ∷ []) old new × IsWhole size seen
 
 -- A sync that failed: the file's data was not made durable, or the file was not seen whole after that.
 abbrev pub IsFailedSync : {F : Type 0} → (F → FileCall → F → Type 0) → ℕ → F → F → Type 0
 IsFailedSync made size old new = made old (FileCall.SyncData false) new
-    ⊎ ((seen : Option FileFacts) × Calls made (FileCall.SyncData true ∷ FileCall.Looked seen ∷ []) old new × (IsWhole size seen → ⊥))
+    ⊎ ((seen : Option FileFacts) × AreFileCalls made (FileCall.SyncData true ∷ FileCall.Looked seen ∷ []) old new × (IsWhole size seen → ⊥))
 
 -- no other opening of the file has it locked, or the file system has no locks
 abbrev pub IsFree : LockAnswer → Type 0
@@ -84,7 +84,7 @@ AreZeros at end (call ∷ calls) = ⊥
 
 -- 00 was written into each byte of a file of this length, and then the file was synced
 abbrev pub IsFilled : {F : Type 0} → (F → FileCall → F → Type 0) → ℕ → F → F → Type 0
-IsFilled {F} made size old new = (calls : List FileCall) × (written : F) × Calls made calls old written × AreZeros 0 size calls × made written (FileCall.SyncAll true) new
+IsFilled {F} made size old new = (calls : List FileCall) × (written : F) × AreFileCalls made calls old written × AreZeros 0 size calls × made written (FileCall.SyncAll true) new
 
 -- A new file was created at this path and locked, 00 was written into each byte of it, it was synced, and then the
 -- directory of the path was synced.
@@ -108,7 +108,7 @@ abbrev pub LeavesNoFile : {S F : Type 0} → (S → PathCall F → S → Type 0)
 LeavesNoFile made_path path old new = made_path old (PathCall.NotCreated path) new ⊎ IsCreatedAndRemoved made_path path old new
 
 -- A call leaves what is read, and which of it a power loss may change, as they were.
-pub record Leaves (old new : DiskState) (forgotten forgotten' : ℕ → Bool) : Type 0 where
+pub record LeavesFile (old new : DiskState) (forgotten forgotten' : ℕ → Bool) : Type 0 where
   pub state : new ≡ old
   pub none_more : NoneMore forgotten forgotten'
 
@@ -133,12 +133,12 @@ pub record Syncs (worked : Bool) (old new : DiskState) (forgotten forgotten' : �
 -- The effect of a call on a file of this length that keeps what a successful sync confirmed. No one else truncates or
 -- removes the file, and it can be looked at.
 abbrev pub Keeps : ℕ → FileCall → DiskState → DiskState → (ℕ → Bool) → (ℕ → Bool) → Type 0
-Keeps size (FileCall.ReadAt at bytes worked) old new forgotten forgotten' = (worked ≡ true → bytes ≡ Range at (length bytes) old.bytes) × Leaves old new forgotten forgotten'
+Keeps size (FileCall.ReadAt at bytes worked) old new forgotten forgotten' = (worked ≡ true → bytes ≡ Range at (length bytes) old.bytes) × LeavesFile old new forgotten forgotten'
 Keeps size (FileCall.WriteAt at bytes worked) old new forgotten forgotten' = Writes at bytes worked old new forgotten forgotten'
 Keeps size (FileCall.SyncData worked) old new forgotten forgotten' = Syncs worked old new forgotten forgotten'
 Keeps size (FileCall.SyncAll worked) old new forgotten forgotten' = Syncs worked old new forgotten forgotten'
-Keeps size (FileCall.Looked seen) old new forgotten forgotten' = IsWhole size seen × Leaves old new forgotten forgotten'
-Keeps size (FileCall.TriedLock answer) old new forgotten forgotten' = Leaves old new forgotten forgotten'
+Keeps size (FileCall.Looked seen) old new forgotten forgotten' = IsWhole size seen × LeavesFile old new forgotten forgotten'
+Keeps size (FileCall.TriedLock answer) old new forgotten forgotten' = LeavesFile old new forgotten forgotten'
 
 -- the call succeeded
 abbrev pub Works : ℕ → FileCall → Type 0

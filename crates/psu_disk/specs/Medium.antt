@@ -20,7 +20,7 @@ pub record Settles (old new : DiskState) (forgotten : ℕ → Bool) : Type 0 whe
 -- Unless there was no room for a range, the ranges cover each byte that a power loss may change. A power loss may
 -- change each byte that they cover. Unless `failed` is set, no byte is forgotten: a sync that fails sets it, and only a
 -- successful one clears it.
-pub record IsKept (state : DiskState) (forgotten : ℕ → Bool) (spans : List Span) (full failed : Bool) : Type 0 where
+pub record CoversUnsynced (state : DiskState) (forgotten : ℕ → Bool) (spans : List Span) (full failed : Bool) : Type 0 where
   pub covers : full ≡ false → (k : ℕ) → is_unsynced state k ≡ true → is_covered spans k ≡ true
   pub flagged : (k : ℕ) → is_covered spans k ≡ true → is_unsynced state k ≡ true
   pub none : failed ≡ false → (k : ℕ) → forgotten k ≡ false

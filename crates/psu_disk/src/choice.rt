@@ -1,4 +1,4 @@
-// The choice of what unsynced bytes are after a power loss.
+//! The choice of what unsynced bytes are after a power loss.
 ghost use Rattle.std.specs.Prelude.{◌≡◌};
 ghost use Rattle.psu_disk.specs.Loss.{lost};
 

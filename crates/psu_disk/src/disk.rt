@@ -1,4 +1,4 @@
-// A disk as the layers above see it: the bytes that a read returns, and the possible crash images.
+//! A disk as the layers above see it: the bytes that a read returns, and the possible crash images.
 ghost use Rattle.std.specs.Prelude.{◌≡◌, ◌+◌, ◌≤◌, List, ℕ, length, OnOk, OnErr};
 ghost use Rattle.psu_disk.specs.Disk.{DiskState, IsCrashImage, Range, Holds, SameBut, IsSynced, IsFlagged, Touches, Only, Follows, Elapses, HasCause};
 

@@ -1,10 +1,19 @@
-// A disk that fails after some calls, for tests of what a run that stops midway leaves, and of what one failure does.
+//! A disk that fails after some calls, for tests of what a run that stops midway leaves, and of what one failure does.
 ghost use Rattle.psu_disk.specs.Disk.{IsCrashImage, Range, Holds, SameBut, IsSynced, IsFlagged, Touches, Only, Follows, Elapses, HasCause};
 ghost use Rattle.psu_disk.specs.Failing.{is_failing};
-ghost use Rattle.psu_disk.specs.declared.failing.Failing.TheVariants.{Always, Once};
+ghost use Rattle.psu_disk.specs.declared.failing_disk.Failing.TheVariants.{Always, Once};
 ghost use Rattle.std.specs.Prelude.{◌≡◌, ◌+◌, ◌≤◌, ◌^◌, ◌-◌, ◌↔◌, min, true, false, IsErr, List, ℕ, length, OnOk, OnErr};
 
-use crate::{Disk, DiskFault, Failing};
+use crate::{Disk, DiskFault};
+
+/// Which calls of a failing disk fail, once the calls that it passes on first are used up.
+#[derive(Clone, Copy, Debug, PartialEq, Eq)]
+pub enum Failing {
+    /// The next call, and no other.
+    Once,
+    /// Every call.
+    Always,
+}
 
 /// A disk that passes the first calls on to the disk below it, and then fails one call, or every call, without passing
 /// it on.

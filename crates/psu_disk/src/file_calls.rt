@@ -1,4 +1,4 @@
-// The operating system's calls on an open file, and on paths.
+//! The operating system's calls on an open file, and on paths.
 ghost use Rattle.std.specs.Prelude.{◌≡◌, ◌+◌, ◌≤◌, ℕ, List, Bool, true, length, is_ok};
 ghost use Rattle.psu_disk.specs.Disk.{DiskState, is_unsynced};
 ghost use Rattle.psu_disk.specs.FileCalls.{FileCall, Keeps, Works};

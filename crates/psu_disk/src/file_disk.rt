@@ -1,14 +1,14 @@
-// Disks in files of the system: how one is opened, and how one is created.
+//! Disks in files of the system: how one is opened, and how one is created.
 ghost use Rattle.std.specs.Prelude.{◌≡◌, ◌+◌, ◌≤◌, ◌<◌, ◌-◌, ℕ, List, true, false, length, replicate, IfOk, IfErr, OnOk, OnErr};
-ghost use Rattle.psu_disk.specs.declared.open_fault.OpenFault.TheVariants.{NotOpened};
-ghost use Rattle.psu_disk.specs.FileCalls.{FileCall, PathCall, Calls, AreZeros, IsLocked, IsLockRefused, IsTakenUp, IsOpened, IsFilled, IsMade, MaySyncFolder, LeavesNoFile};
+ghost use Rattle.psu_disk.specs.declared.faults.OpenFault.TheVariants.{NotOpened};
+ghost use Rattle.psu_disk.specs.FileCalls.{FileCall, PathCall, AreFileCalls, AreZeros, IsLocked, IsLockRefused, IsTakenUp, IsOpened, IsFilled, IsMade, MaySyncFolder, LeavesNoFile};
 
 use crate::file_calls::{FileCalls, FileSystem, LockAnswer};
 use crate::{DiskFault, KeptDisk, OpenFault, SystemFile};
 use std::alloc::{AllocError, Allocator};
 
 // The number of bytes of a new file that are written at a time.
-const PIECE: u64 = 4_096;
+const ZEROS_PIECE: u64 = 4_096;
 
 impl<F: FileCalls + Drop, A: Allocator + Drop> KeptDisk<SystemFile<F>, A> {
     /// Opens the disk in the existing file at a path. Its size is the file's, which stays unchanged. The file is locked
@@ -134,13 +134,13 @@ fn make_durable<F: FileCalls, S: FileSystem<F>>(
 // Writes 00 into each byte of a file, in order, so that its space is allocated.
 fn fill<F: FileCalls>(file: &mut F) -> Result<(), DiskFault>
     ensures extent { F.extent file.new ≡ F.extent file.old }
-    ensures zeros { OnOk result ((calls : List FileCall) × Calls F.made calls file.old file.new × AreZeros 0 (F.extent file.old) calls) }
+    ensures zeros { OnOk result ((calls : List FileCall) × AreFileCalls F.made calls file.old file.new × AreZeros 0 (F.extent file.old) calls) }
     ensures known { F.keeps → ((k : ℕ) → F.forgotten file.old k ≡ false) → OnOk result ((k : ℕ) → F.forgotten file.new k ≡ false) }
 {
     let size = file.size();
     let mut at = 0;
     while at < size {
-        let n = (size - at).min(PIECE);
+        let n = (size - at).min(ZEROS_PIECE);
         write_zeros(file, at, n)?;
         at += n;
     }
@@ -155,7 +155,7 @@ fn write_zeros<F: FileCalls>(file: &mut F, at: u64, n: u64) -> Result<(), DiskFa
     ensures made { OnOk result (F.made file.old (FileCall.WriteAt at (replicate n 0) true) file.new) }
     ensures known { F.keeps → ((k : ℕ) → F.forgotten file.old k ≡ false) → (k : ℕ) → F.forgotten file.new k ≡ false }
 {
-    let zeros = [0; PIECE as usize];
+    let zeros = [0; ZEROS_PIECE as usize];
     file.write_at(at, &zeros[..n as usize])?;
     Ok(())
 }

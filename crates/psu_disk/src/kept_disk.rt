@@ -1,8 +1,8 @@
-// A disk over a medium that may forget bytes at a failed sync. It keeps the ranges written since the last successful
-// sync. After a failed sync it writes their bytes again, as they read, before the next sync.
+//! A disk over a medium that may forget bytes at a failed sync. It keeps the ranges written since the last successful
+//! sync. After a failed sync it writes their bytes again, as they read, before the next sync.
 ghost use Rattle.std.specs.Prelude.{◌≡◌, ℕ, ◌+◌, ◌^◌, ◌<◌, ◌≤◌, List, length, true, false, not, is_ok, IfOk, OnOk, OnErr};
 ghost use Rattle.psu_disk.specs.Disk.{IsCrashImage, IsFlagged, IsSynced, Only, Elapses, HasCause, Holds, Range, Touches, SameBut, Follows, is_unsynced};
-ghost use Rattle.psu_disk.specs.Medium.{NoneMore, IsKnown, IsKept};
+ghost use Rattle.psu_disk.specs.Medium.{NoneMore, IsKnown, CoversUnsynced};
 ghost use Rattle.psu_disk.specs.Touched.{is_in, is_covered};
 ghost use Rattle.std.proofs.Props.{props};
 
@@ -12,7 +12,7 @@ use crate::{Disk, DiskFault, Medium};
 use std::alloc::{AllocError, Allocator};
 
 // The number of bytes that are written again at a time.
-const PIECE: usize = 512;
+const REWRITE_PIECE: usize = 512;
 
 /// A disk over a medium. Its memory is allocated when it is created: no call allocates.
 #[derive(Drop)]
@@ -21,7 +21,7 @@ pub struct KeptDisk<M: Medium, A: Allocator> {
     written: Written<A>,
     failed: bool,
     faults: u64,
-    ghost kept: { M.honest → IsKept (M.state medium) (M.forgotten medium) (written.spans.items) written.full failed } by { Prim.hlevel props },
+    ghost kept: { M.honest → CoversUnsynced (M.state medium) (M.forgotten medium) (written.spans.items) written.full failed } by { Prim.hlevel props },
     ghost within: { (k : ℕ) → is_covered (written.spans.items) k ≡ true → k < M.extent medium },
     ghost small: { M.extent medium < 2 ^ 64 },
 }
@@ -147,8 +147,8 @@ fn write_span<M: Medium>(medium: &mut M, span: Span) -> Result<(), DiskFault>
 {
     let mut at = span.low;
     while at < span.high {
-        let n = (span.high - at).min(PIECE);
-        let mut piece = [0; PIECE];
+        let n = (span.high - at).min(REWRITE_PIECE);
+        let mut piece = [0; REWRITE_PIECE];
         write_piece(medium, at as u64, &mut piece[..n])?;
         at += n;
     }

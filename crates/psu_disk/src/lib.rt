@@ -3,15 +3,13 @@
 
 mod choice;
 mod disk;
-mod disk_fault;
-mod failing;
 mod failing_disk;
+mod faults;
 mod file_calls;
 mod file_disk;
 mod kept_disk;
 mod medium;
 mod memory;
-mod open_fault;
 mod os_file;
 mod recording_disk;
 mod system_file;
@@ -20,14 +18,12 @@ mod written;
 
 pub use choice::Choice;
 pub use disk::Disk;
-pub use disk_fault::DiskFault;
-pub use failing::Failing;
-pub use failing_disk::FailingDisk;
+pub use failing_disk::{Failing, FailingDisk};
+pub use faults::{DiskFault, OpenFault};
 pub use file_calls::{FileCalls, FileFacts, FileSystem, LockAnswer};
 pub use kept_disk::KeptDisk;
 pub use medium::Medium;
 pub use memory::MemDisk;
-pub use open_fault::OpenFault;
 pub use os_file::{FileDisk, OsFile, OsFiles};
 pub use recording_disk::RecordingDisk;
 pub use system_file::SystemFile;

@@ -1,4 +1,4 @@
-// What a disk is built on: a file as an operating system with a page cache keeps it.
+//! What a disk is built on: a file as an operating system with a page cache keeps it.
 ghost use Rattle.std.specs.Prelude.{◌≡◌, ◌+◌, ◌≤◌, List, ℕ, Bool, true, length, OnOk, OnErr};
 ghost use Rattle.psu_disk.specs.Disk.{DiskState, IsCrashImage, Range, Holds, IsFlagged, Touches, Elapses, is_unsynced};
 ghost use Rattle.psu_disk.specs.Medium.{NoneMore, IsKnown, Settles};

@@ -1,5 +1,5 @@
-// A disk in memory. It keeps the bytes that a read returns, the bytes that the last sync made durable, and a mark for
-// each unsynced byte.
+//! A disk in memory. It keeps the bytes that a read returns, the bytes that the last sync made durable, and a mark for
+//! each unsynced byte.
 ghost use Rattle.std.specs.Prelude.{◌≡◌, ℕ, ◌+◌, ◌<◌, ◌≤◌, List, length, replicate, IsTrue, true, false, slice_index, slice_index_or, IfOk, IsOk, OnOk, OnErr};
 ghost use Rattle.psu_disk.specs.Disk.{IsCrashImage, Range, Holds, SameBut, IsSynced, IsFlagged, Touches, Only, Follows, HasCause};
 ghost use Rattle.psu_disk.specs.Loss.{lost};

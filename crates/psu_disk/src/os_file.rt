@@ -1,9 +1,9 @@
-// The files of the operating system. This is trusted and not proved: that each method makes the calls that it is named
-// for, and that the system does what POSIX says about them.
+//! The files of the operating system. This is trusted and not proved: that each method makes the calls that it is named
+//! for, and that the system does what POSIX says about them.
 ghost use Rattle.std.specs.Prelude.{◌≡◌, ◌⊎◌, ◌↔◌, IfOk};
 ghost use Rattle.std.specs.IoError.{error_kind};
 ghost use Rattle.psu_disk.specs.declared.file_calls.LockAnswer.TheVariants.{NoLocks, Failed};
-ghost use Rattle.psu_disk.specs.declared.open_fault.OpenFault.TheVariants.{Memory};
+ghost use Rattle.psu_disk.specs.declared.faults.OpenFault.TheVariants.{Memory};
 
 use crate::file_calls::{FileCalls, FileFacts, FileSystem, LockAnswer};
 use crate::{DiskFault, KeptDisk, OpenFault, SystemFile};

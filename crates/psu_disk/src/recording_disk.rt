@@ -1,4 +1,4 @@
-// A disk in memory that keeps its state at each past moment, so that every clause on moments holds for it.
+//! A disk in memory that keeps its state at each past moment, so that every clause on moments holds for it.
 ghost use Rattle.std.specs.Prelude.{◌≡◌, ◌∷◌, ◌++◌, [], false, length, replicate, IfOk, OnOk, OnErr};
 ghost use Rattle.psu_disk.specs.Memory.{memory};
 

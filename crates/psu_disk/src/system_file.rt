@@ -1,4 +1,4 @@
-// A file of the system as a medium.
+//! A file of the system as a medium.
 ghost use Rattle.std.specs.Prelude.{◌≡◌, ◌+◌, ◌≤◌, length, is_ok, OnOk, OnErr};
 ghost use Rattle.psu_disk.specs.Disk.{Range, Holds, IsFlagged, Touches};
 ghost use Rattle.psu_disk.specs.Medium.{NoneMore, IsKnown, Settles};

@@ -1,4 +1,4 @@
-// The ranges written since the last sync, covered by a fixed number of spans.
+//! The ranges written since the last sync, covered by a fixed number of spans.
 ghost use Rattle.std.specs.Prelude.{◌≡◌, ℕ, ◌<◌, ◌≤◌, true, false, length};
 ghost use Rattle.psu_disk.specs.declared.touched.TheConstants.{SPANS};
 

@@ -1,4 +1,4 @@
-// The ranges written since the last successful sync, up to a maximum number of them.
+//! The ranges written since the last successful sync, up to a maximum number of them.
 ghost use Rattle.std.specs.Prelude.{◌≡◌, ◌<◌, ◌≤◌, ◌∷◌, ◌++◌, [], length, false, true, vec_capacity, IfOk};
 ghost use Rattle.psu_disk.specs.Medium.{KeepsRange};
 
@@ -6,7 +6,7 @@ use crate::touched::Span;
 use std::alloc::{AllocError, Allocator};
 
 // The maximum number of ranges that are kept: more than a commit writes.
-const ROOM: usize = 1024;
+const RANGES_MOST: usize = 1024;
 
 // The spans that are kept. If it is full, there were others.
 #[derive(Drop)]
@@ -23,7 +23,7 @@ impl<A: Allocator> Written<A> {
         ensures full { IfOk result (λ written. written.full ≡ true) }
     {
         Ok(Written {
-            spans: Vec::with_capacity(alloc, ROOM)?,
+            spans: Vec::with_capacity(alloc, RANGES_MOST)?,
             full: true,
         })
     }
@@ -33,7 +33,7 @@ impl<A: Allocator> Written<A> {
         ensures keeps { KeepsRange span self.old.spans.items self.new.spans.items self.old.full self.new.full }
         ensures room { length self.old.spans.items < 1024 → (self.new.spans.items ≡ self.old.spans.items ++ span ∷ []) × (self.new.full ≡ self.old.full) }
     {
-        if self.spans.len() < ROOM {
+        if self.spans.len() < RANGES_MOST {
             self.spans.push_reserved(span);
         } else {
             self.full = true;

@@ -4,7 +4,7 @@ use std::alloc::Allocator;
 
 /// The place of a reader in the guide.
 #[derive(Drop)]
-pub enum Place<A: Allocator + Copy> {
+pub(crate) enum Place<A: Allocator + Copy> {
     /// In the text.
     Text,
     /// In a block that is not an example.

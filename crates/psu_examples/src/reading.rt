@@ -18,7 +18,7 @@ const EXAMPLE: &[u8] = b"```scpi";
 
 /// What was read of a guide: the examples that have ended, and the one that has begun.
 #[derive(Drop)]
-pub struct Reading<A: Allocator + Copy> {
+pub(crate) struct Reading<A: Allocator + Copy> {
     alloc: A,
     pub ended: Vec<Example<A>, A>,
     pub place: Place<A>,

@@ -1,11 +1,11 @@
-// Device clears: what they discard, and that nothing from before a clear follows it.
+//! Device clears: what they discard, and that nothing from before a clear follows it.
 use psu_client::{Client, Missed, joined_as};
 use psu_hosts::{Mismatch, new_served, plays};
 use psu_server::Open;
 
 const CLEARS: &str = "
 # What is sent between the two messages of a clear is not executed, and what follows is.
-== lost_in_a_clear.image 48841
+== lost_in_a_clear.image
 1 joins
 1 clearing
 1 sends 'HS 07 00 ff*3 00*8 0c 'VOLT 20 '5;*IDN?
@@ -13,19 +13,19 @@ const CLEARS: &str = "
 1 asks VOLT? -> 0.000
 
 # The confirmation that was waited for never comes; the save is kept, and a later wait is answered.
-== clear_of_a_wait.image 48843 run
+== clear_of_a_wait.image run
 1 joins
 1 says *SAV 1;*OPC?
 1 silent
 flusher held
 1 clears
 1 named
-flusher goes
+flusher released
 1 asks *OPC? -> 1
 1 silent
 
-# A save that waits for room is dropped, and so is what stands behind it.
-== clear_of_a_late_unit.image 48845 run
+# A save that waits for room is dropped, and so is what follows it.
+== clear_of_a_late_unit.image run
 1 joins
 1 fills
 1 says *SAV 2;*SRE?
@@ -34,12 +34,12 @@ flusher goes
 flusher held
 1 clears
 1 named
-flusher goes
+flusher released
 1 asks *OPC? -> 1
 1 silent
 
 # What a lock holds back is dropped; what follows the clear is held back again.
-== clear_of_a_held_unit.image 48847
+== clear_of_a_held_unit.image
 1 joins
 2 joins
 2 locks
@@ -51,8 +51,8 @@ flusher goes
 2 releases 1
 1 hears 0.000
 
-# The end of a clear that no clear waits for is acknowledged; a clear that begins behind it has ended at once.
-== early_end.image 48887
+# The end of a clear that no clear waits for is acknowledged; a clear that begins after it has ended at once.
+== early_end.image
 1 joins
 1 cleared
 1 clearing
@@ -67,7 +67,7 @@ fn a_clear_drops_what_waits(rt: HostRuntime) -> Result<(), Mismatch> {
 
 const CUT: &str = "
 # The clear begins while the answer is not read; it is cut off, and nothing of it comes once the clear has ended.
-== clear_of_an_answer.image 48849
+== clear_of_an_answer.image
 1 joins
 1 much
 1 awaits
@@ -77,7 +77,7 @@ pause
 1 named
 
 # The same where the answer waited for a lock, so that another thread sends it.
-== clear_of_a_late_answer.image 48911
+== clear_of_a_late_answer.image
 1 joins
 2 joins
 2 locks
@@ -108,7 +108,7 @@ fn many_clears(client: &mut Client) -> Result<(), Missed> {
 // A response from before a clear may be on its way.
 #[test]
 fn clears_follow_questions(rt: HostRuntime) -> Result<(), Missed> {
-    let port = new_served(rt, rt.alloc(), "many_clears.image", 48_949, Open)?;
+    let port = new_served(rt, rt.alloc(), "many_clears.image", Open)?;
     let mut one = joined_as(&rt, port, 1)?;
     many_clears(&mut one)?;
     Ok(())

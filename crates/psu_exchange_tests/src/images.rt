@@ -1,4 +1,4 @@
-// The contents of an image: lines that are executed on it, and items that it keeps.
+//! The contents of an image: lines that are executed on it, and items that it keeps.
 use psu_client::Missed;
 use psu_disk::{Disk, FileDisk, MemDisk, OsFiles};
 use psu_items::Store;
@@ -8,7 +8,7 @@ use std::fs::{self, File};
 use std::rt::Files;
 
 /// Executes lines on an image, which is then at rest.
-pub fn executed<R: Files<File = File>>(
+pub(crate) fn executed<R: Files<File = File>>(
     rt: &R,
     alloc: Global,
     image: &str,
@@ -44,7 +44,7 @@ fn copied<R: Files<File = File> + Alloc<A = Global>>(
 }
 
 /// Checks that a copy of an image opens and has this item.
-pub fn is_kept<R: Files<File = File> + Alloc<A = Global>>(
+pub(crate) fn is_kept<R: Files<File = File> + Alloc<A = Global>>(
     rt: &R,
     image: &str,
     key: &[u8],
@@ -61,7 +61,7 @@ pub fn is_kept<R: Files<File = File> + Alloc<A = Global>>(
 }
 
 /// Checks that this is the report on a copy of an image.
-pub fn is_reported<R: Files<File = File> + Alloc<A = Global>>(
+pub(crate) fn is_reported<R: Files<File = File> + Alloc<A = Global>>(
     rt: &R,
     image: &str,
     report: &str,

@@ -1,7 +1,5 @@
 //! Tests over sockets of the responses to a session: frames, transmissions, device clears, long responses, and stores
 //! that fail. Expected frames are worked by hand from the profile of the protocol.
-//!
-//! Ports are odd: the system assigns even ones to clients, so no client's port conflicts with a server's.
 #![tactic(auto)]
 
 #[cfg(test)]

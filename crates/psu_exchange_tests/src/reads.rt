@@ -1,26 +1,26 @@
-// The results of a read on a connection.
+//! The results of reads of a connection, as POSIX defines those of `read`. Here, since only threads that read a socket see
+//! them; no test over sockets can interrupt a read.
 use psu_session_io::ReadResult;
 use std::io::{Error, ErrorKind};
-use std::test::Fail;
 
-// A read that was interrupted, as where the server is stopped and continued, or that timed out does not end the
-// connection.
-#[test]
-fn an_interrupted_read_is_no_end(rt: HostRuntime) -> Result<(), Fail> {
-    for kind in [
-        ErrorKind::Interrupted,
-        ErrorKind::WouldBlock,
-        ErrorKind::TimedOut,
-    ] {
-        assert!(rt; ReadResult::of(&Err(Error::from(kind))) == ReadResult::Nothing);
-    }
-    Ok(())
+// Whether a read that fails so has this result.
+fn fails_as(kind: ErrorKind, wanted: ReadResult) -> bool {
+    ReadResult::of(&Err(Error::from(kind))) == wanted
 }
 
+// EINTR, as where the server is stopped and continued, and the two errors of a read whose time is over do not end the
+// connection: the read is made again.
 #[test]
-fn a_read_of_nothing_is_the_end(rt: HostRuntime) -> Result<(), Fail> {
+fn an_interrupted_read_is_no_end(rt: HostRuntime) {
+    assert!(rt; fails_as(ErrorKind::Interrupted, ReadResult::Nothing));
+    assert!(rt; fails_as(ErrorKind::WouldBlock, ReadResult::Nothing));
+    assert!(rt; fails_as(ErrorKind::TimedOut, ReadResult::Nothing));
+}
+
+// A read of no byte is the end of the stream, and so is another error.
+#[test]
+fn a_read_of_nothing_is_the_end(rt: HostRuntime) {
     assert!(rt; ReadResult::of(&Ok(0)) == ReadResult::End);
-    assert!(rt; ReadResult::of(&Err(Error::from(ErrorKind::ConnectionReset))) == ReadResult::End);
+    assert!(rt; fails_as(ErrorKind::ConnectionReset, ReadResult::End));
     assert!(rt; ReadResult::of(&Ok(16)) == ReadResult::Bytes(16));
-    Ok(())
 }

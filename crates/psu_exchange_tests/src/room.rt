@@ -1,4 +1,4 @@
-// Two units wait for room while there is room for one; the other takes the last room that is made.
+//! Two units wait for room while there is room for one; the other takes the last room that is made.
 use psu_client::{Client, Missed, holds, is_silent, joined_as};
 use psu_hosts::new_served;
 use psu_server::{Gate, Point};
@@ -9,7 +9,7 @@ use std::test::Fail;
 use std::thread;
 use std::time::{Clock, Duration};
 
-/// How often a flag is checked, once a millisecond.
+// How often a flag is checked, once a millisecond: not as long as a client waits for a response.
 const LOOKS: u32 = 8_000;
 
 #[derive(Drop)]
@@ -20,7 +20,8 @@ struct State {
 }
 
 /// A gate at which the first job waits until it is released; the second until two units were tried after that. From
-/// then on a unit that was tried is blocked for as long as all jobs take.
+/// then on a unit that was tried is blocked for half a second, in which all jobs mostly end: that makes it likely that
+/// no notice of room follows, and shows nothing by itself. Both units have to be executed in any order.
 #[derive(Drop)]
 struct Rush<R: Drop> {
     rt: R,
@@ -117,7 +118,7 @@ fn fills<R: Clock + Copy>(client: &mut Client, rush: &Rush<R>) -> Result<(), Mis
     Ok(())
 }
 
-fn comes_late(client: &mut Client) -> Result<(), Missed> {
+fn waits_for_room(client: &mut Client) -> Result<(), Missed> {
     client.say(b"*SAV 3")?;
     client.say(b"*SRE?")?;
     is_silent(&mut client.sync)
@@ -127,12 +128,12 @@ fn comes_late(client: &mut Client) -> Result<(), Missed> {
 #[test]
 fn two_saves_wait_for_one_room(rt: HostRuntime) -> Result<(), Fail> {
     let rush = Rush::new(rt, rt.alloc())?;
-    let port = new_served(rt, rt.alloc(), "one_room.image", 48_947, rush.another()?)?;
+    let port = new_served(rt, rt.alloc(), "one_room.image", rush.another()?)?;
     let mut one = joined_as(&rt, port, 1)?;
     let mut two = joined_as(&rt, port, 2)?;
     fills(&mut one, &rush)?;
-    comes_late(&mut one)?;
-    comes_late(&mut two)?;
+    waits_for_room(&mut one)?;
+    waits_for_room(&mut two)?;
     rush.let_go()?;
     one.hear(b"0\n")?;
     two.hear(b"0\n")?;

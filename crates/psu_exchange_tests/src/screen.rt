@@ -1,4 +1,4 @@
-// Standard error, as a test reads it.
+//! Standard error, as a test reads it.
 use psu_client::{Missed, holds};
 use std::alloc::{AllocError, Global};
 use std::fmt::Display;
@@ -8,12 +8,12 @@ use std::sync::{Arc, Mutex, Wait};
 use std::thread;
 use std::time::{Clock, Duration};
 
-/// How often a flag is checked, once a millisecond.
+// How often a flag is checked, once a millisecond.
 const LOOKS: u32 = 20_000;
 
 /// What a server writes on standard error.
 #[derive(Drop)]
-pub struct Screen<R: Drop> {
+pub(crate) struct Screen<R: Drop> {
     rt: R,
     alloc: Global,
     text: Arc<Mutex<String>>,
@@ -21,7 +21,8 @@ pub struct Screen<R: Drop> {
 }
 
 impl<R: Wait + Clock + Copy> Screen<R> {
-    pub fn new(rt: R, alloc: Global) -> Result<Screen<R>, AllocError> {
+    /// Returns standard error with no text yet, which accepts what is written.
+    pub(crate) fn new(rt: R, alloc: Global) -> Result<Screen<R>, AllocError> {
         let text = Arc::new(alloc, Mutex::new(String::new(alloc)))?;
         let is_full = Arc::new(alloc, AtomicBool::new(false))?;
         Ok(Screen {
@@ -33,7 +34,7 @@ impl<R: Wait + Clock + Copy> Screen<R> {
     }
 
     /// Returns another handle to the text, for the server.
-    pub fn another(&self) -> Result<Screen<R>, AllocError> {
+    pub(crate) fn another(&self) -> Result<Screen<R>, AllocError> {
         Ok(Screen {
             rt: self.rt,
             alloc: self.alloc,
@@ -42,8 +43,8 @@ impl<R: Wait + Clock + Copy> Screen<R> {
         })
     }
 
-    /// Makes whoever writes wait from now on, as a full pipe does, or not.
-    pub fn be_full(&self, is_full: bool) {
+    /// Makes each thread that writes wait from now on, as a full pipe does, or not.
+    pub(crate) fn be_full(&self, is_full: bool) {
         self.is_full.store(is_full, Ordering::SeqCst);
     }
 
@@ -52,23 +53,23 @@ impl<R: Wait + Clock + Copy> Screen<R> {
     }
 
     /// The number of lines that were written.
-    pub fn count(&self) -> usize {
+    pub(crate) fn count(&self) -> usize {
         self.text.lock(&self.rt).as_str().lines().count()
     }
 
     /// Checks that this was written among other things.
-    pub fn says(&self, words: &str) -> Result<(), Missed> {
+    pub(crate) fn says(&self, words: &str) -> Result<(), Missed> {
         let is_there = self.text.lock(&self.rt).as_str().contains(words);
         holds(is_there, "these words on standard error")
     }
 
     /// Checks that these lines were written.
-    pub fn shows(&self, lines: &str) -> Result<(), Missed> {
+    pub(crate) fn shows(&self, lines: &str) -> Result<(), Missed> {
         holds(self.is(lines), "these lines on standard error")
     }
 
     /// Waits for at most five seconds until these lines were written.
-    pub fn comes_to_show(&self, lines: &str) -> Result<(), Missed> {
+    pub(crate) fn shows_soon(&self, lines: &str) -> Result<(), Missed> {
         for _ in 0..500u32 {
             if self.is(lines) {
                 return Ok(());

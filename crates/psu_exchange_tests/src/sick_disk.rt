@@ -1,4 +1,4 @@
-// A disk that refuses writes for a time, like one without room: all of them, or all but those of its two roots.
+//! A disk that refuses writes for a time, like one without room: all of them, or all but those of its two roots.
 ghost use Rattle.std.specs.Prelude.{◌≡◌, ◌≤◌};
 ghost use Rattle.psu_disk.specs.Disk.{HasFailed};
 
@@ -7,7 +7,7 @@ use std::alloc::{AllocError, Global};
 use std::sync::Arc;
 use std::sync::atomic::{AtomicBool, AtomicUsize, Ordering};
 
-/// Where the pages of the items begin, behind the two roots.
+/// Where the pages of the items begin, after the two roots.
 const POOL: u64 = 1_024;
 
 #[derive(Drop)]
@@ -21,13 +21,13 @@ struct State {
 
 /// The state of a disk, as a test sets it.
 #[derive(Drop)]
-pub struct Health {
+pub(crate) struct Health {
     state: Arc<State>,
 }
 
 impl Health {
     /// Returns the state of a disk that accepts writes.
-    pub fn new(alloc: Global) -> Result<Health, AllocError> {
+    pub(crate) fn new(alloc: Global) -> Result<Health, AllocError> {
         let state = State {
             of: AtomicUsize::new(0),
             writes: AtomicUsize::new(0),
@@ -40,29 +40,29 @@ impl Health {
     }
 
     /// Returns another handle to the state, for the disk.
-    pub fn another(&self) -> Result<Health, AllocError> {
+    pub(crate) fn another(&self) -> Result<Health, AllocError> {
         Ok(Health {
             state: Arc::try_clone(&self.state)?,
         })
     }
 
     /// Makes the disk refuse one write of so many from now on; none where this is 0.
-    pub fn refuse_one_of(&self, of: usize) {
+    pub(crate) fn refuse_one_of(&self, of: usize) {
         self.state.of.store(of, Ordering::SeqCst);
     }
 
     /// Makes the disk refuse each write from now on, or accept each.
-    pub fn be_sick(&self, is_sick: bool) {
+    pub(crate) fn be_sick(&self, is_sick: bool) {
         self.refuse_one_of(if is_sick { 1 } else { 0 });
     }
 
     /// Makes the disk refuse only writes of items while it is sick, and accept those of its roots.
-    pub fn spare_roots(&self) {
+    pub(crate) fn spare_roots(&self) {
         self.state.spares_roots.store(true, Ordering::SeqCst);
     }
 
     /// The number of writes that were refused.
-    pub fn refused(&self) -> usize {
+    pub(crate) fn refused(&self) -> usize {
         self.state.refused.load(Ordering::SeqCst)
     }
 
@@ -83,14 +83,15 @@ impl Health {
 
 /// A disk that refuses writes while it is sick; it still reads and syncs.
 #[derive(Drop)]
-pub struct SickDisk<D: Disk> {
+pub(crate) struct SickDisk<D: Disk> {
     inner: D,
     health: Health,
     failed: u64,
 }
 
 impl<D: Disk> SickDisk<D> {
-    pub fn new(inner: D, health: Health) -> SickDisk<D> {
+    /// Returns a disk over another, in this health.
+    pub(crate) fn new(inner: D, health: Health) -> SickDisk<D> {
         SickDisk {
             inner,
             health,

@@ -1,24 +1,24 @@
-// Thresholds: what just fits is accepted where memory is ample.
+//! Thresholds: what just fits is accepted where memory is ample.
 use psu_hosts::{Mismatch, plays};
 
 const FITTING: &str = "
 # While the first job is held, 1,024 changes are unflushed; then all of them are flushed.
-== fitting_changes.image 48951 run
+== fitting_changes.image run
 1 joins
 1 fills
 flusher held
-flusher goes
+flusher released
 1 asks *OPC?;:SYST:ERR? -> 1;0,\"No error\"
 
 # A transmission of 65,536 bytes in one frame, of empty units and a query.
-== fitting_line.image 48953
+== fitting_line.image
 1 joins
 1 asks *IDN?{;*65531} -> EXAMPLE,PSU4,0,1.0
 1 says *SRE {0*65530}5
 1 asks *SRE?;:SYST:ERR? -> 5;0,\"No error\"
 
 # A file of 32,768 bytes, and one of a byte more.
-== fitting_file.image 48955
+== fitting_file.image
 1 joins
 1 says MMEM:DATA \"A\",#532769{x*32769}
 1 asks SYST:ERR? -> -223,\"Too much data\"
@@ -27,7 +27,7 @@ flusher goes
 1 asks MMEM:DATA? \"A\" -> #532768{x*32768}
 
 # 32 macros of 1,024 bytes; there is no room for one more.
-== fitting_macros.image 48957
+== fitting_macros.image
 1 joins
 1 says *DMC \"AA\",#41024{;*1024};*DMC \"AB\",#41024{;*1024};*DMC \"AC\",#41024{;*1024};*DMC \"AD\",#41024{;*1024}
 1 says *DMC \"AE\",#41024{;*1024};*DMC \"AF\",#41024{;*1024};*DMC \"AG\",#41024{;*1024};*DMC \"AH\",#41024{;*1024}
@@ -45,38 +45,20 @@ flusher goes
 1 asks *DMC \"EA\",#10;:SYST:ERR? -> -254,\"Media full\"
 
 # A wait lasts while 1,000 queries of another session are answered.
-== fitting_wait.image 48963 run
+== fitting_wait.image run
 1 joins
 2 joins
 1 says *SAV 1;*OPC?
 flusher held
-2 works
-2 works
-2 works
-2 works
-2 works
-2 works
-2 works
-2 works
-2 works
-2 works
+10 times 2 works
 1 silent
-flusher goes
+flusher released
 1 hears 1
 
 # 1,000 waits, a hundred in each message.
-== fitting_waits.image 48959
+== fitting_waits.image
 1 joins
-1 asks {*SAV 0;*OPC?;*100}*IDN? -> {1;*100}EXAMPLE,PSU4,0,1.0
-1 asks {*SAV 0;*OPC?;*100}*IDN? -> {1;*100}EXAMPLE,PSU4,0,1.0
-1 asks {*SAV 0;*OPC?;*100}*IDN? -> {1;*100}EXAMPLE,PSU4,0,1.0
-1 asks {*SAV 0;*OPC?;*100}*IDN? -> {1;*100}EXAMPLE,PSU4,0,1.0
-1 asks {*SAV 0;*OPC?;*100}*IDN? -> {1;*100}EXAMPLE,PSU4,0,1.0
-1 asks {*SAV 0;*OPC?;*100}*IDN? -> {1;*100}EXAMPLE,PSU4,0,1.0
-1 asks {*SAV 0;*OPC?;*100}*IDN? -> {1;*100}EXAMPLE,PSU4,0,1.0
-1 asks {*SAV 0;*OPC?;*100}*IDN? -> {1;*100}EXAMPLE,PSU4,0,1.0
-1 asks {*SAV 0;*OPC?;*100}*IDN? -> {1;*100}EXAMPLE,PSU4,0,1.0
-1 asks {*SAV 0;*OPC?;*100}*IDN? -> {1;*100}EXAMPLE,PSU4,0,1.0
+10 times 1 asks {*SAV 0;*OPC?;*100}*IDN? -> {1;*100}EXAMPLE,PSU4,0,1.0
 ";
 
 #[test]

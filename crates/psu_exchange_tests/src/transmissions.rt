@@ -1,9 +1,9 @@
-// Transmissions: how they are assembled, what of them is executed, and what of them waits.
+//! Transmissions: how they are assembled, what of them is executed, and what of them waits.
 use psu_hosts::{Mismatch, plays};
 
 const WHOLE: &str = "
 # Data with `*ID` and DataEnd with `N?`, and the answer under the identifier of the latter.
-== transmissions.image 48897
+== transmissions.image
 1 joins
 1 sends 'HS 06 00 00*3 02 00*7 03 '*ID
 1 sends 'HS 07 00 00*3 04 00*7 02 'N?
@@ -13,7 +13,7 @@ const WHOLE: &str = "
 1 asks *SRE?;*ESE?\\nVOLT 1\\n*PSC?\\n -> 0;0
 1 hears 1
 
-# A client that goes on before it reads finds all answers in order.
+# A client that continues before it reads finds all answers in order.
 1 says *SRE?
 1 says *PSC?
 1 says *IDN?
@@ -22,7 +22,7 @@ const WHOLE: &str = "
 1 hears EXAMPLE,PSU4,0,1.0
 
 # A transmission of 65,536 bytes is executed, and one of a byte more, of semicolons and a question, is not.
-== too_long.image 48899
+== too_long.image
 1 joins
 1 sends 'HS 06 00 00*4 00*6 ff fb
 1 sends 3b*65531
@@ -52,7 +52,7 @@ fn transmissions_are_put_together(rt: HostRuntime) -> Result<(), Mismatch> {
 
 const EXPANSIONS: &str = "
 # Expansions in a transmission, one of which waits for the flusher.
-== macros.image 48901
+== macros.image
 1 joins
 1 says *DMC \"SETA\",#17VOLT $1;*DMC \"KEEP\",#212*SAV 1;*OPC?
 1 asks *EMC 1;SETA 3;VOLT? -> 3.000
@@ -60,19 +60,19 @@ const EXPANSIONS: &str = "
 1 hears 4.000
 
 # No macro is called inside another.
-== macro_inside.image 48925
+== macro_inside.image
 1 joins
 1 says *DMC \"INNER\",#16VOLT 1;*DMC \"OUTER\",#15INNER
 1 says *EMC 1;OUTER
 1 asks SYST:ERR?;:VOLT? -> -276,\"Macro recursion error\";0.000
 
 # The expansion in the place of the first unit waits for the flusher; its message is answered in one.
-== macro_waits.image 48927 run
+== macro_waits.image run
 1 joins
 1 says *DMC \"KEEP\",#218*PSC?;*SAV 1;*OPC?;*EMC 1
 1 says KEEP;*SRE?
 1 silent
-flusher goes
+flusher released
 1 hears 1;1;0
 ";
 
@@ -82,8 +82,8 @@ fn macros_are_expanded(rt: HostRuntime) -> Result<(), Mismatch> {
 }
 
 const ROOM: &str = "
-# One save more than may be unflushed waits for room, and what stands behind it; another may ask, and save no more. Once there is room they go on.
-== room.image 48903 run
+# One save more than may be unflushed waits for room, and so does what follows it; another may ask, and save no more. Once there is room they continue.
+== room.image run
 1 joins
 2 joins
 1 fills
@@ -93,7 +93,7 @@ const ROOM: &str = "
 2 works
 2 says *SAV 3;*SRE?
 2 silent
-flusher goes
+flusher released
 1 hears 0
 1 hears 1
 2 hears 0

@@ -7,11 +7,11 @@ use Rattle.std.proofs.lemmas.Bool.{cases_Bool}
 use Rattle.psu_nv.specs.Contents.{Contents, IsContents, fits}
 use Rattle.psu_nv.specs.Views.{command_of}
 use Rattle.psu_nv.specs.declared.command.NvCommand.{NvCommand}
-use Rattle.psu_tree.specs.declared.unit_request.Request.{Request}
+use Rattle.psu_tree.specs.declared.command.Request.{Request}
 use Rattle.psu_instrument.specs.Instrument.{Instrument}
 use Rattle.psu_instrument.specs.Meaning.{ActsAs, Meaning, Refuses, Does, Keeps, Completes}
 use Rattle.psu_instrument.specs.declared.act.Act.TheVariants as act
-use Rattle.psu_instrument.specs.declared.completion.Completion.{Completion}
+use Rattle.psu_instrument.specs.declared.act.Completion.{Completion}
 use Rattle.psu_exec.specs.Device.{Reply, Answer, Done, Error, Held, Later, State, Flush, MayMean, MayRun, RunGives, Step, LockedOut, TooEarly, Runs, after_meant, followed, here, is_denied, is_later, is_whole, kept_unless, meant, refused, NeedsMemory, with_instrument}
 use Rattle.psu_exec.specs.Consistent.{IsConsistent}
 use Rattle.psu_exec.proofs.RqsUpdates.{followed_same}

@@ -5,11 +5,11 @@ use Rattle.psu_lex.specs.declared.scpi_error.ScpiError.TheVariants.{StorageFault
 use Rattle.psu_nv.specs.Commands as nv
 use Rattle.psu_nv.specs.Contents.{fits}
 use Rattle.psu_tree.specs.declared.command.Command.{Command}
-use Rattle.psu_tree.specs.declared.unit_request.Request.{Request}
+use Rattle.psu_tree.specs.declared.command.Request.{Request}
 use Rattle.psu_instrument.specs.Instrument.{Instrument}
 use Rattle.psu_instrument.specs.Meaning.{Situation, Meaning, Refuses, Does, Keeps, Completes}
-use Rattle.psu_instrument.specs.declared.completion.Completion.{Completion}
-use Rattle.psu_instrument.specs.declared.completion.Completion.TheVariants as completion
+use Rattle.psu_instrument.specs.declared.act.Completion.{Completion}
+use Rattle.psu_instrument.specs.declared.act.Completion.TheVariants as completion
 use Rattle.psu_instrument.proofs.Speaking.{each_answer_is_quiet, some_digit}
 use Rattle.psu_exec.specs.Calls.{settle_answer}
 use Rattle.psu_exec.specs.Device.{Reply, Answer, Error, Parked, Flush, State, MayAnswer, MayMean, LockedOut, TooEarly, Runs, Expands, Means, answer_complete, answer_meant, here, is_whole, kept_unless, meant, parks, wait_of}

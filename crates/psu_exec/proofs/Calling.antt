@@ -2,7 +2,7 @@
 use Rattle.std.proofs.Common.{◌≡◌, ℕ, Option, Some, None, Result, List, refl}
 use Rattle.psu_lex.specs.Syntax.{Datum}
 use Rattle.psu_lex.specs.declared.scpi_error.ScpiError.{ScpiError}
-use Rattle.psu_tree.specs.declared.unit_request.Request.{Request}
+use Rattle.psu_tree.specs.declared.command.Request.{Request}
 use Rattle.psu_instrument.specs.Macros.{HoldsParameters, UnitGives, written}
 use Rattle.psu_exec.specs.Device.{Reply, State, AnswersCall, answer_call, called}
 

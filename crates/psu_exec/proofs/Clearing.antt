@@ -6,7 +6,7 @@ use Rattle.std.proofs.lemmas.Bool.Decides.{nat_tests}
 use Rattle.std.proofs.lemmas.Nat.{and_assoc}
 use Rattle.std.specs.Int.Bits.{and_zero_r}
 use Rattle.psu_map.specs.Map.{Item, cost}
-use Rattle.psu_status.specs.declared.enables.Enables.{Enables}
+use Rattle.psu_status.specs.declared.groups.Enables.{Enables}
 use Rattle.psu_nv.specs.Commands.{apply, without_mss, PowerOnClear}
 use Rattle.psu_nv.specs.Contents.{Contents, IsContents, enables_items, items_of, cost_of, fits}
 

@@ -2,10 +2,10 @@
 use Rattle.std.proofs.Common.{◌≡◌, inl, inr, ℕ, Bool, true, false, cond, Option, Some, None, Result, Ok, Err, List, refl, sym, ap, subst, ◌∙◌}
 use Rattle.psu_lex.specs.declared.scpi_error.ScpiError.{ScpiError}
 use Rattle.psu_lex.specs.declared.scpi_error.ScpiError.TheVariants.{StorageFault}
-use Rattle.psu_tree.specs.declared.unit_request.Request.{Request}
+use Rattle.psu_tree.specs.declared.command.Request.{Request}
 use Rattle.psu_instrument.specs.Meaning.{Meaning, Refuses, Does, Keeps, Completes}
-use Rattle.psu_instrument.specs.declared.completion.Completion.{Completion}
-use Rattle.psu_instrument.specs.declared.completion.Completion.TheVariants as completion
+use Rattle.psu_instrument.specs.declared.act.Completion.{Completion}
+use Rattle.psu_instrument.specs.declared.act.Completion.TheVariants as completion
 use Rattle.psu_exec.specs.Device.{Reply, Error, Parked, Held, Later, State, Flush, MayAnswer, Step, LockedOut, TooEarly, Runs, Expands, Means, after_unit, answer_call, answer_complete, answer_meant, here, is_denied, kept_unless, meant}
 use Rattle.psu_exec.proofs.RqsUpdates.{followed_same}
 

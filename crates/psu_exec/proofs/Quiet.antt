@@ -8,11 +8,11 @@ use Rattle.psu_nv.specs.Contents.{fits}
 use Rattle.psu_status.specs.Registers.{rising}
 use Rattle.psu_status.specs.Status.{Reported, enabled}
 use Rattle.psu_tree.specs.declared.command.Command.{Command}
-use Rattle.psu_tree.specs.declared.unit_request.Request.{Request}
+use Rattle.psu_tree.specs.declared.command.Request.{Request}
 use Rattle.psu_instrument.specs.Commands.{meaning}
 use Rattle.psu_instrument.specs.Meaning.{Meaning, Refuses, Does, Keeps, Completes}
 use Rattle.psu_instrument.specs.Speaking.{RaisesNone}
-use Rattle.psu_instrument.specs.declared.completion.Completion.TheVariants as completion
+use Rattle.psu_instrument.specs.declared.act.Completion.TheVariants as completion
 use Rattle.psu_instrument.proofs.Rising.{none_rises}
 use Rattle.psu_instrument.proofs.Speaking.{each_answer_is_quiet}
 use Rattle.psu_exec.specs.Calls.{Executed, Allows, has_work}

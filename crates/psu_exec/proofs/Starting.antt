@@ -3,8 +3,8 @@ use Rattle.std.proofs.Common.{◌≡◌, List, sym, ap, ◌∙◌}
 use Rattle.psu_map.specs.Map.{Item}
 use Rattle.psu_nv.specs.Contents.{Contents, IsContents, items_of}
 use Rattle.psu_nv.specs.Decoding.{IsFault, has_keys}
-use Rattle.psu_nv.specs.declared.decode_fault.DecodeFault.{DecodeFault}
-use Rattle.psu_nv.specs.declared.decode_fault.DecodeFault.TheVariants as decoding
+use Rattle.psu_nv.specs.declared.decode.DecodeFault.{DecodeFault}
+use Rattle.psu_nv.specs.declared.decode.DecodeFault.TheVariants as decoding
 use Rattle.psu_nv.proofs.Kept.{contents_keys}
 use Rattle.psu_exec.specs.Shown.{cause_of}
 use Rattle.psu_exec.specs.declared.power_fault.PowerCause.TheVariants.{BadItems, Memory}

@@ -10,7 +10,7 @@ use Rattle.psu_tree.specs.declared.command.Command.{Command}
 use Rattle.psu_tree.specs.declared.command.Command.TheVariants as command
 use Rattle.psu_tree.specs.declared.values.Flag.TheVariants.{PowerOnClear as Clears}
 use Rattle.psu_tree.specs.declared.queries.Query.TheVariants.{OperationComplete}
-use Rattle.psu_tree.specs.declared.unit_request.Request.{Request}
+use Rattle.psu_tree.specs.declared.command.Request.{Request}
 use Rattle.psu_exec.specs.Batch.{batch}
 use Rattle.psu_exec.specs.Device.{Done, Answer, Error, Parked}
 use Rattle.psu_exec.specs.Calls.{JobKind, JobData, Commit, Reopen, Executed, Settled, Took, GaveBack, Opened, Job, Stored, Failed, Reopened}

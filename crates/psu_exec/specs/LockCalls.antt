@@ -2,11 +2,11 @@
 -- Source: the lock protocol of IVI-6.1 (HiSLIP), with the rules of psu_locks.
 use Rattle.std.specs.Prelude.{◌≡◌, ℕ, max, Some, None, Result, Ok, Err, List}
 use Rattle.psu_locks.specs.Locks.{Locks, after_grant, at_moment, failed_at, freed_of, grant_of, granted, looked_through, of_others, request_refusal, still_waiting, without, without_session}
-use Rattle.psu_locks.specs.declared.kind.Kind.{Kind}
-use Rattle.psu_locks.specs.declared.grant.Grant.{Grant}
-use Rattle.psu_locks.specs.declared.freed.Freed.{Freed}
-use Rattle.psu_locks.specs.declared.lock_refusal.LockRefusal.{LockRefusal}
-use Rattle.psu_locks.specs.declared.lock_refusal.LockRefusal.TheVariants.{NotHeld}
+use Rattle.psu_locks.specs.declared.requests.Kind.{Kind}
+use Rattle.psu_locks.specs.declared.results.Grant.{Grant}
+use Rattle.psu_locks.specs.declared.results.Freed.{Freed}
+use Rattle.psu_locks.specs.declared.results.LockRefusal.{LockRefusal}
+use Rattle.psu_locks.specs.declared.results.LockRefusal.TheVariants.{NotHeld}
 
 -- ---- a session requests a lock
 

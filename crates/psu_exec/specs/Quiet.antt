@@ -1,7 +1,7 @@
 -- What an answered query causes for other sessions and for the flusher: nothing.
 use Rattle.std.specs.Prelude.{◌≡◌, ℕ, List}
 use Rattle.psu_instrument.specs.Speaking.{RaisesNone}
-use Rattle.psu_tree.specs.declared.unit_request.Request.{Request}
+use Rattle.psu_tree.specs.declared.command.Request.{Request}
 use Rattle.psu_exec.specs.ServiceStates.{unreported_from}
 use Rattle.psu_exec.specs.Device.{Answer, State}
 use Rattle.psu_exec.specs.Calls.{Entry, Executed, Allows, has_work}

@@ -1,9 +1,9 @@
 -- Why a device does not start from its disk, by why the disk is not opened or the power-on failed; none for an
 -- allocation failure.
 use Rattle.std.specs.Prelude.{Option, Some, None}
-use Rattle.psu_pages.specs.declared.bad_image.BadImage.TheVariants as BadImage
-use Rattle.psu_pages.specs.declared.open_cause.OpenCause.{OpenCause}
-use Rattle.psu_pages.specs.declared.open_cause.OpenCause.TheVariants as opening
+use Rattle.psu_pages.specs.declared.faults.BadImage.TheVariants as BadImage
+use Rattle.psu_pages.specs.declared.faults.OpenCause.{OpenCause}
+use Rattle.psu_pages.specs.declared.faults.OpenCause.TheVariants as opening
 use Rattle.psu_exec.specs.declared.power_fault.PowerCause.{PowerCause}
 use Rattle.psu_exec.specs.declared.power_fault.PowerCause.TheVariants as power
 use Rattle.psu_exec.specs.declared.start_cause.StartCause.{StartCause}

@@ -1,4 +1,4 @@
-// The parts of the nonvolatile contents that may have changed.
+//! The parts of the nonvolatile contents that may have changed.
 use psu_nv::{NvCommand, Part, Register};
 
 /// The set of parts of the nonvolatile contents that may differ from the map that the store holds, or from the target

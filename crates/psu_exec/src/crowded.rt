@@ -1,4 +1,4 @@
-// The error of opening a session.
+//! The error of opening a session.
 
 /// No further session can be opened.
 #[derive(Clone, Copy, Debug, PartialEq, Eq)]

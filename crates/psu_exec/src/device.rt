@@ -1,4 +1,4 @@
-// The device's state, without its store.
+//! The device's state, without its store.
 ghost use Rattle.std.specs.Prelude.{◌≡◌, ◌==◌, true, IfOk};
 ghost use Rattle.psu_nv.specs.Contents.{IsContents, fits};
 ghost use Rattle.psu_exec.specs.Device.{State, followed, is_open, power_on};

@@ -1,4 +1,4 @@
-// The bits that cause a service request.
+//! The bits that cause a service request.
 ghost use Rattle.std.specs.Prelude.{◌≡◌};
 
 /// The enabled bits of a session that has read its responses, and of one that has not.

@@ -1,4 +1,4 @@
-// The endings of a job.
+//! The endings of a job.
 
 /// The effect of a job's end on the store and on the unflushed changes.
 #[derive(Clone, Copy, Debug, PartialEq, Eq)]

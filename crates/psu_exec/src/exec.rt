@@ -15,15 +15,14 @@ ghost use Rattle.psu_exec.specs.Shown.{cause_of, outcome_of, over_of};
 ghost use Rattle.psu_exec.specs.Jobs.{idle_edits, idle_goal, idle_map, idle_limit, idle_store_of, is_idle_whole};
 ghost use Rattle.psu_lex.specs.declared.scpi_error.ScpiError.{ScpiError as AnyError};
 ghost use Rattle.psu_exec.specs.World.{asks_opc};
-ghost use Rattle.psu_instrument.specs.declared.completion.Completion.{Completion};
+ghost use Rattle.psu_instrument.specs.declared.act.Completion.{Completion};
 ghost use Rattle.psu_exec.specs.declared.wait.Wait.TheVariants.{Until};
 
 use crate::idle_store::{idle_store_after, put_store_back};
-use crate::seal::Seal;
 use crate::{
-    Condition, Contents, Crowded, Device, Ended, Finished, Freed, Grant, IdleStore, Info, Job,
-    Kind, LockRefusal, NoJob, Notifications, Outcome, Planned, PowerCause, PowerFault, Reopening,
-    Request, Session, Sessions, Stranger,
+    CannotDrop, Condition, Contents, Crowded, Device, Ended, Finished, Freed, Grant, IdleStore,
+    Info, Job, Kind, LockRefusal, NoJob, Notifications, Outcome, Planned, PowerCause, PowerFault,
+    Reopening, Request, Session, Sessions, Stranger,
 };
 use psu_disk::Disk;
 use psu_items::{Batch, Store};
@@ -325,7 +324,7 @@ impl<D: Disk, A: Allocator + Copy> Exec<D, A> {
             Some(IdleStore::Failed(broken)) => return Ok(Job::Reopen(Reopening {
                 alloc: self.alloc,
                 broken,
-                seal: Seal(()),
+                duty: CannotDrop(()),
             })),
             None => unreachable!(),
         }

@@ -1,9 +1,8 @@
-// The store while no job is out.
+//! The store while no job is out.
 ghost use Rattle.std.specs.Prelude.{◌≡◌, None, Some};
 ghost use Rattle.psu_exec.specs.Jobs.{idle_store_of};
 
-use crate::seal::Seal;
-use crate::{End, Finished};
+use crate::{CannotDrop, End, Finished};
 use psu_disk::Disk;
 use psu_items::{Broken, Store};
 use std::alloc::Allocator;
@@ -19,11 +18,13 @@ pub enum IdleStore<D: Disk, A: Allocator + Copy> {
 }
 
 /// Returns the store of a job that was given back.
-pub fn idle_store_after<D: Disk, A: Allocator + Copy>(finished: Finished<D, A>) -> IdleStore<D, A>
+pub(crate) fn idle_store_after<D: Disk, A: Allocator + Copy>(
+    finished: Finished<D, A>,
+) -> IdleStore<D, A>
     ensures { result ≡ idle_store_of finished.end }
 {
-    let Finished { end, seal } = finished;
-    let Seal(_) = seal;
+    let Finished { end, duty } = finished;
+    let CannotDrop(_) = duty;
     match end {
         End::Stored(store) => IdleStore::Whole(store),
         End::Unstarted(store, _, _) => IdleStore::Whole(store),
@@ -33,7 +34,7 @@ pub fn idle_store_after<D: Disk, A: Allocator + Copy>(finished: Finished<D, A>) 
 }
 
 /// Puts the store back into its place, which is empty.
-pub fn put_store_back<D: Disk, A: Allocator + Copy>(
+pub(crate) fn put_store_back<D: Disk, A: Allocator + Copy>(
     place: &mut Option<IdleStore<D, A>>,
     idle_store: IdleStore<D, A>,
 )

@@ -1,4 +1,4 @@
-// Whether planned edits lead to a map, checked without allocation.
+//! Whether planned edits lead to a map, checked without allocation.
 ghost use Rattle.std.specs.Prelude.{◌≡◌, ◌↔◌, ◌++◌, ◌∷◌, IsTrue, IfSome, IfNone, List, Some, None, option_map};
 ghost use Rattle.std.specs.List.{flat_map};
 ghost use Rattle.psu_map.specs.Batch.{changed, Edit as EditData};
@@ -106,7 +106,7 @@ fn are_assignments<A: Allocator + Copy>(
 
 /// Whether the planned edits are those that turn the planned map into the target. Items of the common prefix and the
 /// common suffix of both maps are compared once.
-pub fn leads_to<A: Allocator + Copy>(plan: &Plan<A>, target: &Items<A>) -> bool
+pub(crate) fn leads_to<A: Allocator + Copy>(plan: &Plan<A>, target: &Items<A>) -> bool
     ensures is { IsTrue result ↔ (plan.now.edits ≡ batch plan.now.map target.now) }
     ensures leads { IsTrue result → changed plan.now.map plan.now.edits ≡ target.now }
 {

@@ -1,4 +1,4 @@
-// What calls on the device have caused for others.
+//! What calls on the device have caused for others.
 use crate::Sessions;
 
 /// What calls on the device have caused for others than their callers.

@@ -1,4 +1,4 @@
-// The service state of a session.
+//! The service state of a session.
 
 /// The service state of a session: whether a response was sent that it has not read (MAV), its request for service
 /// (RQS), and whether it has a service request that is not fetched, and one that is not reported by `take_notifications`. That of a

@@ -1,11 +1,11 @@
-// The service states of all sessions.
+//! The service states of all sessions.
 ghost use Rattle.std.specs.Prelude.{◌≡◌, ◌+◌, ◌<◌, ◌≤◌, ◌&&◌, ◌++◌, length, map};
 ghost use Rattle.psu_exec.specs.ServiceStates.{rqs_updated, rqs_updated_by, named, initial_service_state, reported, unreported_from};
 
 use crate::{Enabled, SESSIONS, ServiceState, Session, Sessions};
 
 /// The service state of a session that was sent no response and has not requested service.
-pub fn initial_service_state() -> ServiceState
+pub(crate) fn initial_service_state() -> ServiceState
     ensures { result ≡ initial_service_state }
 {
     ServiceState {
@@ -18,7 +18,7 @@ pub fn initial_service_state() -> ServiceState
 
 /// Returns the service state of a session whose enabled bits were `old` and are `new`. If one of them rises, RQS is
 /// set and service is requested, unless RQS was set before; if none of them is left, RQS is cleared.
-pub fn rqs_updated(old: u8, new: u8, service_state: ServiceState) -> ServiceState
+pub(crate) fn rqs_updated(old: u8, new: u8, service_state: ServiceState) -> ServiceState
     ensures { result ≡ rqs_updated old new service_state }
 {
     if (old ^ new) & new != 0 {
@@ -53,7 +53,7 @@ fn rqs_updated_by(old: Enabled, new: Enabled, service_state: ServiceState) -> Se
 }
 
 /// Updates RQS of all sessions after a change of the status.
-pub fn follow(service_states: &mut [ServiceState; SESSIONS], old: Enabled, new: Enabled)
+pub(crate) fn follow(service_states: &mut [ServiceState; SESSIONS], old: Enabled, new: Enabled)
     ensures { service_states.new ≡ map (rqs_updated_by old new) service_states.old }
 {
     if old.read == new.read && old.unread == new.unread {
@@ -71,7 +71,7 @@ fn follow_each(service_states: &mut [ServiceState; SESSIONS], old: Enabled, new:
 }
 
 /// Marks the service requests of all sessions as reported.
-pub fn report_all(service_states: &mut [ServiceState; SESSIONS])
+pub(crate) fn report_all(service_states: &mut [ServiceState; SESSIONS])
     ensures { service_states.new ≡ map reported service_states.old }
 {
     for i in 0..SESSIONS {
@@ -105,7 +105,7 @@ fn push_unreported(
 }
 
 /// The open sessions that have a service request to report.
-pub fn unreported(
+pub(crate) fn unreported(
     open_now: &[bool; SESSIONS],
     service_states: &[ServiceState; SESSIONS],
 ) -> Sessions

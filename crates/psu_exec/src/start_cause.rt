@@ -1,4 +1,4 @@
-// The reasons for which a device doesn't start.
+//! The reasons for which a device doesn't start.
 ghost use Rattle.std.specs.Prelude.{◌≡◌};
 ghost use Rattle.psu_exec.specs.Starts.{start_of_opening, start_of_power_on};
 

@@ -7,24 +7,18 @@ ghost use Rattle.psu_guide.specs.Plays.{CannotAnswer, IsNew, Plays};
 use crate::play_fault::PlayFault;
 use psu_disk::{Disk, MemDisk};
 use psu_examples::Player;
-use psu_items::Store;
+use psu_items::{IMAGE_LIMIT, IMAGE_SIZE, Store};
 use psu_run::{RunCause, run};
 use std::alloc::Allocator;
-
-// The number of pages that the contents of a new image may cost.
-const LIMIT: u16 = 256;
-
-// The bytes of such an image: two roots and twice the limit, in pages of 512 bytes.
-const SIZE: u64 = 263_168;
 
 // Returns a new image in memory; `None` where memory is refused.
 fn new_image<A: Allocator + Copy>(alloc: A) -> Option<MemDisk<A>>
     ensures { IfSome result (λ disk. IsNew (⟦<MemDisk<A> as Disk>⟧.state disk)) }
 {
-    let Ok(disk) = MemDisk::new(alloc, SIZE) else {
+    let Ok(disk) = MemDisk::new(alloc, IMAGE_SIZE) else {
         return None;
     };
-    let Ok(store) = Store::format(alloc, disk, LIMIT) else {
+    let Ok(store) = Store::format(alloc, disk, IMAGE_LIMIT) else {
         return None;
     };
     Some(store.into_disk())

@@ -11,9 +11,9 @@ use Rattle.psu_hislip.specs.Runs.{received_type, is_complete}
 use Rattle.psu_hislip.specs.declared.header.Header.{Header}
 use Rattle.psu_hislip.specs.declared.side.Side.{Side}
 use Rattle.psu_hislip.specs.declared.side.Side.TheVariants.{Sync, Async}
-use Rattle.psu_hislip.specs.declared.fatal_code.FatalCode.{FatalCode}
-use Rattle.psu_hislip.specs.declared.error_code.ErrorCode.{ErrorCode}
-use Rattle.psu_hislip.specs.declared.error_code.ErrorCode.TheVariants.{UnrecognizedType, UnrecognizedVendorType}
+use Rattle.psu_hislip.specs.declared.codes.FatalCode.{FatalCode}
+use Rattle.psu_hislip.specs.declared.codes.ErrorCode.{ErrorCode}
+use Rattle.psu_hislip.specs.declared.codes.ErrorCode.TheVariants.{UnrecognizedType, UnrecognizedVendorType}
 use Rattle.psu_hislip.specs.declared.message_type.MessageType.{MessageType}
 use Rattle.psu_hislip.specs.declared.message_type.MessageType.TheVariants.{FatalError, Error, Data, DataEnd, Trigger, DeviceClearComplete, AsyncDeviceClear}
 use Rattle.psu_hislip.proofs.Types.{code_of_type}

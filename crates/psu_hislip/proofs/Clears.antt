@@ -9,8 +9,8 @@ use Rattle.psu_hislip.specs.Runs.{Arrival, outcome, actions_of, core_after, rece
 use Rattle.psu_hislip.specs.declared.header.Header.{Header}
 use Rattle.psu_hislip.specs.declared.side.Side.{Side}
 use Rattle.psu_hislip.specs.declared.side.Side.TheVariants.{Sync, Async}
-use Rattle.psu_hislip.specs.declared.device_clear.DeviceClear.{DeviceClear}
-use Rattle.psu_hislip.specs.declared.device_clear.DeviceClear.TheVariants.{Idle, InProgress, Early}
+use Rattle.psu_hislip.specs.declared.side.DeviceClear.{DeviceClear}
+use Rattle.psu_hislip.specs.declared.side.DeviceClear.TheVariants.{Idle, InProgress, Early}
 use Rattle.psu_hislip.specs.declared.lock_responses.LockResponse.TheVariants as lock
 use Rattle.psu_hislip.specs.declared.message_type.MessageType.{MessageType}
 use Rattle.psu_hislip.specs.declared.message_type.MessageType.TheVariants.{AsyncLock, AsyncLockResponse, Data, DataEnd, DeviceClearComplete, AsyncRemoteLocalControl, Trigger, AsyncMaximumMessageSize, AsyncInitialize, AsyncDeviceClear, AsyncStatusQuery, AsyncLockInfo}

@@ -5,11 +5,11 @@ use Rattle.std.proofs.lemmas.Grind.{flat_map-append}
 use Rattle.std.proofs.lemmas.List.Elements.{filter-append, All-nil, All-cons, All-append}
 use Rattle.psu_hislip.specs.Action.{Act}
 use Rattle.psu_hislip.specs.LockResponses.{lock_code}
-use Rattle.psu_hislip.specs.Transmission.{executed, added}
+use Rattle.psu_hislip.specs.PartialTransmission.{executed, added}
 use Rattle.psu_hislip.specs.Core.{Core, Outcome, reply, is_sync, takes, row, delivered, is_delivered, origin}
 use Rattle.psu_hislip.specs.Runs.{Arrival, outcome, actions_of, core_after, received_type, is_clear, begins_clear, origin_of, origins, clears_in}
 use Rattle.psu_hislip.specs.declared.header.Header.{Header}
-use Rattle.psu_hislip.specs.declared.origin.Origin.{Origin}
+use Rattle.psu_hislip.specs.declared.action.Origin.{Origin}
 use Rattle.psu_hislip.specs.declared.side.Side.{Side}
 use Rattle.psu_hislip.specs.declared.side.Side.TheVariants.{Sync, Async}
 use Rattle.psu_hislip.specs.declared.lock_responses.LockResponse.TheVariants as lock

@@ -4,11 +4,11 @@ use Rattle.std.proofs.lemmas.Grind.{flat_map-append}
 use Rattle.psu_hislip.specs.Header.{header_bytes}
 use Rattle.psu_hislip.specs.Action.{Act}
 use Rattle.psu_hislip.specs.LockResponses.{lock_code}
-use Rattle.psu_hislip.specs.Transmission.{executed, added}
+use Rattle.psu_hislip.specs.PartialTransmission.{executed, added}
 use Rattle.psu_hislip.specs.Core.{Core, reply, takes, row, delivered, is_delivered, origin}
 use Rattle.psu_hislip.specs.Runs.{Answer, answer_on, answer_of, answers, due}
 use Rattle.psu_hislip.specs.declared.header.Header.{Header}
-use Rattle.psu_hislip.specs.declared.origin.Origin.{Origin}
+use Rattle.psu_hislip.specs.declared.action.Origin.{Origin}
 use Rattle.psu_hislip.specs.declared.side.Side.{Side}
 use Rattle.psu_hislip.specs.declared.side.Side.TheVariants.{Sync, Async}
 use Rattle.psu_hislip.specs.declared.lock_responses.LockResponse.TheVariants as lock

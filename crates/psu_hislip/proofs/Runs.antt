@@ -7,11 +7,11 @@ use Rattle.psu_hislip.specs.Action.{Act}
 use Rattle.psu_hislip.specs.Core.{Core, Outcome, outcome_with, reply, is_sync, error}
 use Rattle.std.specs.List.{list_any}
 use Rattle.psu_hislip.specs.MessageType.{code_of}
-use Rattle.psu_hislip.specs.declared.fatal_code.FatalCode.{FatalCode}
+use Rattle.psu_hislip.specs.declared.codes.FatalCode.{FatalCode}
 use Rattle.psu_hislip.specs.Runs.{Arrival, Answer, sends_fatal_error, outcome, actions_of, core_after, received_type, is_complete, AreClosed, answer_of, answers, due, unless_faulty, answers_due}
 use Rattle.psu_hislip.specs.declared.side.Side.{Side}
 use Rattle.psu_hislip.specs.declared.side.Side.TheVariants.{Sync, Async}
-use Rattle.psu_hislip.specs.declared.error_code.ErrorCode.{ErrorCode}
+use Rattle.psu_hislip.specs.declared.codes.ErrorCode.{ErrorCode}
 use Rattle.psu_hislip.specs.declared.message_type.MessageType.{MessageType}
 use Rattle.psu_hislip.specs.declared.message_type.MessageType.TheVariants.{FatalError, Error, DeviceClearComplete, AsyncInitialize}
 use Rattle.psu_hislip.proofs.Rows.{row_answers}

@@ -7,12 +7,12 @@ use Rattle.std.proofs.lemmas.List.Elements.{filter-append}
 use Rattle.psu_hislip.specs.Action.{Act}
 use Rattle.psu_hislip.specs.Core.{Core, Outcome, row, is_begun, after_complete}
 use Rattle.psu_hislip.specs.Runs.{Arrival, outcome, actions_of, core_after, received_type, begins_clear, is_complete, completes_clear, EndsComplete, executions, started}
-use Rattle.psu_hislip.specs.Transmitted.{piece_in, Transmission, pieces_of, action_for, is_transmission, transmissions, text_of, text_kept, action_text, Stretch, IsStretch, run_of}
+use Rattle.psu_hislip.specs.Transmitted.{piece_in, SentTransmission, pieces_of, action_for, is_transmission, transmissions, text_of, text_kept, action_text, Stretch, IsStretch, run_of}
 use Rattle.psu_hislip.specs.Transmitted.Piece.{More}
 use Rattle.psu_hislip.specs.declared.side.Side.{Side}
 use Rattle.psu_hislip.specs.declared.side.Side.TheVariants.{Sync}
-use Rattle.psu_hislip.specs.declared.device_clear.DeviceClear.{DeviceClear}
-use Rattle.psu_hislip.specs.declared.device_clear.DeviceClear.TheVariants.{Idle, InProgress, Early}
+use Rattle.psu_hislip.specs.declared.side.DeviceClear.{DeviceClear}
+use Rattle.psu_hislip.specs.declared.side.DeviceClear.TheVariants.{Idle, InProgress, Early}
 use Rattle.psu_hislip.specs.declared.message_type.MessageType.{MessageType}
 use Rattle.psu_hislip.specs.declared.message_type.MessageType.TheVariants.{DeviceClearComplete}
 use Rattle.psu_hislip.proofs.Runs.{ends_badly, not_failed, core_after-append}
@@ -124,16 +124,16 @@ stretch core s fresh is good =
 
 -- # A session
 
-one_text : (clears : ℕ) (tr : Transmission) (b : Bool) → nat_lt 65536 (length (text_of tr)) ≡ b → action_text (action_for clears tr) ≡ text_kept tr
+one_text : (clears : ℕ) (tr : SentTransmission) (b : Bool) → nat_lt 65536 (length (text_of tr)) ≡ b → action_text (action_for clears tr) ≡ text_kept tr
 one_text clears tr true e = rw e refl
 one_text clears tr false e = rw e refl
 
-texts : (clears : ℕ) (trs : List Transmission) → map action_text (map (action_for clears) trs) ≡ map text_kept trs
+texts : (clears : ℕ) (trs : List SentTransmission) → map action_text (map (action_for clears) trs) ≡ map text_kept trs
 texts clears [] = refl
 texts clears (tr ∷ trs) =
     ap (λ z. z ∷ map action_text (map (action_for clears) trs)) (one_text clears tr (nat_lt 65536 (length (text_of tr))) refl) ∙ ap (λ z. text_kept tr ∷ z) (texts clears trs)
 
-pub session_transmissions : (core : Core) (stretches : List Stretch) (last : List Arrival) (whole : List Transmission) (rest : List (List ℕ)) → IsFresh core
+pub session_transmissions : (core : Core) (stretches : List Stretch) (last : List Arrival) (whole : List SentTransmission) (rest : List (List ℕ)) → IsFresh core
     → All IsStretch stretches → list_any begins_clear last ≡ false → flat_map piece_in last ≡ flat_map pieces_of whole ++ map More rest
     → (core_after core (flat_map run_of stretches ++ last)).failed ≡ false
     → map action_text (transmissions (actions_of core (flat_map run_of stretches ++ last))) ≡ map text_kept (flat_map (λ (s : Stretch). s.whole) stretches ++ whole)

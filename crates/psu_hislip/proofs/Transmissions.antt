@@ -3,9 +3,9 @@ use Rattle.std.proofs.Common.{◌≡◌, ℕ, Option, Some, None, List, [], ◌�
 use Rattle.std.proofs.lemmas.Bool.{cases_lt, lt-ltb, le-ltb}
 use Rattle.std.proofs.lemmas.List.{append-nil}
 use Rattle.psu_hislip.specs.Action.{Act}
-use Rattle.psu_hislip.specs.declared.origin.Origin.{Origin}
+use Rattle.psu_hislip.specs.declared.action.Origin.{Origin}
 use Rattle.psu_hislip.specs.Answer.{joined}
-use Rattle.psu_hislip.specs.Transmission.{added, all_added, executed}
+use Rattle.psu_hislip.specs.PartialTransmission.{added, all_added, executed}
 
 -- these bytes, or none where they are too many
 abbrev kept : List ℕ → Option (List ℕ)

@@ -9,17 +9,17 @@ use Rattle.psu_hislip.specs.Stream.{Received}
 use Rattle.psu_hislip.specs.Stream.Received.{Frame}
 use Rattle.psu_hislip.specs.Action.{Act}
 use Rattle.psu_hislip.specs.LockResponses.{lock_code}
-use Rattle.psu_hislip.specs.Transmission.{executed, added, all_added}
+use Rattle.psu_hislip.specs.PartialTransmission.{executed, added, all_added}
 use Rattle.psu_hislip.specs.Core.{Core, Outcome, reply, is_begun, after_complete, takes, row, delivered, is_delivered, origin}
 use Rattle.psu_hislip.specs.Runs.{Arrival, outcome, actions_of, core_after, received_type, is_clear, begins_clear}
-use Rattle.psu_hislip.specs.Transmitted.{Piece, piece_of, received_piece, piece_in, Transmission, pieces_of, action_for, is_transmission, transmissions}
+use Rattle.psu_hislip.specs.Transmitted.{Piece, piece_of, received_piece, piece_in, SentTransmission, pieces_of, action_for, is_transmission, transmissions}
 use Rattle.psu_hislip.specs.Transmitted.Piece.{More, Last}
 use Rattle.psu_hislip.specs.declared.header.Header.{Header}
-use Rattle.psu_hislip.specs.declared.origin.Origin.{Origin}
+use Rattle.psu_hislip.specs.declared.action.Origin.{Origin}
 use Rattle.psu_hislip.specs.declared.side.Side.{Side}
 use Rattle.psu_hislip.specs.declared.side.Side.TheVariants.{Sync, Async}
-use Rattle.psu_hislip.specs.declared.device_clear.DeviceClear.{DeviceClear}
-use Rattle.psu_hislip.specs.declared.device_clear.DeviceClear.TheVariants.{Idle, InProgress, Early}
+use Rattle.psu_hislip.specs.declared.side.DeviceClear.{DeviceClear}
+use Rattle.psu_hislip.specs.declared.side.DeviceClear.TheVariants.{Idle, InProgress, Early}
 use Rattle.psu_hislip.specs.declared.lock_responses.LockResponse.TheVariants as lock
 use Rattle.psu_hislip.specs.declared.message_type.MessageType.{MessageType}
 use Rattle.psu_hislip.specs.declared.message_type.MessageType.TheVariants.{AsyncLock, AsyncLockResponse, Data, DataEnd, DeviceClearComplete, AsyncRemoteLocalControl, Trigger, AsyncMaximumMessageSize, AsyncInitialize, AsyncDeviceClear, AsyncStatusQuery, AsyncLockInfo}
@@ -127,7 +127,7 @@ no_lasts [] = omega arith
 no_lasts (p ∷ ps) = no_lasts ps
 
 -- payloads of Data alone are not a whole transmission
-none_whole : (payloads rest : List (List ℕ)) (trs : List Transmission) → map More payloads ≡ flat_map pieces_of trs ++ map More rest → trs ≡ []
+none_whole : (payloads rest : List (List ℕ)) (trs : List SentTransmission) → map More payloads ≡ flat_map pieces_of trs ++ map More rest → trs ≡ []
 none_whole payloads rest [] e = refl
 none_whole payloads rest (tr ∷ more) e =
     let end = Last tr.id tr.last ∷ [] in
@@ -146,17 +146,17 @@ same_first (c ∷ a) (d ∷ b) i j p q x y e =
     let more = same_first a b i j p q x y tail in
     (cc (head, more.0), more.1, more.2, more.3)
 
-regroup : (tr : Transmission) (more : List Transmission) (rest : List (List ℕ))
+regroup : (tr : SentTransmission) (more : List SentTransmission) (rest : List (List ℕ))
     → flat_map pieces_of (tr ∷ more) ++ map More rest ≡ map More tr.payloads ++ Last tr.id tr.last ∷ (flat_map pieces_of more ++ map More rest)
 regroup tr more rest =
     append_assoc (map More tr.payloads ++ Last tr.id tr.last ∷ []) (flat_map pieces_of more) (map More rest)
     ∙ append_assoc (map More tr.payloads) (Last tr.id tr.last ∷ []) (flat_map pieces_of more ++ map More rest)
 
-abbrev whole : List (List ℕ) → ℕ → List ℕ → Transmission
+abbrev whole : List (List ℕ) → ℕ → List ℕ → SentTransmission
 whole payloads id last = record { payloads = payloads; id = id; last = last }
 
-first_whole : (acc : List (List ℕ)) (id : ℕ) (p : List ℕ) (x : List Piece) (trs : List Transmission) (rest : List (List ℕ)) → map More acc ++ Last id p ∷ x ≡ flat_map pieces_of trs ++ map More rest
-    → (more : List Transmission) × (trs ≡ whole acc id p ∷ more) × (x ≡ flat_map pieces_of more ++ map More rest)
+first_whole : (acc : List (List ℕ)) (id : ℕ) (p : List ℕ) (x : List Piece) (trs : List SentTransmission) (rest : List (List ℕ)) → map More acc ++ Last id p ∷ x ≡ flat_map pieces_of trs ++ map More rest
+    → (more : List SentTransmission) × (trs ≡ whole acc id p ∷ more) × (x ≡ flat_map pieces_of more ++ map More rest)
 first_whole acc id p x [] rest e =
     absurd (omega (arith, ap lasts e, no_lasts rest, lasts-append (map More acc) (Last id p ∷ x)))
 first_whole acc id p x (tr ∷ more) rest e =
@@ -175,10 +175,10 @@ regrouped acc p x = ap (λ z. z ++ x) (map-append More acc (p ∷ [])) ∙ appen
 -- what the rest of the run asks for, whatever precedes it
 abbrev Again : Core → List Piece → List Act → Type 0
 Again next pieces acts =
-    (acc : List (List ℕ)) (trs : List Transmission) (rest : List (List ℕ)) → next.transmission ≡ all_added (Some []) acc
+    (acc : List (List ℕ)) (trs : List SentTransmission) (rest : List (List ℕ)) → next.transmission ≡ all_added (Some []) acc
     → map More acc ++ pieces ≡ flat_map pieces_of trs ++ map More rest → transmissions acts ≡ map (action_for next.clears) trs
 
-run_step : (core next : Core) (first later : List Act) (one pieces : List Piece) (acc : List (List ℕ)) (trs : List Transmission) (rest : List (List ℕ))
+run_step : (core next : Core) (first later : List Act) (one pieces : List Piece) (acc : List (List ℕ)) (trs : List SentTransmission) (rest : List (List ℕ))
     → core.transmission ≡ all_added (Some []) acc → next.clears ≡ core.clears → map More acc ++ (one ++ pieces) ≡ flat_map pieces_of trs ++ map More rest
     → Adds core.clears core.transmission next.transmission one first → Again next pieces later → transmissions first ++ transmissions later ≡ map (action_for core.clears) trs
 run_step core next first later one pieces acc trs rest begun same e (Unchanged none kept quiet) again =

@@ -1,7 +1,7 @@
 -- What a message asks for.
 use Rattle.std.specs.Prelude.{ℕ, Bool, List, [], ◌∷◌}
 use Rattle.psu_hislip.specs.declared.side.Side.{Side}
-use Rattle.psu_hislip.specs.declared.origin.Origin.{Origin}
+use Rattle.psu_hislip.specs.declared.action.Origin.{Origin}
 use Rattle.psu_hislip.specs.declared.action.Action as rust
 use Rattle.psu_hislip.specs.declared.action.Action.TheVariants as action
 

@@ -9,17 +9,17 @@ use Rattle.psu_hislip.specs.Stream.{Received}
 use Rattle.psu_hislip.specs.Frame.{header_of, frame_bytes}
 use Rattle.psu_hislip.specs.Action.{Act}
 use Rattle.psu_hislip.specs.LockResponses.{lock_code}
-use Rattle.psu_hislip.specs.Transmission.{added, executed, HasBytes}
+use Rattle.psu_hislip.specs.PartialTransmission.{added, executed, HasBytes}
 use Rattle.psu_hislip.specs.declared.header.Header.{Header}
-use Rattle.psu_hislip.specs.declared.origin.Origin.{Origin}
+use Rattle.psu_hislip.specs.declared.action.Origin.{Origin}
 use Rattle.psu_hislip.specs.declared.side.Side.{Side}
 use Rattle.psu_hislip.specs.declared.side.Side.TheVariants.{Sync, Async}
-use Rattle.psu_hislip.specs.declared.device_clear.DeviceClear.{DeviceClear}
-use Rattle.psu_hislip.specs.declared.device_clear.DeviceClear.TheVariants.{Idle, InProgress, Early}
-use Rattle.psu_hislip.specs.declared.fatal_code.FatalCode.{FatalCode}
-use Rattle.psu_hislip.specs.declared.fatal_code.FatalCode.TheVariants.{PoorlyFormedHeader, ChannelsNotJoined, InvalidInitialization}
-use Rattle.psu_hislip.specs.declared.error_code.ErrorCode.{ErrorCode}
-use Rattle.psu_hislip.specs.declared.error_code.ErrorCode.TheVariants.{Unidentified, UnrecognizedType, UnrecognizedControl, UnrecognizedVendorType, TooLarge}
+use Rattle.psu_hislip.specs.declared.side.DeviceClear.{DeviceClear}
+use Rattle.psu_hislip.specs.declared.side.DeviceClear.TheVariants.{Idle, InProgress, Early}
+use Rattle.psu_hislip.specs.declared.codes.FatalCode.{FatalCode}
+use Rattle.psu_hislip.specs.declared.codes.FatalCode.TheVariants.{PoorlyFormedHeader, ChannelsNotJoined, InvalidInitialization}
+use Rattle.psu_hislip.specs.declared.codes.ErrorCode.{ErrorCode}
+use Rattle.psu_hislip.specs.declared.codes.ErrorCode.TheVariants.{Unidentified, UnrecognizedType, UnrecognizedControl, UnrecognizedVendorType, TooLarge}
 use Rattle.psu_hislip.specs.declared.lock_responses.LockResponse.TheVariants as lock
 use Rattle.psu_hislip.specs.declared.message_type.MessageType.{MessageType}
 use Rattle.psu_hislip.specs.declared.message_type.MessageType.TheVariants.{Initialize, FatalError, Error, AsyncLock, AsyncLockResponse, Data, DataEnd, DeviceClearComplete, DeviceClearAcknowledge, AsyncRemoteLocalControl, AsyncRemoteLocalResponse, Trigger, AsyncMaximumMessageSize, AsyncMaximumMessageSizeResponse, AsyncInitialize, AsyncInitializeResponse, AsyncDeviceClear, AsyncStatusQuery, AsyncDeviceClearAcknowledge, AsyncLockInfo}

@@ -1,9 +1,9 @@
 -- The codes of FatalError and Error. Source: IVI-6.1.
 use Rattle.std.specs.Prelude.{ℕ}
-use Rattle.psu_hislip.specs.declared.fatal_code.FatalCode.{FatalCode}
-use Rattle.psu_hislip.specs.declared.fatal_code.FatalCode.TheVariants.{PoorlyFormedHeader, ChannelsNotJoined, InvalidInitialization, TooManyClients}
-use Rattle.psu_hislip.specs.declared.error_code.ErrorCode.{ErrorCode}
-use Rattle.psu_hislip.specs.declared.error_code.ErrorCode.TheVariants.{Unidentified, UnrecognizedType, UnrecognizedControl, UnrecognizedVendorType, TooLarge}
+use Rattle.psu_hislip.specs.declared.codes.FatalCode.{FatalCode}
+use Rattle.psu_hislip.specs.declared.codes.FatalCode.TheVariants.{PoorlyFormedHeader, ChannelsNotJoined, InvalidInitialization, TooManyClients}
+use Rattle.psu_hislip.specs.declared.codes.ErrorCode.{ErrorCode}
+use Rattle.psu_hislip.specs.declared.codes.ErrorCode.TheVariants.{Unidentified, UnrecognizedType, UnrecognizedControl, UnrecognizedVendorType, TooLarge}
 
 abbrev pub fatal_code : FatalCode → ℕ
 fatal_code PoorlyFormedHeader = 1

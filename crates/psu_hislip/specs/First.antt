@@ -4,7 +4,7 @@ use Rattle.psu_hislip.specs.Stream.{Received}
 use Rattle.psu_hislip.specs.Stream.Received.{Frame, Oversize, BadHeader}
 use Rattle.psu_hislip.specs.MessageType.{code_of}
 use Rattle.psu_hislip.specs.declared.message_type.MessageType.TheVariants.{Initialize, AsyncInitialize}
-use Rattle.psu_hislip.specs.declared.fatal_code.FatalCode.TheVariants.{PoorlyFormedHeader, InvalidInitialization}
+use Rattle.psu_hislip.specs.declared.codes.FatalCode.TheVariants.{PoorlyFormedHeader, InvalidInitialization}
 use Rattle.psu_hislip.specs.declared.first.First.{First}
 use Rattle.psu_hislip.specs.declared.first.First.TheVariants.{Start, Join, Refused}
 

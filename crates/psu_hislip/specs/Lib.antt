@@ -7,7 +7,7 @@ pub mod First
 pub mod Channel
 pub mod Rest
 pub mod Action
-pub mod Transmission
+pub mod PartialTransmission
 pub mod Core
 pub mod Answer
 pub mod LockResponses

@@ -1,11 +1,11 @@
 -- The responses to lock messages. Source: the lock protocol of IVI-6.1; its codes are this project's profile.
 use Rattle.std.specs.Prelude.{ℕ, Option, Some, None, Result, Ok, Err, if◌then◌else◌}
-use Rattle.psu_locks.specs.declared.grant.Grant.{Grant}
-use Rattle.psu_locks.specs.declared.grant.Grant.TheVariants.{Granted, Queued, Failed}
-use Rattle.psu_locks.specs.declared.freed.Freed.{Freed}
-use Rattle.psu_locks.specs.declared.freed.Freed.TheVariants.{Exclusive, Shared}
-use Rattle.psu_locks.specs.declared.lock_refusal.LockRefusal.{LockRefusal}
-use Rattle.psu_locks.specs.declared.info.Info.{Info}
+use Rattle.psu_locks.specs.declared.results.Grant.{Grant}
+use Rattle.psu_locks.specs.declared.results.Grant.TheVariants.{Granted, Queued, Failed}
+use Rattle.psu_locks.specs.declared.results.Freed.{Freed}
+use Rattle.psu_locks.specs.declared.results.Freed.TheVariants.{Exclusive, Shared}
+use Rattle.psu_locks.specs.declared.results.LockRefusal.{LockRefusal}
+use Rattle.psu_locks.specs.declared.results.Info.{Info}
 use Rattle.psu_hislip.specs.Frame.{header_of}
 use Rattle.psu_hislip.specs.declared.header.Header.{Header}
 use Rattle.psu_hislip.specs.declared.lock_responses.LockResponse.{LockResponse}

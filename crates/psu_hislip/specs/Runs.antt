@@ -7,9 +7,9 @@ use Rattle.psu_hislip.specs.Stream.Received.{Frame, Oversize, BadHeader}
 use Rattle.psu_hislip.specs.Action.{Act}
 use Rattle.psu_hislip.specs.Core.{Core, Outcome, outcome_of, error}
 use Rattle.psu_hislip.specs.declared.side.Side.{Side}
-use Rattle.psu_hislip.specs.declared.device_clear.DeviceClear.TheVariants.{Idle}
-use Rattle.psu_hislip.specs.declared.error_code.ErrorCode.{ErrorCode}
-use Rattle.psu_hislip.specs.declared.origin.Origin.{Origin}
+use Rattle.psu_hislip.specs.declared.side.DeviceClear.TheVariants.{Idle}
+use Rattle.psu_hislip.specs.declared.codes.ErrorCode.{ErrorCode}
+use Rattle.psu_hislip.specs.declared.action.Origin.{Origin}
 use Rattle.psu_hislip.specs.declared.side.Side.TheVariants.{Sync, Async}
 use Rattle.psu_hislip.specs.declared.message_type.MessageType.{MessageType}
 use Rattle.psu_hislip.specs.declared.message_type.MessageType.TheVariants.{FatalError, Error, Data, DataEnd, Trigger, AsyncLock, AsyncLockResponse, DeviceClearComplete, DeviceClearAcknowledge, AsyncRemoteLocalControl, AsyncRemoteLocalResponse, AsyncMaximumMessageSize, AsyncMaximumMessageSizeResponse, AsyncInitialize, AsyncInitializeResponse, AsyncDeviceClear, AsyncStatusQuery, AsyncStatusResponse, AsyncDeviceClearAcknowledge, AsyncLockInfo, AsyncLockInfoResponse}

@@ -32,19 +32,19 @@ abbrev pub piece_in : Arrival → List Piece
 piece_in t = received_piece t.side t.message
 
 -- the payloads of its Data, and its DataEnd
-pub record Transmission : Type 0 where
+pub record SentTransmission : Type 0 where
   pub payloads : List (List ℕ)
   pub id : ℕ
   pub last : List ℕ
 
-abbrev pub pieces_of : Transmission → List Piece
+abbrev pub pieces_of : SentTransmission → List Piece
 pieces_of transmission = map More transmission.payloads ++ Last transmission.id transmission.last ∷ []
 
-abbrev pub text_of : Transmission → List ℕ
+abbrev pub text_of : SentTransmission → List ℕ
 text_of transmission = joined transmission.payloads ++ transmission.last
 
 -- its action in a session that has had so many device clears
-abbrev pub action_for : ℕ → Transmission → Act
+abbrev pub action_for : ℕ → SentTransmission → Act
 action_for clears transmission =
     if nat_lt 65536 (length (text_of transmission)) then Act.TooMuch (record { id = transmission.id; clears = clears })
     else Act.Execute (record { id = transmission.id; clears = clears }) (text_of transmission)
@@ -59,7 +59,7 @@ abbrev pub transmissions : List Act → List Act
 transmissions actions = filter is_transmission actions
 
 -- its bytes, or none where they are too many
-abbrev pub text_kept : Transmission → Option (List ℕ)
+abbrev pub text_kept : SentTransmission → Option (List ℕ)
 text_kept transmission = if nat_lt 65536 (length (text_of transmission)) then None else Some (text_of transmission)
 
 abbrev pub action_text : Act → Option (List ℕ)
@@ -72,7 +72,7 @@ action_text action = None
 -- the clear cuts off; its AsyncDeviceClear; those received until its DeviceClearComplete; and the DeviceClearComplete.
 pub record Stretch : Type 0 where
   pub before : List Arrival
-  pub whole : List Transmission
+  pub whole : List SentTransmission
   pub cut : List (List ℕ)
   pub clear : Arrival
   pub between : List Arrival

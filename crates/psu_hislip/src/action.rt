@@ -1,7 +1,18 @@
-// The actions that the messages of a session ask for.
-use crate::{Origin, Side};
+//! The actions that the messages of a session ask for.
+
+use crate::Side;
 use arrayvec::ArrayVec;
 use std::alloc::Allocator;
+
+/// The origin of a message of the synchronous channel: its place in its session.
+#[derive(Clone, Copy, Debug, PartialEq, Eq)]
+pub struct Origin {
+    /// Its MessageID, which the frames of its response carry.
+    pub id: u32,
+    /// The number of device clears in the session before it, modulo 2^64. A response to it is dropped after another
+    /// device clear.
+    pub clears: u64,
+}
 
 /// The maximum size of a message that an action sends, in bytes: a header, and the 8 bytes of a maximum message size,
 /// the longest payload among these messages. So an action holds its message inline, and no allocation can fail.

@@ -1,25 +1,23 @@
-// The frames of responses.
+//! The frames of responses.
 ghost use Rattle.std.specs.Prelude.{◌≡◌, ◌<◌, List, ℕ, IfOk};
 ghost use Rattle.psu_hislip.specs.Answer.{answer_size, data_of, IsCut, IsAnswer, IsPart};
 
 use crate::MessageType;
 use crate::frames::put_frame;
+use crate::limits::{HEADER_SIZE, SENT_PAYLOAD_MOST};
 use std::alloc::{AllocError, Allocator};
 
-/// The maximum size of a payload that is sent, in bytes.
-const PAYLOAD: u64 = 65_520;
-
-/// The size of a header, in bytes.
-const HEADER: u64 = 16;
-
 /// Returns the maximum payload size for a client that accepts messages of this size.
-pub fn answer_size(size: Option<u64>) -> usize
+pub(crate) fn answer_size(size: Option<u64>) -> usize
     ensures size { result ≡ answer_size size }
     ensures some { 0 < result }
 {
     match size {
-        None => PAYLOAD as usize,
-        Some(size) => size.saturating_sub(HEADER).min(PAYLOAD).max(1) as usize,
+        None => SENT_PAYLOAD_MOST as usize,
+        Some(size) => size
+            .saturating_sub(HEADER_SIZE)
+            .min(SENT_PAYLOAD_MOST)
+            .max(1) as usize,
     }
 }
 
@@ -43,7 +41,7 @@ fn cut<A: Allocator + Copy>(
 }
 
 /// Returns the frames of a response that is sent whole.
-pub fn answer_frames<A: Allocator + Copy>(
+pub(crate) fn answer_frames<A: Allocator + Copy>(
     alloc: A,
     size: usize,
     id: u32,
@@ -58,7 +56,7 @@ pub fn answer_frames<A: Allocator + Copy>(
 }
 
 /// Returns the frames of a part of a response that continues after it.
-pub fn part_frames<A: Allocator + Copy>(
+pub(crate) fn part_frames<A: Allocator + Copy>(
     alloc: A,
     size: usize,
     id: u32,

@@ -1,4 +1,4 @@
-// A channel of a session: the messages of its stream.
+//! A channel of a session: the messages of its stream.
 ghost use Rattle.std.specs.Prelude.{◌≡◌, List, [], ◌++◌, OnOk, OnErr};
 ghost use Rattle.psu_hislip.specs.Channel.{Awaited, Fed};
 ghost use Rattle.psu_hislip.specs.Rest.{awaited, IsFedBy, IsRest};

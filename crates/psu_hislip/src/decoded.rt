@@ -1,4 +1,4 @@
-// The messages of a piece.
+//! The messages of a piece.
 ghost use Rattle.std.specs.Prelude.{◌≡◌, ◌++◌, List, IfOk};
 ghost use Rattle.psu_hislip.specs.Rest.{awaited, IsRest, IsCutOf};
 ghost use Rattle.psu_hislip.specs.declared.message.Message as declared;
@@ -13,7 +13,7 @@ use std::collections::VecDeque;
 /// them.
 ///
 /// Where allocation fails, the list may contain some of the messages of the piece.
-pub fn decode<A: Allocator + Copy>(
+pub(crate) fn decode<A: Allocator + Copy>(
     alloc: A,
     messages: &mut VecDeque<Message<A>, A>,
     rest: Rest<A>,

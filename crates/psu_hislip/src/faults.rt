@@ -1,4 +1,4 @@
-// The faults of a message.
+//! The faults of a message.
 ghost use Rattle.std.specs.Prelude.{◌≡◌};
 ghost use Rattle.psu_hislip.specs.Stream.{received};
 ghost use Rattle.psu_hislip.specs.Core.{takes, ill_formed, error};
@@ -7,7 +7,7 @@ use crate::{ErrorCode, Header, Message, MessageType, Side};
 use std::alloc::Allocator;
 
 /// The lowest code of a vendor-defined message type.
-const VENDOR: u8 = 128;
+const FIRST_VENDOR_TYPE: u8 = 128;
 
 // Whether a channel accepts a message type.
 fn takes(side: Side, kind: MessageType) -> bool
@@ -49,13 +49,13 @@ fn ill_formed(kind: MessageType, header: Header, payload: &[u8]) -> Option<Error
 }
 
 /// Returns the error for which a message is ignored without ending the session, if there is one.
-pub fn error<A: Allocator + Copy>(side: Side, message: &Message<A>) -> Option<ErrorCode>
+pub(crate) fn error<A: Allocator + Copy>(side: Side, message: &Message<A>) -> Option<ErrorCode>
     ensures { result ≡ error side (received message.now) }
 {
     match message {
         Message::BadHeader => None,
         Message::Oversize(_) => Some(ErrorCode::TooLarge),
-        Message::Frame(header, _) if header.kind >= VENDOR => Some(
+        Message::Frame(header, _) if header.kind >= FIRST_VENDOR_TYPE => Some(
             ErrorCode::UnrecognizedVendorType,
         ),
         Message::Frame(header, payload) => match header.message_type() {

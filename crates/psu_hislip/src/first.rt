@@ -1,4 +1,4 @@
-// The first message of a connection.
+//! The first message of a connection.
 ghost use Rattle.std.specs.Prelude.{◌≡◌};
 ghost use Rattle.psu_hislip.specs.Stream.{received};
 

@@ -1,4 +1,4 @@
-// The bytes of messages that are sent.
+//! The bytes of messages that are sent.
 ghost use Rattle.std.specs.Prelude.{◌≡◌, ◌++◌, [], ◌∷◌, OnOk};
 ghost use Rattle.psu_hislip.specs.Header.{header_bytes};
 ghost use Rattle.psu_hislip.specs.Frame.{frame_bytes};
@@ -11,7 +11,7 @@ use arrayvec::ArrayVec;
 use std::alloc::{AllocError, Allocator};
 
 /// Appends a message with control code 0 to the bytes to send.
-pub fn put_frame<A: Allocator + Copy>(
+pub(crate) fn put_frame<A: Allocator + Copy>(
     bytes: &mut Vec<u8, A>,
     kind: MessageType,
     parameter: u32,
@@ -27,7 +27,7 @@ pub fn put_frame<A: Allocator + Copy>(
 }
 
 /// Returns the action that sends a message without payload.
-pub fn send<A: Allocator + Copy>(side: Side, header: Header) -> Action<A>
+pub(crate) fn send<A: Allocator + Copy>(side: Side, header: Header) -> Action<A>
     ensures { act result ≡ Send side (header_bytes header) }
 {
     let mut bytes = ArrayVec::new();
@@ -36,7 +36,11 @@ pub fn send<A: Allocator + Copy>(side: Side, header: Header) -> Action<A>
 }
 
 /// Returns the action that sends a message without control code and parameter, with a payload of 8 bytes.
-pub fn send_with<A: Allocator + Copy>(side: Side, kind: MessageType, payload: &[u8; 8]) -> Action<A>
+pub(crate) fn send_with<A: Allocator + Copy>(
+    side: Side,
+    kind: MessageType,
+    payload: &[u8; 8],
+) -> Action<A>
     ensures { act result ≡ Send side (frame_bytes kind 0 0 payload.now) }
 {
     let header = Header::new(kind, 0, 0, payload.len() as u64);
@@ -47,14 +51,14 @@ pub fn send_with<A: Allocator + Copy>(side: Side, kind: MessageType, payload: &[
 }
 
 /// Returns the action that sends a message without parameter and payload.
-pub fn reply<A: Allocator + Copy>(side: Side, kind: MessageType, control: u8) -> Action<A>
+pub(crate) fn reply<A: Allocator + Copy>(side: Side, kind: MessageType, control: u8) -> Action<A>
     ensures { act result ≡ reply side kind control }
 {
     send(side, Header::new(kind, control, 0, 0))
 }
 
 /// Returns a list of this one action.
-pub fn one<A: Allocator + Copy>(action: Action<A>) -> Actions<A>
+pub(crate) fn one<A: Allocator + Copy>(action: Action<A>) -> Actions<A>
     ensures { acts result.items ≡ act action ∷ [] }
 {
     let mut actions = ArrayVec::new();
@@ -63,7 +67,7 @@ pub fn one<A: Allocator + Copy>(action: Action<A>) -> Actions<A>
 }
 
 /// Returns a list of these two actions.
-pub fn two<A: Allocator + Copy>(first: Action<A>, second: Action<A>) -> Actions<A>
+pub(crate) fn two<A: Allocator + Copy>(first: Action<A>, second: Action<A>) -> Actions<A>
     ensures { acts result.items ≡ act first ∷ act second ∷ [] }
 {
     ArrayVec::from([first, second])

@@ -1,4 +1,4 @@
-// The header of a message.
+//! The header of a message.
 ghost use Rattle.std.specs.Prelude.{◌≡◌, ◌∷◌, [], ◌↔◌, take, IsSome, IfSome, Some};
 ghost use Rattle.psu_hislip.specs.MessageType.{type_of};
 

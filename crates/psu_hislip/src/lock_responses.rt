@@ -1,14 +1,14 @@
-// The responses to lock messages.
-//
-// | message | result | response | control code | parameter |
-// |---|---|---|---|---|
-// | AsyncLock, control 1 | granted | AsyncLockResponse | 1, Success | 0 |
-// | | not granted before its timeout | | 0, Failure | 0 |
-// | | refused | | 3, Error | 0 |
-// | AsyncLock, control 0 | the exclusive lock is released | AsyncLockResponse | 1, Success | 0 |
-// | | the shared lock is released | | 2, SharedReleased | 0 |
-// | | no lock is held | | 3, Error | 0 |
-// | AsyncLockInfo | an exclusive lock is held, or none | AsyncLockInfoResponse | 1, or 0 | sessions that hold a lock |
+//! The responses to lock messages.
+//!
+//! | message | result | response | control code | parameter |
+//! |---|---|---|---|---|
+//! | AsyncLock, control 1 | granted | AsyncLockResponse | 1, Success | 0 |
+//! | | not granted before its timeout | | 0, Failure | 0 |
+//! | | refused | | 3, Error | 0 |
+//! | AsyncLock, control 0 | the exclusive lock is released | AsyncLockResponse | 1, Success | 0 |
+//! | | the shared lock is released | | 2, SharedReleased | 0 |
+//! | | no lock is held | | 3, Error | 0 |
+//! | AsyncLockInfo | an exclusive lock is held, or none | AsyncLockInfoResponse | 1, or 0 | sessions that hold a lock |
 ghost use Rattle.std.specs.Prelude.{◌≡◌};
 ghost use Rattle.psu_hislip.specs.LockResponses.{lock_response, release_response, lock_info_response};
 

@@ -1,4 +1,4 @@
-// A message of a stream.
+//! A message of a stream.
 use crate::Header;
 use std::alloc::Allocator;
 

@@ -1,4 +1,4 @@
-// The types of messages.
+//! The types of messages.
 ghost use Rattle.std.specs.Prelude.{◌≡◌};
 ghost use Rattle.psu_hislip.specs.MessageType.{code_of, type_of};
 

@@ -1,4 +1,4 @@
-// The received part of an incomplete message.
+//! The received part of an incomplete message.
 ghost use Rattle.std.specs.Prelude.{◌≡◌, [], IsTrue, IfSome, IsNone};
 ghost use Rattle.psu_hislip.specs.Channel.Awaited.{Partial};
 ghost use Rattle.psu_hislip.specs.Rest.{awaited, IsRest, IsBegun};
@@ -8,7 +8,7 @@ use std::alloc::Allocator;
 
 /// What has been received of an incomplete message.
 #[derive(Drop)]
-pub enum Rest<A: Allocator + Copy> {
+pub(crate) enum Rest<A: Allocator + Copy> {
     /// The first bytes of a header.
     Header(ArrayVec<u8, 16>),
     /// A header, and the first bytes of its payload.
@@ -21,7 +21,7 @@ pub enum Rest<A: Allocator + Copy> {
 
 impl<A: Allocator + Copy> Rest<A> {
     /// Returns whether no byte has been received.
-    pub fn is_empty(&self) -> bool
+    pub(crate) fn is_empty(&self) -> bool
         ensures { IsTrue result → awaited self.now ≡ Partial [] }
     {
         match self {
@@ -31,7 +31,7 @@ impl<A: Allocator + Copy> Rest<A> {
     }
 
     /// Returns a copy without allocating, or `None` where a payload has begun.
-    pub fn copied(&self) -> Option<Rest<A>>
+    pub(crate) fn copied(&self) -> Option<Rest<A>>
         requires { IsRest self.now }
         ensures same { IfSome result (λ rest. awaited rest ≡ awaited self.now) }
         ensures good { IfSome result (λ rest. IsRest rest) }

@@ -1,8 +1,8 @@
-// The session core: the protocol state of one session.
+//! The session core: the protocol state of one session.
 ghost use Rattle.std.specs.Prelude.{◌≡◌, ◌+◌, ◌&&◌, not, ◌++◌, ◌∷◌, [], length, ◌↔◌, IsTrue, true, IfOk, IfSome, IsSome, OnOk, OnErr, None, Some};
 ghost use Rattle.psu_hislip.specs.Stream.{received};
 ghost use Rattle.psu_hislip.specs.Action.{act, acts};
-ghost use Rattle.psu_hislip.specs.Transmission.{HasBytes};
+ghost use Rattle.psu_hislip.specs.PartialTransmission.{HasBytes};
 ghost use Rattle.psu_hislip.specs.Core.{is_sync, joins, initializes, misplaced, fatal, ill_formed, is_delivered, delivered, is_begun, completes, completed, cleared, origin, IsCurrent, locked, sized, joining, triggered, row, is_part, NeedsMemory, outcome_of};
 ghost use Rattle.psu_hislip.specs.Frame.{header_of};
 ghost use Rattle.psu_hislip.specs.Runs.{started};
@@ -12,23 +12,19 @@ ghost use Rattle.psu_hislip.specs.declared.message_type.MessageType.TheVariants.
 use crate::answer::{answer_frames, answer_size, part_frames};
 use crate::faults::error;
 use crate::frames::{one, reply, send_with, two};
-use crate::transmission::Transmission;
+use crate::limits::MESSAGE_SIZE;
+use crate::partial_transmission::PartialTransmission;
 use crate::{
     Action, Actions, DeviceClear, FatalCode, Header, LockResponse, Message, MessageType, Origin,
     Side,
 };
 use arrayvec::ArrayVec;
+use psu_locks::LOCK_STRING_MOST;
 use std::alloc::{AllocError, Allocator};
 use std::marker::Model;
 
-/// The maximum length of a shared lock's string, in bytes.
-const LOCK_STRING: usize = 256;
-
-/// The maximum message size that the server accepts, 65,536 bytes, as AsyncMaximumMessageSizeResponse carries it.
-const SIZE: [u8; 8] = [0, 0, 0, 0, 0, 1, 0, 0];
-
 /// Version 1.0 of the protocol, in the upper half of InitializeResponse's parameter.
-const VERSION: u32 = 0x0100_0000;
+const PROTOCOL_VERSION: u32 = 0x0100_0000;
 
 /// The state of a session between two messages: whether it is joined or has failed, the client's maximum message size,
 /// the transmission received so far, the device clear and the number of device clears. Contracts see just that.
@@ -39,7 +35,7 @@ pub struct SessionCore<A: Allocator + Copy> {
     joined: bool,
     failed: bool,
     size: Option<u64>,
-    transmission: Transmission<A>,
+    transmission: PartialTransmission<A>,
     clear: DeviceClear,
     clears: u64,
 }
@@ -93,7 +89,7 @@ fn locked<A: Allocator + Copy>(header: Header, string: Vec<u8, A>) -> Action<A>
     if header.control == 0 {
         return Action::Release;
     }
-    if string.len() > LOCK_STRING {
+    if string.len() > LOCK_STRING_MOST {
         let kind = MessageType::AsyncLockResponse;
         return reply(Side::Async, kind, LockResponse::Error.code());
     }
@@ -111,7 +107,7 @@ impl<A: Allocator + Copy> SessionCore<A> {
             joined: false,
             failed: false,
             size: None,
-            transmission: Transmission::new(alloc),
+            transmission: PartialTransmission::new(alloc),
             clear: DeviceClear::Idle,
             clears: 0,
         }
@@ -121,7 +117,7 @@ impl<A: Allocator + Copy> SessionCore<A> {
     pub fn response(&self) -> Header
         ensures { result ≡ header_of InitializeResponse 0 (16777216 + self.now.session) 0 }
     {
-        let parameter = VERSION + self.session as u32;
+        let parameter = PROTOCOL_VERSION + self.session as u32;
         Header::new(MessageType::InitializeResponse, 0, parameter, 0)
     }
 
@@ -273,7 +269,7 @@ impl<A: Allocator + Copy> SessionCore<A> {
         ]);
         self.size = Some(size);
         let kind = MessageType::AsyncMaximumMessageSizeResponse;
-        one(send_with(Side::Async, kind, &SIZE))
+        one(send_with(Side::Async, kind, &MESSAGE_SIZE))
     }
 
     fn join(&mut self) -> Actions<A>

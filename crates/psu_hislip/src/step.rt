@@ -1,21 +1,19 @@
-// One step through a stream.
+//! One step through a stream.
 ghost use Rattle.std.specs.Prelude.{◌≡◌, ℕ, ◌+◌, ◌-◌, ◌^◌, ◌<◌, ◌≤◌, [], ◌++◌, List, length, take, IfOk};
 ghost use Rattle.psu_hislip.specs.Channel.{Moves};
 ghost use Rattle.psu_hislip.specs.Channel.Awaited.{Partial, Passing};
 ghost use Rattle.psu_hislip.specs.Header.{header_bytes, Fits};
 ghost use Rattle.psu_hislip.specs.Rest.{awaited, given, IsRest};
 
+use crate::limits::PAYLOAD_MOST;
 use crate::rest::Rest;
 use crate::{Header, Message};
 use arrayvec::ArrayVec;
 use std::alloc::{AllocError, Allocator};
 
-/// The maximum size of a payload that is kept, in bytes.
-pub const MOST: u64 = 65_536;
-
 /// One step through a stream, up to the end of a message or of a piece.
 #[derive(Drop)]
-pub struct Step<A: Allocator + Copy> {
+pub(crate) struct Step<A: Allocator + Copy> {
     /// The number of bytes of the piece that it took, at least one.
     pub used: usize,
     /// The message that ends with them, if one does.
@@ -44,7 +42,7 @@ fn headed<A: Allocator + Copy>(
             rest: Rest::Ended,
         });
     };
-    if header.length > MOST {
+    if header.length > PAYLOAD_MOST {
         return Ok(Step {
             used,
             message: Some(Message::Oversize(header)),
@@ -149,7 +147,7 @@ fn passing<A: Allocator + Copy>(count: u64, piece: &[u8]) -> Step<A>
 
 impl<A: Allocator + Copy> Step<A> {
     /// Takes bytes of a piece of the stream, up to the end of a message or of the piece.
-    pub fn take(alloc: A, rest: Rest<A>, piece: &[u8]) -> Result<Step<A>, AllocError>
+    pub(crate) fn take(alloc: A, rest: Rest<A>, piece: &[u8]) -> Result<Step<A>, AllocError>
         requires good { IsRest rest }
         requires some { 0 < length piece.now }
         ensures used { IfOk result (λ step. (0 < step.used) × (step.used ≤ length piece.now)) }

@@ -1,4 +1,4 @@
-// The whole frames of a piece.
+//! The whole frames of a piece.
 ghost use Rattle.std.specs.Prelude.{◌≡◌, ℕ, [], ◌++◌, List, IfSome, IfOk};
 ghost use Rattle.psu_hislip.specs.Stream.{StartsWith};
 ghost use Rattle.psu_hislip.specs.Stream.Received.{Frame};
@@ -6,7 +6,7 @@ ghost use Rattle.psu_hislip.specs.Channel.Awaited.{Partial};
 ghost use Rattle.psu_hislip.specs.Rest.{IsCutOf};
 ghost use Rattle.psu_hislip.specs.declared.message.Message as declared;
 
-use crate::step::MOST;
+use crate::limits::PAYLOAD_MOST;
 use crate::{Header, Message};
 use std::alloc::{AllocError, Allocator};
 use std::collections::VecDeque;
@@ -14,7 +14,7 @@ use std::collections::VecDeque;
 /// Appends the whole frames that a piece begins with, and returns the rest of the piece.
 ///
 /// Where allocation fails, the list may contain some of the frames.
-pub fn take_frames<'a, A: Allocator + Copy>(
+pub(crate) fn take_frames<'a, A: Allocator + Copy>(
     alloc: A,
     messages: &mut VecDeque<Message<A>, A>,
     piece: &'a [u8],
@@ -39,7 +39,7 @@ fn first_frame(bytes: &[u8]) -> Option<(Header, &[u8], &[u8])>
 {
     let (head, after) = bytes.split_first_chunk()?;
     let header = Header::read(head)?;
-    if header.length > MOST || header.length > after.len() as u64 {
+    if header.length > PAYLOAD_MOST || header.length > after.len() as u64 {
         return None;
     }
     let (payload, after) = after.split_at(header.length as usize);

@@ -1,4 +1,4 @@
-// A gate that blocks the flusher until a client releases it.
+//! A gate that blocks the flusher until a client releases it.
 use psu_client::{Missed, holds};
 use psu_server::{Gate, Point};
 use std::alloc::{AllocError, Global};
@@ -7,17 +7,17 @@ use std::sync::atomic::{AtomicBool, Ordering};
 use std::thread;
 use std::time::{Clock, Duration};
 
-/// How often a flag is checked, once a millisecond.
-const LOOKS: u32 = 8_000;
+// How often a flag is checked, once a millisecond: for almost as long as a test may last.
+const LOOKS: u32 = 50_000;
 
 #[derive(Drop)]
 struct State {
-    is_held: AtomicBool,
-    is_let_go: AtomicBool,
-    is_over: AtomicBool,
+    is_at_point: AtomicBool,
+    is_released: AtomicBool,
+    has_timed_out: AtomicBool,
 }
 
-/// A gate that blocks a thread at this point, if there is one, until it is released, for at most this many checks.
+/// A gate that blocks a thread at a point, if there is one, until it is released, for at most `LOOKS` checks.
 #[derive(Drop)]
 pub struct Hold<R: Drop> {
     rt: R,
@@ -37,11 +37,12 @@ fn came_true<R: Clock>(rt: &R, flag: &AtomicBool) -> bool {
 }
 
 impl<R: Clock + Copy> Hold<R> {
+    /// Returns a gate that blocks at this point, or at none.
     pub fn new(rt: R, alloc: Global, point: Option<Point>) -> Result<Hold<R>, AllocError> {
         let state = State {
-            is_held: AtomicBool::new(false),
-            is_let_go: AtomicBool::new(false),
-            is_over: AtomicBool::new(false),
+            is_at_point: AtomicBool::new(false),
+            is_released: AtomicBool::new(false),
+            has_timed_out: AtomicBool::new(false),
         };
         let state = Arc::new(alloc, state)?;
         Ok(Hold { rt, point, state })
@@ -58,24 +59,24 @@ impl<R: Clock + Copy> Hold<R> {
 
     /// Waits until the flusher is held.
     pub fn wait_until_held(&self) -> Result<(), Missed> {
-        let is_held = came_true(&self.rt, &self.state.is_held);
-        holds(is_held, "the flusher is held")
+        let is_at_point = came_true(&self.rt, &self.state.is_at_point);
+        holds(is_at_point, "the flusher is held")
     }
 
     /// Releases the flusher, which was held until now.
-    pub fn let_go(&self) -> Result<(), Missed> {
-        let is_over = self.state.is_over.load(Ordering::SeqCst);
-        self.state.is_let_go.store(true, Ordering::SeqCst);
-        holds(!is_over, "the flusher was held till now")
+    pub fn release(&self) -> Result<(), Missed> {
+        let has_timed_out = self.state.has_timed_out.load(Ordering::SeqCst);
+        self.state.is_released.store(true, Ordering::SeqCst);
+        holds(!has_timed_out, "the flusher was held until now")
     }
 }
 
 impl<R: Clock + Copy> Gate for Hold<R> {
     fn at(&self, point: Point) {
         if self.point == Some(point) {
-            self.state.is_held.store(true, Ordering::SeqCst);
-            if !came_true(&self.rt, &self.state.is_let_go) {
-                self.state.is_over.store(true, Ordering::SeqCst);
+            self.state.is_at_point.store(true, Ordering::SeqCst);
+            if !came_true(&self.rt, &self.state.is_released) {
+                self.state.has_timed_out.store(true, Ordering::SeqCst);
             }
         }
     }

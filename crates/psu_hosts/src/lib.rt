@@ -7,4 +7,4 @@ mod server;
 
 pub use hold::Hold;
 pub use play::{Mismatch, plays};
-pub use server::{LIMIT, formatted, free_port, new_disk, new_served, removed, served, served_disk};
+pub use server::{formatted, listening, new_disk, new_served, removed, served, served_disk};

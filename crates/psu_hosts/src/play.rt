@@ -1,20 +1,21 @@
-// Scripts that are played with servers, one after another.
-//
-// A script begins with a heading: `== shared_lock 48851` has the server's image and port, and `== late_wait 48889 run`
-// also has the point at which its flusher is held, before a job runs (`run`) or before a page is written (`write`). The
-// contents of an image may cost 256 pages; `== items 48961 run 480` has another limit. The steps are those of
-// `psu_client::Cast`, and two of the flusher:
-//
-// | step | means |
-// |---|---|
-// | `flusher held` | it is held |
-// | `flusher goes` | it was held until now, and is released |
-//
-// An empty line, and one that begins with `#`, has no effect.
+//! Scripts that are played with servers, one after another.
+//!
+//! A script begins with a heading: `== shared_lock.image` has the server's image, and `== late_wait.image run` also has
+//! the point at which its flusher is held, before a job runs (`run`) or before a page is written (`write`). The contents
+//! of an image may cost 256 pages; `== items.image run 480` has another limit. The steps are those of
+//! `psu_client::Cast`, and two of the flusher:
+//!
+//! | step | means |
+//! |---|---|
+//! | `flusher held` | it is held |
+//! | `flusher released` | it was held until now, and is released |
+//!
+//! An empty line, and one that begins with `#`, has no effect.
 use crate::hold::Hold;
 use crate::server::{formatted, served};
 use psu_client::{Cast, Missed};
 use psu_server::Point;
+use psu_tables::{is_step, repeated};
 use std::alloc::Global;
 use std::fs::File;
 use std::io::{Eprint, Print};
@@ -37,11 +38,10 @@ struct Stage<R: Drop> {
     hold: Hold<R>,
 }
 
-/// A heading: the image, with its limit, the port, and where the flusher is held.
+/// A heading: the image, with its limit, and where the flusher is held.
 #[derive(Clone, Copy)]
 struct Heading<'s> {
     image: &'s str,
-    port: u16,
     point: Option<Point>,
     limit: u16,
 }
@@ -58,12 +58,11 @@ fn held_at(word: &str) -> Option<Option<Point>> {
 
 // Reads a heading.
 fn heading_of(line: &str) -> Option<Heading<'_>> {
-    let (image, rest) = line.strip_prefix("== ")?.split_once(" ")?;
-    let (port, rest) = rest.split_once(" ").unwrap_or((rest, ""));
+    let heading = line.strip_prefix("== ")?;
+    let (image, rest) = heading.split_once(" ").unwrap_or((heading, ""));
     let (word, limit) = rest.split_once(" ").unwrap_or((rest, "256"));
     Some(Heading {
         image,
-        port: port.parse().ok()?,
         point: held_at(word)?,
         limit: limit.parse().ok()?,
     })
@@ -95,7 +94,7 @@ where
         return Err(Missed::Ground("memory"));
     };
     formatted(&rt, alloc, heading.image, heading.limit)?;
-    let port = served(rt, alloc, heading.image, heading.port, gate)?;
+    let port = served(rt, alloc, heading.image, gate)?;
     Ok(Stage {
         cast: Cast::new(rt, alloc, port),
         hold,
@@ -106,9 +105,18 @@ impl<R: Net<Stream = TcpStream> + Clock + Copy> Stage<R> {
     fn step(&mut self, line: &str) -> Result<(), Missed> {
         match line {
             "flusher held" => self.hold.wait_until_held(),
-            "flusher goes" => self.hold.let_go(),
+            "flusher released" => self.hold.release(),
             _ => self.cast.step(line),
         }
+    }
+
+    // Makes the step of a line as often as it says.
+    fn line(&mut self, line: &str) -> Result<(), Missed> {
+        let (count, step) = repeated(line);
+        for _ in 0..count {
+            self.step(step)?;
+        }
+        Ok(())
     }
 }
 
@@ -138,7 +146,7 @@ where
         return Ok(());
     }
     match stage {
-        Some(stage) => stage.step(line),
+        Some(stage) => stage.line(line),
         None => Err(Missed::Ground("a heading")),
     }
 }
@@ -161,11 +169,10 @@ where
 {
     let mut stage = None;
     for line in scripts.lines() {
-        if line.is_empty() || line.starts_with("#") {
-            continue;
-        }
-        if let Err(missed) = take(&mut stage, rt, alloc, line) {
-            return Err(Mismatch { line, missed });
+        if is_step(line) {
+            if let Err(missed) = take(&mut stage, rt, alloc, line) {
+                return Err(Mismatch { line, missed });
+            }
         }
     }
     match stage {

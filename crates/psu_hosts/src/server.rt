@@ -1,8 +1,9 @@
-// A server in a thread that is not joined, and its image.
-use psu_client::{Missed, connected};
+//! A server in a thread that is not joined, and its image.
+use psu_call_steps::image;
+use psu_client::Missed;
 use psu_disk::{Disk, FileDisk, MemDisk, OsFiles};
-use psu_items::Store;
-use psu_server::{Gate, serve, serve_disk};
+use psu_items::{IMAGE_LIMIT, Store};
+use psu_server::{Gate, serve_disk};
 use std::alloc::Global;
 use std::fs::{self, File};
 use std::io::{Eprint, Print};
@@ -11,35 +12,21 @@ use std::rt::{Clock, Files};
 use std::sync::Wait;
 use std::thread::{self, Threads};
 
-/// How many pages the contents of an ordinary image may cost.
-pub const LIMIT: u16 = 256;
-
-/// The size of such an image.
-const SIZE: u64 = 263_168;
-
-/// Binds the first port from this one on at which no process listens, in steps that leave other tests their ports.
-pub fn free_port<R: Net<Listener = TcpListener, Stream = TcpStream>>(
+/// Binds a port that the system chooses, and returns it.
+pub fn listening<R: Net<Listener = TcpListener, Stream = TcpStream>>(
     rt: &R,
-    first: u16,
 ) -> Result<(TcpListener, u16), Missed> {
-    for step in 0..50u16 {
-        let port = first.saturating_add(100 * step);
-        if let Ok(listener) = TcpListener::bind(rt, ("127.0.0.1", port)) {
-            return Ok((listener, port));
-        }
+    let Ok(listener) = TcpListener::bind(rt, ("127.0.0.1", 0)) else {
+        return Err(Missed::Ground("a listener"));
+    };
+    match listener.local_addr() {
+        Ok(address) => Ok((listener, address.port())),
+        Err(_) => Err(Missed::Ground("a port")),
     }
-    Err(Missed::Ground("a port"))
 }
 
-/// Serves the image of this name, at this port or, where that is taken, at another, and returns the port, at which it
-/// listens.
-pub fn served<R, G>(
-    rt: R,
-    alloc: Global,
-    image: &'static str,
-    first: u16,
-    gate: G,
-) -> Result<u16, Missed>
+/// Serves the image of this name, and returns the port at which the server listens.
+pub fn served<R, G>(rt: R, alloc: Global, image: &'static str, gate: G) -> Result<u16, Missed>
 where
     R: Net<Listener = TcpListener, Stream = TcpStream>
         + Files<File = File>
@@ -54,29 +41,15 @@ where
     R::Dir: Send,
     G: Gate + Drop + Send + Sync + 'static,
 {
-    let (listener, port) = free_port(&rt, first)?;
-    drop(listener);
-    let begun = thread::spawn(&rt, move || {
-        let _fault = serve(rt, alloc, image, port, gate);
-    })
-    .is_ok();
-    if !begun {
-        return Err(Missed::Ground("a thread"));
+    match FileDisk::of(&mut OsFiles { files: &rt }, alloc, image) {
+        Ok(disk) => served_disk(rt, alloc, disk, gate, rt),
+        Err(_) => Err(Missed::Ground("an image")),
     }
-    let stream = connected(&rt, port)?;
-    drop(stream);
-    Ok(port)
 }
 
-/// Serves a new image, at this port or, where that is taken, at another, and returns the port. The file stays: a store
-/// whose file has no name any more is broken.
-pub fn new_served<R, G>(
-    rt: R,
-    alloc: Global,
-    image: &'static str,
-    first: u16,
-    gate: G,
-) -> Result<u16, Missed>
+/// Serves a new image, and returns the port at which the server listens. The file stays: a store whose file has no name
+/// any more is broken.
+pub fn new_served<R, G>(rt: R, alloc: Global, image: &'static str, gate: G) -> Result<u16, Missed>
 where
     R: Net<Listener = TcpListener, Stream = TcpStream>
         + Files<File = File>
@@ -91,27 +64,23 @@ where
     R::Dir: Send,
     G: Gate + Drop + Send + Sync + 'static,
 {
-    formatted(&rt, alloc, image, LIMIT)?;
-    served(rt, alloc, image, first, gate)
+    formatted(&rt, alloc, image, IMAGE_LIMIT)?;
+    served(rt, alloc, image, gate)
 }
 
 /// Returns a formatted disk in memory.
 pub fn new_disk(alloc: Global) -> Result<MemDisk<Global>, Missed> {
-    let Ok(disk) = MemDisk::new(alloc, SIZE) else {
-        return Err(Missed::Ground("memory"));
-    };
-    match Store::format(alloc, disk, LIMIT) {
-        Ok(store) => Ok(store.into_disk()),
-        Err(_) => Err(Missed::Ground("a formatted disk")),
+    match image(alloc, IMAGE_LIMIT) {
+        Some(disk) => Ok(disk),
+        None => Err(Missed::Ground("a formatted disk")),
     }
 }
 
-/// Serves a disk, at this port or, where that is taken, at another, and returns the port.
+/// Serves a disk, and returns the port at which the server listens: clients may connect at once.
 pub fn served_disk<R, D, G, E>(
     rt: R,
     alloc: Global,
     disk: D,
-    first: u16,
     gate: G,
     errors: E,
 ) -> Result<u16, Missed>
@@ -128,7 +97,7 @@ where
     G: Gate + Drop + Send + Sync + 'static,
     E: Eprint + Drop + Send + 'static,
 {
-    let (listener, port) = free_port(&rt, first)?;
+    let (listener, port) = listening(&rt)?;
     let begun = thread::spawn(&rt, move || {
         let _fault = serve_disk(rt, alloc, disk, listener, gate, errors);
     })

@@ -8,7 +8,7 @@ use Rattle.psu_outputs.specs.Outputs.{all_settings, any_conflicts, with_all}
 use Rattle.psu_outputs.specs.Settings.{after_set, is_in_range}
 use Rattle.psu_outputs.specs.declared.output.Output.{Output}
 use Rattle.psu_outputs.specs.declared.setting.Setting.{Setting}
-use Rattle.psu_status.specs.declared.enables.Enables.{Enables}
+use Rattle.psu_status.specs.declared.groups.Enables.{Enables}
 use Rattle.psu_tree.specs.Nonvolatile.{is_nonvolatile}
 use Rattle.psu_tree.specs.declared.queries.Action.TheVariants as action
 use Rattle.psu_tree.specs.declared.command.Command.{Command}
@@ -57,7 +57,7 @@ enables_keep_nothing s enable.ServiceRequest change e = cc
 flag_keeps_nothing : (s : Situation) (which : Flag) (change : nv.Command) → flag_queried s which ≡ Keeps change → ⊥
 flag_keeps_nothing s flag.PowerOnClear change e = cc
 flag_keeps_nothing s flag.Macros change e = cc
-flag_keeps_nothing s flag.Protection change e = cc
+flag_keeps_nothing s flag.UserDataProtection change e = cc
 flag_keeps_nothing s flag.Recall change e = cc
 
 query_keeps_nothing : (s : Situation) (asks : Query) (change : nv.Command) → query_means s asks ≡ Keeps change → ⊥
@@ -124,7 +124,7 @@ kept_are_nonvolatile s (command.Enable enable.EventStatus bits) change e = while
 kept_are_nonvolatile s (command.Enable enable.ServiceRequest bits) change e = while_false s.contents.enables _ change _ e
 kept_are_nonvolatile s (command.Flag flag.PowerOnClear on) change e = refl
 kept_are_nonvolatile s (command.Flag flag.Macros on) change e = cc
-kept_are_nonvolatile s (command.Flag flag.Protection on) change e = cc
+kept_are_nonvolatile s (command.Flag flag.UserDataProtection on) change e = cc
 kept_are_nonvolatile s (command.Flag flag.Recall on) change e = refl
 kept_are_nonvolatile s (command.Filter group which bits) change e = cc
 kept_are_nonvolatile s (command.Register on_register.Save number) change e = refl
@@ -171,7 +171,7 @@ nonvolatile_are_kept s (command.Enable enable.EventStatus bits) e = enables_kept
 nonvolatile_are_kept s (command.Enable enable.ServiceRequest bits) e = enables_kept s.contents.enables _ _ e
 nonvolatile_are_kept s (command.Flag flag.PowerOnClear on) e = kept _
 nonvolatile_are_kept s (command.Flag flag.Macros on) e = cc
-nonvolatile_are_kept s (command.Flag flag.Protection on) e = cc
+nonvolatile_are_kept s (command.Flag flag.UserDataProtection on) e = cc
 nonvolatile_are_kept s (command.Flag flag.Recall on) e = kept _
 nonvolatile_are_kept s (command.Filter group which bits) e = cc
 nonvolatile_are_kept s (command.Register on_register.Save number) e = refused_or (nat_le 100 number) DataOutOfRange _ (kept _)

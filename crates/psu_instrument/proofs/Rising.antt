@@ -7,8 +7,8 @@ use Rattle.std.proofs.lemmas.Bool.{eqb-true, lt-ltb}
 use Rattle.psu_lex.specs.declared.scpi_error.ScpiError.{ScpiError}
 use Rattle.psu_status.specs.Registers.{rising, summary, without_events}
 use Rattle.psu_status.specs.Status.{Reported, bit, enabled, group_of, summaries, with_group}
-use Rattle.psu_status.specs.declared.group.Group.{Group}
-use Rattle.psu_status.specs.declared.group.Group.TheVariants as group
+use Rattle.psu_status.specs.declared.groups.Group.{Group}
+use Rattle.psu_status.specs.declared.groups.Group.TheVariants as group
 use Rattle.psu_instrument.specs.Speaking.{RaisesNone}
 
 -- ---- bits

@@ -38,7 +38,7 @@ use Rattle.psu_instrument.specs.Meaning.{Situation, Meaning, Refuses, Does, Keep
 use Rattle.psu_instrument.specs.Reporting.{error_text}
 use Rattle.psu_instrument.specs.Speaking.{RaisesNone}
 use Rattle.psu_instrument.specs.Supplies.{queried, level_queried, level_of, set, switch_of}
-use Rattle.psu_instrument.specs.declared.completion.Completion.{Completion}
+use Rattle.psu_instrument.specs.declared.act.Completion.{Completion}
 use Rattle.psu_instrument.proofs.Rising.{none_rises, events_read, error_read, group_read}
 
 -- ---- texts
@@ -123,7 +123,7 @@ enables_are_quiet s enable.ServiceRequest = number s _
 flag_is_quiet : (s : Situation) (which : Flag) → IsQuiet s (flag_queried s which)
 flag_is_quiet s flag.PowerOnClear = number s _
 flag_is_quiet s flag.Macros = number s _
-flag_is_quiet s flag.Protection = number s _
+flag_is_quiet s flag.UserDataProtection = number s _
 flag_is_quiet s flag.Recall = answered s _ (some_choice s.contents.recall)
 
 query_is_quiet : (s : Situation) (asks : Query) → IsQuiet s (query_means s asks)
@@ -184,7 +184,7 @@ each_answer_is_quiet s (command.Enable enable.EventStatus bits) = either s (is_s
 each_answer_is_quiet s (command.Enable enable.ServiceRequest bits) = either s (is_some s.contents.enables) _ _ (keeps s _) (silent s _)
 each_answer_is_quiet s (command.Flag flag.PowerOnClear on) = keeps s _
 each_answer_is_quiet s (command.Flag flag.Macros on) = silent s _
-each_answer_is_quiet s (command.Flag flag.Protection on) = silent s _
+each_answer_is_quiet s (command.Flag flag.UserDataProtection on) = silent s _
 each_answer_is_quiet s (command.Flag flag.Recall on) = keeps s _
 each_answer_is_quiet s (command.Filter group which bits) = silent s _
 each_answer_is_quiet s (command.Register on_register.Save number) = either s (nat_le 100 number) _ _ (refuses s _) (keeps s _)

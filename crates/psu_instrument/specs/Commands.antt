@@ -8,7 +8,7 @@ use Rattle.psu_tree.specs.declared.queries.Query.{Query}
 use Rattle.psu_tree.specs.declared.queries.Query.TheVariants as query
 use Rattle.psu_tree.specs.declared.values.OnRegister.{OnRegister}
 use Rattle.psu_tree.specs.declared.values.OnRegister.TheVariants as on_register
-use Rattle.psu_instrument.specs.declared.completion.Completion.TheVariants as completion
+use Rattle.psu_instrument.specs.declared.act.Completion.TheVariants as completion
 use Rattle.psu_instrument.specs.Meaning.{Situation, Meaning, Completes, answers}
 use Rattle.psu_instrument.specs.Common as common
 use Rattle.psu_instrument.specs.Reporting as reporting

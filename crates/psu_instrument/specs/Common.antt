@@ -53,7 +53,7 @@ status_byte s = says s (reporting.status_byte s.instrument.status s.available)
 abbrev pub flagged : Situation → Flag → Bool → Meaning
 flagged s flag.PowerOnClear on = Keeps (PowerOnClear (if on then None else Some (record { sre = s.instrument.status.sre; ese = s.instrument.status.ese })))
 flagged s flag.Macros on = leaves (record s.instrument { expands = on })
-flagged s flag.Protection on = leaves (record s.instrument { protected = on })
+flagged s flag.UserDataProtection on = leaves (record s.instrument { protected = on })
 flagged s flag.Recall on = Keeps (Recall on)
 
 abbrev pub digit : Bool → ℕ
@@ -67,7 +67,7 @@ choice recall = if recall then codes "RCL0" else codes "RST"
 abbrev pub flag_queried : Situation → Flag → Meaning
 flag_queried s flag.PowerOnClear = says s (digit (is_none s.contents.enables))
 flag_queried s flag.Macros = says s (digit s.instrument.expands)
-flag_queried s flag.Protection = says s (digit s.instrument.protected)
+flag_queried s flag.UserDataProtection = says s (digit s.instrument.protected)
 flag_queried s flag.Recall = answers s (choice s.contents.recall)
 
 -- ---- settings

@@ -8,7 +8,7 @@ use Rattle.psu_lex.specs.declared.scpi_error.ScpiError.{ScpiError}
 use Rattle.psu_lex.specs.declared.scpi_error.ScpiError.TheVariants.{MacroHeaderNotFound, MacroRecursionError, OutOfMemory}
 use Rattle.psu_nv.specs.Commands.{DefineMacro, RemoveMacro, PurgeMacros}
 use Rattle.psu_nv.specs.Contents.{Macro, body_at}
-use Rattle.psu_tree.specs.declared.unit_request.MacroCall.{MacroCall}
+use Rattle.psu_tree.specs.declared.command.MacroCall.{MacroCall}
 use Rattle.psu_tree.specs.declared.values.OnMacro.{OnMacro}
 use Rattle.psu_tree.specs.declared.values.OnMacro.TheVariants as on_macro
 use Rattle.psu_instrument.specs.Instrument.{Instrument}

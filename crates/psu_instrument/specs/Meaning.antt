@@ -9,7 +9,7 @@ use Rattle.psu_nv.specs.Views.{command_of}
 use Rattle.psu_instrument.specs.Instrument.{Instrument}
 use Rattle.psu_instrument.specs.declared.act.Act.{Act}
 use Rattle.psu_instrument.specs.declared.act.Act.TheVariants as act
-use Rattle.psu_instrument.specs.declared.completion.Completion.{Completion}
+use Rattle.psu_instrument.specs.declared.act.Completion.{Completion}
 
 -- the situation of a command: the limit, the nonvolatile contents, the instrument, and whether the session has a
 -- response that it has not read

@@ -5,8 +5,8 @@ use Rattle.psu_lex.specs.Errors as errors
 use Rattle.psu_lex.specs.declared.scpi_error.ScpiError.{ScpiError}
 use Rattle.psu_status.specs.Registers.{filter_of, with_filter, fifteen_bits, without_events}
 use Rattle.psu_status.specs.Status as reporting
-use Rattle.psu_status.specs.declared.filter.Filter.{Filter}
-use Rattle.psu_status.specs.declared.group.Group.{Group}
+use Rattle.psu_status.specs.declared.groups.Filter.{Filter}
+use Rattle.psu_status.specs.declared.groups.Group.{Group}
 use Rattle.psu_instrument.specs.Instrument.{with_status}
 use Rattle.psu_instrument.specs.Meaning.{Situation, Meaning, Does, answers, says, leaves}
 

@@ -4,7 +4,7 @@ use Rattle.std.specs.Prelude.{ℕ, not, Bool, if◌then◌else◌, Option, Some,
 use Rattle.psu_lex.specs.declared.scpi_error.ScpiError.TheVariants.{DataOutOfRange, SettingsConflict}
 use Rattle.psu_outputs.specs.Outputs.{supply_of, with_supply, with_load, without_trip, is_load, any_conflicts, with_all, all_settings}
 use Rattle.psu_outputs.specs.Settings.{is_in_range, after_set, measured}
-use Rattle.psu_outputs.specs.declared.measured.Measured.{Measured}
+use Rattle.psu_outputs.specs.declared.quantities.Measured.{Measured}
 use Rattle.psu_outputs.specs.declared.output.Output.{Output}
 use Rattle.psu_outputs.specs.declared.setting.Setting.{Setting}
 use Rattle.psu_outputs.specs.declared.setting.Setting.TheVariants as setting

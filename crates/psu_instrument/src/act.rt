@@ -1,8 +1,19 @@
-// The results of commands.
-use crate::Completion;
+//! The results of commands, and the commands that wait for earlier changes.
+
 use psu_lex::Bytes;
 use psu_nv::NvCommand;
 use std::alloc::Allocator;
+
+/// The commands of operation complete (IEEE 488.2, 12.5): they wait for the changes accepted before them.
+#[derive(Clone, Copy, Debug, PartialEq, Eq)]
+pub enum Completion {
+    /// `*OPC?`, which then returns 1.
+    Query,
+    /// `*WAI`, which is then done.
+    Wait,
+    /// `*OPC`, which then sets bit 0 of the event status register.
+    Event,
+}
 
 /// The result of a command that the instrument does not refuse.
 #[derive(Drop)]

@@ -1,4 +1,4 @@
-// The execution of each command.
+//! The execution of each command.
 ghost use Rattle.std.specs.Prelude.{◌≡◌, ℕ, Bool, Ok};
 ghost use Rattle.psu_nv.specs.Contents.{Contents as Kept};
 ghost use Rattle.psu_instrument.specs.Commands.{action_means, meaning, query_means, register_means};

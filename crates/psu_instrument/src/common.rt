@@ -1,4 +1,4 @@
-// The common commands, except those of macros.
+//! The common commands, except those of macros.
 ghost use Rattle.std.specs.Prelude.{◌≡◌, ◌<◌, ℕ, Bool, false, Option, Some, None, Ok, IfOk, OnErr, length, decimal, if◌then◌else◌};
 ghost use Rattle.psu_nv.specs.Contents.{Contents as Kept};
 ghost use Rattle.psu_outputs.specs.Outputs.{restored};
@@ -111,7 +111,7 @@ impl Instrument {
                 self.expands = on;
                 Act::Done
             }
-            Flag::Protection => {
+            Flag::UserDataProtection => {
                 self.protected = on;
                 Act::Done
             }
@@ -148,7 +148,7 @@ impl Instrument {
                 contents.enables().is_none(),
             )?)),
             Flag::Macros => Ok(Act::Answer(flag_response(alloc, self.expands)?)),
-            Flag::Protection => Ok(Act::Answer(flag_response(alloc, self.protected)?)),
+            Flag::UserDataProtection => Ok(Act::Answer(flag_response(alloc, self.protected)?)),
             Flag::Recall => Ok(Act::Answer(choice(alloc, contents.recall())?)),
         }
     }

@@ -1,4 +1,4 @@
-// Macro calls.
+//! Macro calls.
 ghost use Rattle.std.specs.Prelude.{◌≡◌, ◌<◌, ◌↔◌, List, None, length, map, IfSome, IfNone};
 ghost use Rattle.psu_lex.specs.Shown.{HoldsData};
 ghost use Rattle.psu_lex.specs.Syntax.{Datum as DatumData};
@@ -12,10 +12,10 @@ use psu_tree::Request;
 use std::alloc::Allocator;
 
 /// The maximum number of parameters of a macro.
-const PARAMETERS: usize = 9;
+const PARAMETERS_MOST: usize = 9;
 
 // Returns the parameters of a call as written, or `None` where there are more than a macro can have.
-fn parameters<'a>(args: &Data<'a>) -> Option<ArrayVec<&'a [u8], PARAMETERS>>
+fn parameters<'a>(args: &Data<'a>) -> Option<ArrayVec<&'a [u8], PARAMETERS_MOST>>
     ensures all { (list : List DatumData) → HoldsData args.now list → IfSome result (λ texts. map (λ text. text.now) texts.items ≡ written list) }
     ensures many { (list : List DatumData) → HoldsData args.now list → IfNone result (9 < length list) }
 {

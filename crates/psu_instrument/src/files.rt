@@ -1,4 +1,4 @@
-// Files.
+//! Files.
 ghost use Rattle.std.specs.Prelude.{◌≡◌, ◌<◌, ℕ, ◌++◌, Bool, length, IfOk, OnOk, OnErr};
 ghost use Rattle.psu_nv.specs.Contents.{Contents as Kept};
 ghost use Rattle.psu_instrument.specs.Files.{catalog_text, entries, entry_of, kind_text, macro_moved, on_name, on_two, state_moved, stored};
@@ -14,7 +14,7 @@ use psu_tree::{OnFile, OnNames, Text, Transfer};
 use std::alloc::{AllocError, Allocator};
 
 /// The size of a page, the unit of space in the catalog, in bytes.
-const PAGE: u128 = 512;
+const PAGE_SIZE: u128 = 512;
 
 // `MMEMory:DATA`.
 pub(crate) fn stored<'c, A: Allocator + Copy>(
@@ -161,9 +161,9 @@ pub(crate) fn catalog_text<A: Allocator + Copy>(
     let cost = contents.cost();
     let left = (limit as u128).saturating_sub(cost);
     let mut text = Bytes::new(alloc);
-    text.put_number(PAGE * cost)?;
+    text.put_number(PAGE_SIZE * cost)?;
     text.put(b",")?;
-    text.put_number(PAGE * left)?;
+    text.put_number(PAGE_SIZE * left)?;
     put_entries(&mut text, contents.names())?;
     Ok(text)
 }

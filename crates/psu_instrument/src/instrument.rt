@@ -1,4 +1,4 @@
-// The instrument.
+//! The instrument.
 ghost use Rattle.std.specs.Prelude.{◌≡◌};
 ghost use Rattle.psu_status.specs.Status.{enabled, first_request, polled, status_byte};
 ghost use Rattle.psu_nv.specs.Views.{command_of};

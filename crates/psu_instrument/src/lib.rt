@@ -4,15 +4,17 @@
 mod act;
 mod commands;
 mod common;
-mod completion;
 mod expansion;
 mod files;
 mod instrument;
-pub mod laws;
+mod laws;
 mod macros;
 mod reporting;
 mod supplies;
 
-pub use act::Act;
-pub use completion::Completion;
+pub use act::{Act, Completion};
 pub use instrument::Instrument;
+pub use laws::{
+    each_answer_has_text, kept_commands_are_nonvolatile, no_answer_raises_a_bit,
+    power_on_recalls_register_0,
+};

@@ -1,4 +1,4 @@
-// Macros.
+//! Macros.
 ghost use Rattle.std.specs.Prelude.{◌≡◌, ◌<◌, ℕ, ◌++◌, Bool, length, IfOk, OnOk, OnErr};
 ghost use Rattle.psu_instrument.specs.Instrument.{Instrument as State};
 ghost use Rattle.psu_instrument.specs.Macros.{labels_text, more_labels, on_label, quoted};

@@ -1,4 +1,4 @@
-// Errors and the groups of status registers.
+//! Errors and the groups of status registers.
 ghost use Rattle.std.specs.Prelude.{◌≡◌, ◌<◌, ℕ, Bool, length, IfOk, OnErr};
 ghost use Rattle.psu_nv.specs.Contents.{Contents as Kept};
 ghost use Rattle.psu_status.specs.Registers.{fifteen_bits, with_filter};

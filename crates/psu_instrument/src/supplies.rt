@@ -1,4 +1,4 @@
-// The settings and measurements of the outputs.
+//! The settings and measurements of the outputs.
 ghost use Rattle.std.specs.Prelude.{◌≡◌, ℕ, Bool};
 ghost use Rattle.psu_nv.specs.Contents.{Contents as Kept};
 ghost use Rattle.psu_outputs.specs.Outputs.{restored, supply_of, with_supply, without_trip};

@@ -3,8 +3,8 @@
 use Rattle.std.proofs.Common.{◌≡◌, ℕ, ◌+◌, ◌/◌, ◌≤◌, Bool, true, false, cond, List, [], ◌∷◌, length, Some, None, sym, ◌∙◌, ap, subst, arith, length-append}
 use Rattle.std.specs.List.{AllByRecursion}
 use Rattle.std.specs.Str.{bytes_eq}
-use Rattle.psu_pages.specs.declared.bad_image.BadImage.{BadImage}
-use Rattle.psu_pages.specs.declared.bad_image.BadImage.TheVariants.{NoRoot, BadRoot, BadVersion}
+use Rattle.psu_pages.specs.declared.faults.BadImage.{BadImage}
+use Rattle.psu_pages.specs.declared.faults.BadImage.TheVariants.{NoRoot, BadRoot, BadVersion}
 use Rattle.psu_pages.specs.Image.{Head, IsHead, bytes_in, value_in, heads_in, pages_of, taken}
 use Rattle.std.proofs.lemmas.List.{length-take}
 use Rattle.std.proofs.Math.Nat.{min-le_left}

@@ -7,7 +7,7 @@ use Rattle.psu_items.specs.Layout.{HasHead, IsOneOf, HaveStanding, heads_of}
 use Rattle.psu_map.specs.Target.{Entry, standing}
 use Rattle.psu_map.proofs.Keeping.{standing_last}
 use Rattle.psu_items.proofs.Laying.{heads-append}
-use Rattle.psu_items.specs.declared.slot.Slot.{Slot}
+use Rattle.psu_items.specs.declared.layout.Slot.{Slot}
 use Rattle.psu_pages.specs.Image.{Head, AreApart, keys}
 use Rattle.psu_pages.proofs.Taken.{key_differs}
 

@@ -13,7 +13,7 @@ use Rattle.psu_pages.specs.Outcome.{IsPlanned, HasSameRoots}
 use Rattle.psu_pages.proofs.Lists.{all_at, all_map, all_left, all_right, all_join, apart_left, apart_right, apart_join, apart_clear, clear_none, clear_swap, clear_by}
 use Rattle.psu_pages.proofs.Taken.{taken_all, taken_apart, taken-append, clear_join}
 use Rattle.psu_pages.proofs.Taken.{keys-append as head_keys-append}
-use Rattle.psu_items.specs.declared.slot.Slot.{Slot}
+use Rattle.psu_items.specs.declared.layout.Slot.{Slot}
 use Rattle.psu_items.specs.Layout.{IsOneOf, heads_of, keys_in, value_of, value_at, IsSlotFor, IsSlot, AreSlots}
 
 -- the value of a key is that of its item

@@ -6,9 +6,9 @@ use Rattle.psu_disk.specs.Ranges.{reads_left}
 use Rattle.psu_disk.specs.declared.disk.Disk.{Ghosts}
 use Rattle.psu_map.specs.Map.{Item, IsSorted}
 use Rattle.psu_map.specs.Capacity.{IsMapOf}
-use Rattle.psu_pages.specs.declared.bad_image.BadImage.TheVariants.{NoRoot, BadRoot, BadVersion}
-use Rattle.psu_pages.specs.declared.open_cause.OpenCause.{OpenCause}
-use Rattle.psu_pages.specs.declared.open_cause.OpenCause.TheVariants.{Device, Image, Memory}
+use Rattle.psu_pages.specs.declared.faults.BadImage.TheVariants.{NoRoot, BadRoot, BadVersion}
+use Rattle.psu_pages.specs.declared.faults.OpenCause.{OpenCause}
+use Rattle.psu_pages.specs.declared.faults.OpenCause.TheVariants.{Device, Image, Memory}
 use Rattle.psu_pages.specs.declared.pages.Pages.{Pages}
 use Rattle.psu_pages.specs.declared.root.Root.{Root}
 use Rattle.psu_pages.specs.Image.{Head, other, gate_at, number_in, version_in, IsCurrent}

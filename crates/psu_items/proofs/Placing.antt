@@ -11,7 +11,7 @@ use Rattle.psu_map.specs.Map.{Item}
 use Rattle.psu_pages.specs.Image.{Head, IsInPool, AreApart, AreClear, pages_of, taken}
 use Rattle.psu_pages.specs.Writing.{IsWritten}
 use Rattle.psu_pages.proofs.Taken.{taken_all}
-use Rattle.psu_items.specs.declared.slot.Slot.{Slot}
+use Rattle.psu_items.specs.declared.layout.Slot.{Slot}
 use Rattle.psu_items.specs.Layout.{heads_of, slots_from, value_at, StandsWritten}
 use Rattle.psu_items.proofs.Laying.{two_clear}
 

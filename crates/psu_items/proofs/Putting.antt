@@ -14,7 +14,7 @@ use Rattle.psu_pages.specs.Shown as shown
 use Rattle.psu_pages.specs.Writing.{IsWritten}
 use Rattle.psu_items.specs.Image.{as_item, listed, shown_in, RepresentsAs, IsEitherRoot}
 use Rattle.psu_items.specs.Standing.{ShowsMap}
-use Rattle.psu_items.specs.declared.slot.Slot.{Slot}
+use Rattle.psu_items.specs.declared.layout.Slot.{Slot}
 use Rattle.psu_items.specs.Layout.{heads_of, keys_in, value_at, StandsWritten}
 use Rattle.psu_items.proofs.Standing.{encodes_as}
 use Rattle.psu_items.proofs.Taking.{EncodesPages}

@@ -16,7 +16,7 @@ use Rattle.psu_pages.proofs.Taken.{key_differs}
 use Rattle.psu_pages.proofs.Encoding.{heads_there}
 use Rattle.psu_items.specs.Image.{listed}
 use Rattle.psu_items.specs.Standing.{ShowsMap}
-use Rattle.psu_items.specs.declared.slot.Slot.{Slot}
+use Rattle.psu_items.specs.declared.layout.Slot.{Slot}
 use Rattle.psu_items.specs.Layout.{heads_of, keys_in, value_of, value_at, IsSlot, AreSlots, IsSized, StandsWritten}
 use Rattle.psu_items.proofs.Standing.{surely}
 use Rattle.psu_items.proofs.Laying.{join_pages, one_all}

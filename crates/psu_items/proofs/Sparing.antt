@@ -9,7 +9,7 @@ use Rattle.psu_pages.specs.Outcome.{HasSameHeads, HasClosed, HasPublished, HasSa
 use Rattle.psu_pages.proofs.Lists.{all_left, all_right, all_join, all_map}
 use Rattle.psu_pages.proofs.Marking.{none_or}
 use Rattle.psu_items.specs.Standing.{IsSpare, AreSpare}
-use Rattle.psu_items.specs.declared.slot.Slot.{Slot}
+use Rattle.psu_items.specs.declared.layout.Slot.{Slot}
 use Rattle.psu_items.specs.Layout.{IsOneOf, heads_of, IsSlot, AreSlots}
 use Rattle.psu_items.specs.Image.{as_item, shown_in}
 use Rattle.psu_map.specs.Map.{Item, get}
@@ -18,7 +18,7 @@ use Rattle.psu_pages.specs.declared.root.Root.{Root}
 use Rattle.psu_pages.specs.Shown.{items_in}
 use Rattle.psu_items.proofs.Laying.{pages_more, one_all}
 
--- what holds of a page that is none of these, and of each of these, holds of the page
+-- what holds of a page that differs from all of these, and of each of these, holds of the page
 apply : (P : ℕ → Type 0) (p : ℕ) (ys : List ℕ) → (IsNone ys p → P p) → AllByRecursion P ys → P p
 apply P p ys none all = ⊎_elim none (λ inside. inside P all) (none_or p ys)
 

@@ -6,10 +6,10 @@ use Rattle.psu_disk.specs.Ranges.{reads_left, same_but_refl}
 use Rattle.psu_disk.specs.declared.disk.Disk.{Ghosts}
 use Rattle.psu_map.specs.Map.{Item as MapItem}
 use Rattle.psu_map.specs.Capacity.{IsMapOf}
-use Rattle.psu_pages.specs.declared.open_cause.OpenCause.{OpenCause}
-use Rattle.psu_pages.specs.declared.open_cause.OpenCause.TheVariants.{Device}
-use Rattle.psu_pages.specs.declared.page_fault.PageFault.{PageFault}
-use Rattle.psu_pages.specs.declared.page_fault.PageFault.TheVariants as unread
+use Rattle.psu_pages.specs.declared.faults.OpenCause.{OpenCause}
+use Rattle.psu_pages.specs.declared.faults.OpenCause.TheVariants.{Device}
+use Rattle.psu_pages.specs.declared.faults.PageFault.{PageFault}
+use Rattle.psu_pages.specs.declared.faults.PageFault.TheVariants as unread
 use Rattle.psu_pages.specs.declared.pages.Pages.{Pages}
 use Rattle.psu_pages.specs.declared.root.Root.{Root}
 use Rattle.psu_pages.specs.declared.standing.Standing.TheVariants.{Unsure}

@@ -8,7 +8,7 @@ use Rattle.psu_pages.specs.Shown.{item_in}
 use Rattle.psu_pages.specs.Shown as shown
 use Rattle.psu_pages.specs.Writing.{IsWritten}
 use Rattle.psu_items.specs.Image.{as_item, listed}
-use Rattle.psu_items.specs.declared.slot.Slot.{Slot}
+use Rattle.psu_items.specs.declared.layout.Slot.{Slot}
 use Rattle.psu_items.specs.Layout.{heads_of, keys_in, value_of, value_at}
 
 -- the items of the target at these keys

@@ -2,10 +2,10 @@
 use Rattle.std.specs.Prelude.{◌≡◌, ℕ, ◌⊎◌, List}
 use Rattle.psu_disk.specs.Disk.{DiskState, IsCrashImage, SameBut}
 use Rattle.psu_map.specs.Map.{Item}
-use Rattle.psu_pages.specs.declared.open_cause.OpenCause.{OpenCause}
-use Rattle.psu_pages.specs.declared.open_cause.OpenCause.TheVariants.{Device, Memory}
-use Rattle.psu_pages.specs.declared.page_fault.PageFault.{PageFault}
-use Rattle.psu_pages.specs.declared.page_fault.PageFault.TheVariants as unread
+use Rattle.psu_pages.specs.declared.faults.OpenCause.{OpenCause}
+use Rattle.psu_pages.specs.declared.faults.OpenCause.TheVariants.{Device, Memory}
+use Rattle.psu_pages.specs.declared.faults.PageFault.{PageFault}
+use Rattle.psu_pages.specs.declared.faults.PageFault.TheVariants as unread
 use Rattle.psu_pages.specs.declared.root.Root.{Root}
 use Rattle.psu_pages.specs.Image.{other, gate_at, IsCurrent}
 use Rattle.psu_items.specs.Image.{current_root, number_in, RootHolds}

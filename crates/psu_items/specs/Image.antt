@@ -3,8 +3,8 @@ use Rattle.std.specs.Prelude.{◌≡◌, ℕ, ◌+◌, ◌⊎◌, List, map}
 use Rattle.psu_disk.specs.Disk.{DiskState, IsCrashImage}
 use Rattle.psu_map.specs.Map.{Item, item_of, IsSorted}
 use Rattle.psu_map.specs.Capacity.{IsMapOf}
-use Rattle.psu_pages.specs.declared.bad_image.BadImage.{BadImage}
-use Rattle.psu_pages.specs.declared.bad_image.BadImage.TheVariants.{NoRoot, BadRoot, BadVersion}
+use Rattle.psu_pages.specs.declared.faults.BadImage.{BadImage}
+use Rattle.psu_pages.specs.declared.faults.BadImage.TheVariants.{NoRoot, BadRoot, BadVersion}
 use Rattle.psu_pages.specs.declared.root.Root.{Root}
 use Rattle.psu_pages.specs.Image as pages
 use Rattle.psu_pages.specs.Shown as shown

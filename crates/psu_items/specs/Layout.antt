@@ -11,7 +11,7 @@ use Rattle.psu_pages.specs.declared.pages.Pages.{Pages}
 use Rattle.psu_map.specs.Batch.{Edit, KeepsValue}
 use Rattle.psu_map.specs.Target.{Entry, standing}
 use Rattle.psu_items.specs.declared.layout.Layout.{Layout}
-use Rattle.psu_items.specs.declared.slot.Slot.{Slot}
+use Rattle.psu_items.specs.declared.layout.Slot.{Slot}
 
 -- the head at this place has the item's key, and the length of its value
 pub record HasHead (heads : List Head) (item : Item) (at : ℕ) : Type 0 where

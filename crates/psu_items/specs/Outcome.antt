@@ -3,8 +3,8 @@ use Rattle.std.specs.Prelude.{◌≡◌, ◌+◌, ◌≤◌, ◌^◌, List, ⊤,
 use Rattle.psu_disk.specs.Disk.{HasFailed}
 use Rattle.psu_disk.specs.declared.disk.Disk.{Ghosts}
 use Rattle.psu_map.specs.Batch.{Edit, changed}
-use Rattle.psu_pages.specs.declared.format_fault.FormatFault.{FormatFault}
-use Rattle.psu_pages.specs.declared.refused.Refused.{Refused}
+use Rattle.psu_pages.specs.declared.faults.FormatFault.{FormatFault}
+use Rattle.psu_pages.specs.declared.faults.ImageError.{ImageError}
 use Rattle.psu_items.specs.Standing.{MapOn}
 use Rattle.psu_items.specs.declared.broken.Broken.{Broken}
 use Rattle.psu_items.specs.declared.broken.BrokenCause.TheVariants as broken_cause
@@ -19,7 +19,7 @@ formatted_disk (Ok store) = store.disk
 formatted_disk (Err e) = e.disk
 
 -- the disk of an opened store, or the one returned with the refusal
-abbrev pub opened_disk : {D : Type 0} → Result (MapOn D) (Refused D) → D
+abbrev pub opened_disk : {D : Type 0} → Result (MapOn D) (ImageError D) → D
 opened_disk (Ok store) = store.disk
 opened_disk (Err e) = e.disk
 

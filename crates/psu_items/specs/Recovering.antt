@@ -1,6 +1,6 @@
 -- Why a store stays broken, by why its disk is not opened.
-use Rattle.psu_pages.specs.declared.open_cause.OpenCause.{OpenCause}
-use Rattle.psu_pages.specs.declared.open_cause.OpenCause.TheVariants as Unopened
+use Rattle.psu_pages.specs.declared.faults.OpenCause.{OpenCause}
+use Rattle.psu_pages.specs.declared.faults.OpenCause.TheVariants as Unopened
 use Rattle.psu_items.specs.declared.broken.BrokenCause.{BrokenCause}
 use Rattle.psu_items.specs.declared.broken.BrokenCause.TheVariants.{Device, Strange, Memory}
 

@@ -1,7 +1,7 @@
 //! A store whose disk failed in a commit.
 ghost use Rattle.std.specs.Prelude.{◌≡◌, ◌≢◌, ◌⊎◌, ◌↔◌, List, ℕ, IsTrue, IfOk, IfErr, OnErr};
 ghost use Rattle.psu_disk.specs.Disk.{IsCrashImage, LeavesOnly};
-ghost use Rattle.psu_disk.specs.Steps.{Step, Leaves};
+ghost use Rattle.psu_disk.specs.Steps.{DiskStep, LeavesImages};
 ghost use Rattle.psu_map.specs.Batch.{changed};
 ghost use Rattle.psu_items.specs.Image.{EachIsEither, IsEither, current_root, number_in};
 ghost use Rattle.psu_items.specs.Finding.{IsOldOrSame};
@@ -95,10 +95,10 @@ impl<D: Disk, A: Allocator + Copy> Broken<D, A> {
         ensures strange { D.honest → IfErr result (λ broken. broken.cause ≢ Strange) }
         ensures quiet { IfErr result (λ broken. broken.cause ≢ Device → D.failures broken.disk ≡ D.failures self.disk) }
         ensures number { D.honest → IfOk result (λ store. store.number ≡ number_in (current_root (D.state self.disk).bytes) (D.state self.disk).bytes) }
-        ensures step { Step D.Disk self.disk (reopened_disk result) result (λ e. e.cause ≡ Device) }
+        ensures step { DiskStep D.Disk self.disk (reopened_disk result) result (λ e. e.cause ≡ Device) }
 
         // Only the gate of the older root is written.
-        ensures images { Leaves D.Disk self.disk (reopened_disk result) (IsOldOrSame (D.state self.disk)) }
+        ensures images { LeavesImages D.Disk self.disk (reopened_disk result) (IsOldOrSame (D.state self.disk)) }
     {
         let Broken {
             disk,
@@ -158,8 +158,8 @@ fn recover<D: Disk, A: Allocator + Copy>(
     ensures quiet { IfErr result (λ e. e.cause ≢ Device → D.failures e.disk ≡ D.failures disk) }
     ensures strange { D.honest → EachIsEither (D.state disk) limit before.now target.now → IfErr result (λ e. e.cause ≢ Strange) }
     ensures number { D.honest → IfOk result (λ store. store.number ≡ number_in (current_root (D.state disk).bytes) (D.state disk).bytes) }
-    ensures step { Step D.Disk disk (recovered_disk result) result (λ e. e.cause ≡ Device) }
-    ensures images { Leaves D.Disk disk (recovered_disk result) (IsOldOrSame (D.state disk)) }
+    ensures step { DiskStep D.Disk disk (recovered_disk result) result (λ e. e.cause ≡ Device) }
+    ensures images { LeavesImages D.Disk disk (recovered_disk result) (IsOldOrSame (D.state disk)) }
 {
     match Store::open(alloc, disk) {
         Ok(store) => match one_of(store, limit, before, target) {

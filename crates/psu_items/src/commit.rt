@@ -1,7 +1,7 @@
 //! One step of a store: from a map to the map after a batch.
 ghost use Rattle.std.specs.Prelude.{◌≡◌, ◌+◌, ◌≤◌, ◌^◌, ◌↔◌, IsTrue};
 ghost use Rattle.psu_disk.specs.Disk.{IsCrashImage, LeavesOnly};
-ghost use Rattle.psu_disk.specs.Steps.{Leaves};
+ghost use Rattle.psu_disk.specs.Steps.{LeavesImages};
 ghost use Rattle.psu_pages.specs.Writing.{Reaches};
 ghost use Rattle.psu_map.specs.Capacity.{CanHold};
 ghost use Rattle.psu_map.specs.Batch.{changed};
@@ -59,13 +59,13 @@ impl<D: Disk, A: Allocator + Copy> Store<D, A> {
 
         // At each moment each possible crash image represents the map before, under its version and its number, or the
         // map after the batch, as version 2 and under the next number.
-        ensures roots { Leaves D.Disk self.disk (disk_of result) (IsEitherRoot self.version self.number self.limit self.items (changed self.items batch)) }
+        ensures roots { LeavesImages D.Disk self.disk (disk_of result) (IsEitherRoot self.version self.number self.limit self.items (changed self.items batch)) }
 
         // Items that no edit changes keep their pages.
         ensures heads { D.honest → IfStored result (λ store. EachKeepsHeads batch (D.state self.disk) (D.state store.disk)) }
 
         // After the roots and the pool, each possible crash image has the bytes of one from before.
-        ensures after_pool { Leaves D.Disk self.disk (disk_of result) (Reaches (SameAfterPool self.limit) (IsCrashImage (D.state self.disk))) }
+        ensures after_pool { LeavesImages D.Disk self.disk (disk_of result) (Reaches (SameAfterPool self.limit) (IsCrashImage (D.state self.disk))) }
     {
         if self.is_worn() {
             return Commit::Unstarted(self, batch, UnstartedCause::Worn);

@@ -1,8 +1,8 @@
 //! Formatting a disk.
 ghost use Rattle.std.specs.Prelude.{◌≡◌, ◌+◌, ◌*◌, ◌≤◌, [], IfOk, IfErr};
-ghost use Rattle.psu_disk.specs.Steps.{Step};
+ghost use Rattle.psu_disk.specs.Steps.{DiskStep};
 ghost use Rattle.psu_items.specs.Standing.{IsOnDisk};
-ghost use Rattle.psu_pages.specs.declared.format_fault.FormatCause.TheVariants.{Device as NotWritten, Memory as NoMemory};
+ghost use Rattle.psu_pages.specs.declared.faults.FormatCause.TheVariants.{Device as NotWritten, Memory as NoMemory};
 
 use crate::Store;
 use psu_disk::Disk;
@@ -22,7 +22,7 @@ impl<D: Disk, A: Allocator + Copy> Store<D, A> {
         requires room { 512 * (2 + 2 * limit) ≤ D.extent disk }
         ensures fresh { IfOk result (λ store. (store.items ≡ []) × (store.limit ≡ limit) × (store.version ≡ 2) × (store.number ≡ 1)) }
         ensures represents { D.honest → IfOk result (λ store. IsOnDisk D.state store) }
-        ensures step { Step D.Disk disk (formatted_disk result) result (λ e. e.cause ≡ NotWritten) }
+        ensures step { DiskStep D.Disk disk (formatted_disk result) result (λ e. e.cause ≡ NotWritten) }
         ensures no_call { IfErr result (λ e. e.cause ≡ NoMemory → e.disk ≡ disk) }
     {
         match Pages::format(alloc, disk, limit) {

@@ -10,7 +10,7 @@ use std::alloc::Allocator;
 /// Returns the place of the item's head, if the map before has the item unchanged. The search continues after the head
 /// found last: where heads come in the order of keys, as a commit leaves them, each is looked at once.
 #[inline(always)]
-pub fn kept<A: Allocator + Copy>(
+pub(crate) fn kept<A: Allocator + Copy>(
     next: &mut usize,
     heads: &[Head<A>],
     entry: &Entry<'_>,

@@ -9,18 +9,25 @@ ghost use Rattle.psu_pages.specs.Image.{IsNone, pages_of, taken, AreApart, Head 
 ghost use Rattle.psu_pages.specs.Outcome.{IsPlanned, HasSameRoots, pages_for};
 ghost use Rattle.psu_items.specs.Layout.{heads_of, slots_of, IsOneOf, IsSlot, IsSlotFor, AreSlots, HaveStanding};
 ghost use Rattle.psu_map.specs.Target.{aimed, item_in, IsOf};
-ghost use Rattle.psu_items.specs.declared.slot.Slot.{Slot as SlotOf};
+ghost use Rattle.psu_items.specs.declared.layout.Slot.{Slot as SlotOf};
 
 use crate::kept::kept;
-use crate::slot::Slot;
 use psu_disk::Disk;
 use psu_map::{Entry, Target};
 use psu_pages::{Head, PageFault, Pages};
 use std::alloc::{AllocError, Allocator};
 
+/// A head that the next root is to name.
+#[derive(Drop)]
+pub(crate) struct Slot<A: Allocator + Copy> {
+    pub head: Head<A>,
+    /// Whether its pages are not written yet: the current root does not name it.
+    pub is_new: bool,
+}
+
 /// The heads that the next root is to name.
 #[derive(Drop)]
-pub struct Layout<A: Allocator + Copy> {
+pub(crate) struct Layout<A: Allocator + Copy> {
     pub heads: Vec<Head<A>, A>,
     /// The places of the heads whose pages are not written yet: the current root does not name them.
     pub unwritten: Vec<usize, A>,
@@ -28,7 +35,7 @@ pub struct Layout<A: Allocator + Copy> {
 
 /// Claims pages for all items that are new or changed, and lays out the heads. The pool has room for these beside the
 /// pages in use: the only error is an allocation failure, and then the claimed pages are freed.
-pub fn lay_out<D: Disk, A: Allocator + Copy>(
+pub(crate) fn lay_out<D: Disk, A: Allocator + Copy>(
     alloc: A,
     pages: &mut Pages<D, A>,
     target: &Target<'_, A>,

@@ -1,7 +1,7 @@
 //! Opening a store on a disk.
 ghost use Rattle.std.specs.Prelude.{◌≡◌, ◌≢◌, ◌⊎◌, [], List, ℕ, OnOk, IfOk, IfErr};
 ghost use Rattle.psu_disk.specs.Disk.{IsCrashImage, Only, SameBut};
-ghost use Rattle.psu_disk.specs.Steps.{Step, Leaves};
+ghost use Rattle.psu_disk.specs.Steps.{DiskStep, LeavesImages};
 ghost use Rattle.psu_map.specs.Map.{Item, IsSorted};
 ghost use Rattle.psu_map.specs.Capacity.{IsMapOf};
 ghost use Rattle.psu_pages.specs.Finding.{IfImage};
@@ -12,40 +12,40 @@ ghost use Rattle.psu_items.specs.Image.{listed, current_root, number_in, version
 ghost use Rattle.psu_items.specs.Finding.{IsOldOrSame, IsUnread};
 ghost use Rattle.psu_items.specs.Outcome.{opened_disk};
 ghost use Rattle.psu_items.specs.Standing.{IsOnDisk, IsSpare};
-ghost use Rattle.psu_pages.specs.declared.open_cause.OpenCause.TheVariants.{Device, Memory};
-ghost use Rattle.psu_pages.specs.declared.page_fault.PageFault.TheVariants as PageFault;
+ghost use Rattle.psu_pages.specs.declared.faults.OpenCause.TheVariants.{Device, Memory};
+ghost use Rattle.psu_pages.specs.declared.faults.PageFault.TheVariants as PageFault;
 ghost use Rattle.psu_pages.specs.declared.standing.Standing.TheVariants.{One, Unsure};
 
 use crate::Store;
 use crate::read::read_items;
 use psu_disk::Disk;
 use psu_map::Items;
-use psu_pages::{OpenCause, PageFault, Pages, Refused};
+use psu_pages::{ImageError, OpenCause, PageFault, Pages};
 use std::alloc::Allocator;
 
 impl<D: Disk, A: Allocator + Copy> Store<D, A> {
     /// Opens the map that a disk represents, after a power loss or without one. It begins with a sync, and closes the
     /// gate of the older root if that is open.
-    pub fn open(alloc: A, disk: D) -> Result<Store<D, A>, Refused<D>>
+    pub fn open(alloc: A, disk: D) -> Result<Store<D, A>, ImageError<D>>
         ensures represented { D.honest → IfOk result (λ store. Represents (D.state disk).bytes store.limit store.items) }
         ensures represents { D.honest → IfOk result (λ store. IsOnDisk D.state store) }
         ensures number { D.honest → IfOk result (λ store. store.number ≡ number_in (current_root (D.state disk).bytes) (D.state disk).bytes) }
         ensures version { D.honest → IfOk result (λ store. store.version ≡ version_in (current_root (D.state disk).bytes) (D.state disk).bytes) }
         ensures refused { D.honest → IfErr result (λ e. IfImage e.cause (IsRefusal (D.state disk).bytes)) }
         ensures untouched { D.honest → IfErr result (λ e. e.cause ≢ Device → (D.state e.disk).bytes ≡ (D.state disk).bytes) }
-        ensures step { Step D.Disk disk (opened_disk result) result (λ e. e.cause ≡ Device) }
+        ensures step { DiskStep D.Disk disk (opened_disk result) result (λ e. e.cause ≡ Device) }
         ensures quiet { IfErr result (λ e. e.cause ≢ Device → D.failures e.disk ≡ D.failures disk) }
         ensures memory { D.honest → IfErr result (λ e. e.cause ≡ Memory → HasReadableRoot (D.state disk).bytes) }
 
         // Only the gate of the older root is written: each image is one from before, or has the current root and every
         // other byte as they were read. This holds of a refused disk too.
-        ensures images { Leaves D.Disk disk (opened_disk result) (IsOldOrSame (D.state disk)) }
+        ensures images { LeavesImages D.Disk disk (opened_disk result) (IsOldOrSame (D.state disk)) }
 
         // If each image represents one map, that map is found, and each image at any moment represents it, also of a
         // refused disk.
         ensures finds { D.honest → (limit : ℕ) (map : List Item) → EachRepresents (D.state disk) limit map
             → IfOk result (λ store. (store.limit ≡ limit) × (store.items ≡ map)) }
-        ensures left { (limit : ℕ) (map : List Item) → EachRepresents (D.state disk) limit map → Leaves D.Disk disk (opened_disk result) (λ image. Represents image limit map) }
+        ensures left { (limit : ℕ) (map : List Item) → EachRepresents (D.state disk) limit map → LeavesImages D.Disk disk (opened_disk result) (λ image. Represents image limit map) }
     {
         match Pages::open(alloc, disk) {
             Ok(pages) => take_up(alloc, pages),
@@ -58,7 +58,7 @@ impl<D: Disk, A: Allocator + Copy> Store<D, A> {
 fn take_up<D: Disk, A: Allocator + Copy>(
     alloc: A,
     mut pages: Pages<D, A>,
-) -> Result<Store<D, A>, Refused<D>>
+) -> Result<Store<D, A>, ImageError<D>>
     requires sure { pages.standing ≢ Unsure }
     requires none_older { pages.older.items ≡ [] }
     requires spare { IsSpare pages pages.heads.items }
@@ -68,14 +68,14 @@ fn take_up<D: Disk, A: Allocator + Copy>(
     ensures found { D.honest → IfOk result (λ store. IsMapOf store.items (listed (D.state pages.disk).bytes pages.heads.items)) }
     ensures causes { IfErr result (λ e. (e.cause ≡ Device) ⊎ (e.cause ≡ Memory)) }
     ensures untouched { D.honest → IfErr result (λ e. e.cause ≢ Device → (D.state e.disk).bytes ≡ (D.state pages.disk).bytes) }
-    ensures step { Step D.Disk pages.disk (opened_disk result) result (λ e. e.cause ≡ Device) }
+    ensures step { DiskStep D.Disk pages.disk (opened_disk result) result (λ e. e.cause ≡ Device) }
     ensures quiet { IfErr result (λ e. e.cause ≢ Device → D.failures e.disk ≡ D.failures pages.disk) }
-    ensures left { Leaves D.Disk pages.disk (opened_disk result) (Encodes pages.root pages.version pages.limit pages.number pages.heads.items (items_in pages.root (D.state pages.disk).bytes)) }
-    ensures touched { Leaves D.Disk pages.disk (opened_disk result) (Reaches (SameBut (gate_at (other pages.root)) 1) (IsCrashImage (D.state pages.disk))) }
+    ensures left { LeavesImages D.Disk pages.disk (opened_disk result) (Encodes pages.root pages.version pages.limit pages.number pages.heads.items (items_in pages.root (D.state pages.disk).bytes)) }
+    ensures touched { LeavesImages D.Disk pages.disk (opened_disk result) (Reaches (SameBut (gate_at (other pages.root)) 1) (IsCrashImage (D.state pages.disk))) }
 {
     match read_back(alloc, &mut pages) {
         Ok(items) => Ok(Store { pages, items }),
-        Err(fault) => Err(Refused {
+        Err(fault) => Err(ImageError {
             cause: unread(fault),
             disk: pages.into_disk(),
         }),
@@ -98,11 +98,11 @@ fn read_back<D: Disk, A: Allocator + Copy>(
     ensures found { D.honest → IfOk result (λ items. IsMapOf items (listed (D.state pages.old.disk).bytes pages.old.heads.items)) }
     ensures shown { D.honest → OnOk result (items_in pages.new.root (D.state pages.new.disk).bytes ≡ items_in pages.old.root (D.state pages.old.disk).bytes) }
     ensures untouched { D.honest → IfErr result (λ cause. cause ≢ PageFault.Device → (D.state pages.new.disk).bytes ≡ (D.state pages.old.disk).bytes) }
-    ensures step { Step D.Disk pages.old.disk pages.new.disk result (λ cause. cause ≡ PageFault.Device) }
+    ensures step { DiskStep D.Disk pages.old.disk pages.new.disk result (λ cause. cause ≡ PageFault.Device) }
     ensures quiet { IfErr result (λ cause. cause ≢ PageFault.Device → D.failures pages.new.disk ≡ D.failures pages.old.disk) }
     ensures pages { IfErr result (λ cause. cause ≢ PageFault.NoPage) }
-    ensures left { Leaves D.Disk pages.old.disk pages.new.disk (Encodes pages.old.root pages.old.version pages.old.limit pages.old.number pages.old.heads.items (items_in pages.old.root (D.state pages.old.disk).bytes)) }
-    ensures touched { Leaves D.Disk pages.old.disk pages.new.disk (Reaches (SameBut (gate_at (other pages.old.root)) 1) (IsCrashImage (D.state pages.old.disk))) }
+    ensures left { LeavesImages D.Disk pages.old.disk pages.new.disk (Encodes pages.old.root pages.old.version pages.old.limit pages.old.number pages.old.heads.items (items_in pages.old.root (D.state pages.old.disk).bytes)) }
+    ensures touched { LeavesImages D.Disk pages.old.disk pages.new.disk (Reaches (SameBut (gate_at (other pages.old.root)) 1) (IsCrashImage (D.state pages.old.disk))) }
 {
     let items = read_items(alloc, pages)?;
     pages.close_old()?;

@@ -1,11 +1,11 @@
 //! The items of the heads that a root names.
 ghost use Rattle.std.specs.Prelude.{◌≡◌, ◌≢◌, ◌+◌, ◌<◌, length, drop, OnOk, IfOk, IfErr};
 ghost use Rattle.psu_disk.specs.Disk.{IsCrashImage};
-ghost use Rattle.psu_disk.specs.Steps.{Step, Leaves};
+ghost use Rattle.psu_disk.specs.Steps.{DiskStep, LeavesImages};
 ghost use Rattle.psu_map.specs.Capacity.{IsMapOf};
 ghost use Rattle.psu_pages.specs.Outcome.{HasSameHeads};
 ghost use Rattle.psu_items.specs.Image.{listed};
-ghost use Rattle.psu_pages.specs.declared.page_fault.PageFault.TheVariants.{Device, NoPage};
+ghost use Rattle.psu_pages.specs.declared.faults.PageFault.TheVariants.{Device, NoPage};
 
 use psu_disk::Disk;
 use psu_map::{Items, Value};
@@ -14,18 +14,18 @@ use std::alloc::Allocator;
 
 /// Reads the items of all heads, each page of a value once. It reads from the last head to the first: if two heads had
 /// one key, the first one would count.
-pub fn read_items<D: Disk, A: Allocator + Copy>(
+pub(crate) fn read_items<D: Disk, A: Allocator + Copy>(
     alloc: A,
     pages: &mut Pages<D, A>,
 ) -> Result<Items<A>, PageFault>
-    ensures step { Step D.Disk pages.old.disk pages.new.disk result (λ cause. cause ≡ Device) }
+    ensures step { DiskStep D.Disk pages.old.disk pages.new.disk result (λ cause. cause ≡ Device) }
     ensures quiet { IfErr result (λ cause. cause ≢ Device → D.failures pages.new.disk ≡ D.failures pages.old.disk) }
     ensures pages { IfErr result (λ cause. cause ≢ NoPage) }
     ensures found { D.honest → IfOk result (λ items. IsMapOf items (listed (D.state pages.old.disk).bytes pages.old.heads.items)) }
     ensures same { HasSameHeads pages.old pages.new }
     ensures standing { pages.new.standing ≡ pages.old.standing }
     ensures seen { D.honest → (D.state pages.new.disk).bytes ≡ (D.state pages.old.disk).bytes }
-    ensures left { Leaves D.Disk pages.old.disk pages.new.disk (IsCrashImage (D.state pages.old.disk)) }
+    ensures left { LeavesImages D.Disk pages.old.disk pages.new.disk (IsCrashImage (D.state pages.old.disk)) }
 {
     let mut items = Items::new(alloc);
     let mut at = pages.heads().len();
@@ -44,7 +44,7 @@ fn read_item<D: Disk, A: Allocator + Copy>(
     items: &mut Items<A>,
 ) -> Result<(), PageFault>
     requires { at < length pages.old.heads.items }
-    ensures step { Step D.Disk pages.old.disk pages.new.disk result (λ cause. cause ≡ Device) }
+    ensures step { DiskStep D.Disk pages.old.disk pages.new.disk result (λ cause. cause ≡ Device) }
     ensures quiet { IfErr result (λ cause. cause ≢ Device → D.failures pages.new.disk ≡ D.failures pages.old.disk) }
     ensures pages { IfErr result (λ cause. cause ≢ NoPage) }
     ensures found { D.honest → OnOk result (IsMapOf items.old (listed (D.state pages.old.disk).bytes (drop (at + 1) pages.old.heads.items))
@@ -52,7 +52,7 @@ fn read_item<D: Disk, A: Allocator + Copy>(
     ensures same { HasSameHeads pages.old pages.new }
     ensures standing { pages.new.standing ≡ pages.old.standing }
     ensures seen { D.honest → (D.state pages.new.disk).bytes ≡ (D.state pages.old.disk).bytes }
-    ensures left { Leaves D.Disk pages.old.disk pages.new.disk (IsCrashImage (D.state pages.old.disk)) }
+    ensures left { LeavesImages D.Disk pages.old.disk pages.new.disk (IsCrashImage (D.state pages.old.disk)) }
 {
     let head = pages.heads()[at].share()?;
     let value = pages.load(alloc, &head)?;

@@ -1,7 +1,7 @@
 //! The writing of the map after a batch, with its allocations first.
 ghost use Rattle.std.specs.Prelude.{◌≡◌, ◌+◌, ◌<◌, ◌^◌, OnOk, IsErrOf};
 ghost use Rattle.psu_disk.specs.Disk.{IsCrashImage};
-ghost use Rattle.psu_disk.specs.Steps.{Step, Leaves};
+ghost use Rattle.psu_disk.specs.Steps.{DiskStep, LeavesImages};
 ghost use Rattle.psu_pages.specs.Outcome.{HasSameRoots};
 ghost use Rattle.psu_pages.specs.Writing.{Reaches};
 ghost use Rattle.psu_map.specs.Capacity.{CanHold};
@@ -21,7 +21,7 @@ use std::alloc::Allocator;
 
 /// Why a map was not written.
 #[derive(Clone, Copy, Drop)]
-pub enum Unwritten {
+pub(crate) enum Unwritten {
     /// An allocation failed; no call of the disk was made.
     Memory,
     /// A call of the disk failed.
@@ -30,7 +30,7 @@ pub enum Unwritten {
 
 /// Replaces the map by the map after a batch. All memory is allocated, and all pages are claimed, before the first call
 /// of the disk.
-pub fn renew<D: Disk, A: Allocator + Copy>(
+pub(crate) fn renew<D: Disk, A: Allocator + Copy>(
     alloc: A,
     pages: &mut Pages<D, A>,
     before: &[Pair<A>],
@@ -44,10 +44,10 @@ pub fn renew<D: Disk, A: Allocator + Copy>(
     ensures number { OnOk result (pages.new.number ≡ pages.old.number + 1) }
     ensures heads { OnOk result (HaveKept batch.now before.now pages.old.heads.items pages.new.heads.items) }
     ensures limit { pages.new.limit ≡ pages.old.limit }
-    ensures step { Step D.Disk pages.old.disk pages.new.disk result (λ cause. cause ≡ Device) }
+    ensures step { DiskStep D.Disk pages.old.disk pages.new.disk result (λ cause. cause ≡ Device) }
     ensures same { IsErrOf result Memory → HasSameRoots pages.old pages.new × KeepsMap pages.new before.now }
-    ensures left { Leaves D.Disk pages.old.disk pages.new.disk (IsEitherRoot pages.old.version pages.old.number pages.old.limit before.now (changed before.now batch.now)) }
-    ensures after_pool { Leaves D.Disk pages.old.disk pages.new.disk (Reaches (SameAfterPool pages.old.limit) (IsCrashImage (D.state pages.old.disk))) }
+    ensures left { LeavesImages D.Disk pages.old.disk pages.new.disk (IsEitherRoot pages.old.version pages.old.number pages.old.limit before.now (changed before.now batch.now)) }
+    ensures after_pool { LeavesImages D.Disk pages.old.disk pages.new.disk (Reaches (SameAfterPool pages.old.limit) (IsCrashImage (D.state pages.old.disk))) }
 {
     let Ok(target) = Target::of(alloc, before, batch) else {
         return Err(Unwritten::Memory);

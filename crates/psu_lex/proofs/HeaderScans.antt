@@ -3,16 +3,16 @@ use Rattle.std.proofs.Common.{◌≡◌, ℕ, ◌==◌, ◌&&◌, Bool, true, fa
 use Rattle.std.proofs.lemmas.Bool.{not-true, eqb-true, and_parts, cases_Bool}
 use Rattle.std.proofs.lemmas.Bool.Decides.{nat_tests}
 use Rattle.psu_lex.specs.Bytes.{is_letter}
-use Rattle.psu_lex.specs.Syntax.{is_name_byte, all_name, is_node, all_nodes, behind, ask_text, mark_text, Header, IsHeader, SpellsHeader, header_text, path_text}
-use Rattle.psu_lex.specs.declared.header_mark.HeaderMark.{HeaderMark}
-use Rattle.psu_lex.specs.declared.header_mark.HeaderMark.TheVariants.{Star, Colon, Bare}
+use Rattle.psu_lex.specs.Syntax.{is_name_byte, all_name, is_node, all_nodes, behind, ask_text, mark_text, HeaderParts, IsHeader, SpellsHeader, header_text, path_text}
+use Rattle.psu_lex.specs.declared.unit.HeaderMark.{HeaderMark}
+use Rattle.psu_lex.specs.declared.unit.HeaderMark.TheVariants.{Star, Colon, Bare}
 use Rattle.psu_lex.specs.SyntaxScan.{is_empty, joins, is_part, is_path, is_header, mark_of, behind_mark, ends_asking, without_ask}
 use Rattle.psu_lex.specs.NumberScan.{run, left}
 use Rattle.psu_lex.proofs.Runs.{same_head, same_tail, both, every, leads, run_at, left_at, every_head, every_tail, every_append, every_more}
 use Rattle.std.proofs.lemmas.List.{append-nil}
 use Rattle.std.proofs.Math.Seq.{take-append_seam}
 use Rattle.psu_lex.specs.Shown.{ShowsHeader}
-use Rattle.psu_lex.specs.declared.unit.Header as rust
+use Rattle.psu_lex.specs.declared.unit.UnitHeader as rust
 use Rattle.psu_lex.proofs.WrittenData.{node_every}
 
 -- the rest of a path whose first node has begun (true), or has not (false)
@@ -184,10 +184,10 @@ behind_is Star text = refl
 behind_is Colon text = refl
 behind_is Bare text = refl
 
-abbrev made : HeaderMark → List ℕ → List (List ℕ) → Bool → Header
+abbrev made : HeaderMark → List ℕ → List (List ℕ) → Bool → HeaderParts
 made mark node nodes asks = record { mark = mark; node = node; nodes = nodes; asks = asks }
 
-pub one_header : (h g : Header) → IsHeader h → IsHeader g → header_text h ≡ header_text g → h ≡ g
+pub one_header : (h g : HeaderParts) → IsHeader h → IsHeader g → header_text h ≡ header_text g → h ≡ g
 one_header h g p q e =
     let hs = behind h.nodes ++ ask_text h.asks in
     let gs = behind g.nodes ++ ask_text g.asks in
@@ -249,7 +249,7 @@ spelled_every test s c a f text (h, is, e) =
     (every_append test h.node (behind h.nodes ++ ask_text h.asks) (every_more is_name_byte test h.node f (node_every h.node is.node))
     (every_append test (behind h.nodes) (ask_text h.asks) (behind_every test h.nodes c f is.nodes) (ask_every test h.asks a))))
 
-path_plain : (h : Header) → IsHeader h → every is_plain (path_text h) ≡ true
+path_plain : (h : HeaderParts) → IsHeader h → every is_plain (path_text h) ≡ true
 path_plain h is =
     every_append is_plain h.node (behind h.nodes) (every_more is_name_byte is_plain h.node name_unasked (node_every h.node is.node)) (behind_every is_plain h.nodes refl name_unasked is.nodes)
 
@@ -265,7 +265,7 @@ cut_end path false = append-nil path
 
 -- ---- in the form of the code
 
-pub parts_shown : (shown : rust.Header) (text body : List ℕ) (mark : HeaderMark) (asks : Bool) (h : Header) → IsHeader h → text ≡ header_text h → mark ≡ mark_of text → body ≡ behind_mark mark text
+pub parts_shown : (shown : rust.UnitHeader) (text body : List ℕ) (mark : HeaderMark) (asks : Bool) (h : HeaderParts) → IsHeader h → text ≡ header_text h → mark ≡ mark_of text → body ≡ behind_mark mark text
     → asks ≡ ends_asking body → shown.text.now ≡ text → shown.mark ≡ mark → shown.nodes.now ≡ without_ask asks body → shown.asks ≡ asks → ShowsHeader shown h
 parts_shown shown text body mark asks h is e m b a st sm sn sa =
     let path = path_text h in

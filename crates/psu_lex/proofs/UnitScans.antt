@@ -5,7 +5,7 @@ use Rattle.std.proofs.Math.Seq.{take-add, drop-append_seam}
 use Rattle.std.proofs.lemmas.Grind.{common_steps}
 use Rattle.memchr.specs.Find.{IsFirstByte, is_byte3}
 use Rattle.psu_lex.specs.Bytes.{opens, separates, is_closed, all_white}
-use Rattle.psu_lex.specs.Message.{opens_first, ends_unit, BeginsPiece, EndsIn, HasNoPiece, Makes, Part, ended, next_first, fault_of, spelling, part, units_of, Token, Reads}
+use Rattle.psu_lex.specs.Message.{opens_first, ends_unit, BeginsPiece, EndsIn, HasNoPiece, MakesUnits, Part, ended, next_first, fault_of, spelling, part, units_of, Token, Reads}
 use Rattle.psu_lex.specs.declared.unit.UnitFault.{UnitFault}
 use Rattle.psu_lex.specs.Message.Token.{Byte, Separator, Whole, Faulty}
 use Rattle.psu_lex.specs.Scan.{has, after_piece, stops}
@@ -19,15 +19,15 @@ use Rattle.psu_lex.specs.SyntaxScan.{is_high}
 use Rattle.psu_lex.proofs.Tokens.{same_tokens, some_tokens}
 
 pub makes_run : (first : Bool) (run text rest : List ℕ) (units : List Part) → has separates run ≡ false → has opens run ≡ false
-    → Makes first (text ++ run) rest units → Makes first text (run ++ rest) units
-makes_run first [] text rest units f g m = subst (λ (z : List ℕ). Makes first z rest units) (append-nil text) m
+    → MakesUnits first (text ++ run) rest units → MakesUnits first text (run ++ rest) units
+makes_run first [] text rest units f g m = subst (λ (z : List ℕ). MakesUnits first z rest units) (append-nil text) m
 makes_run first (x ∷ run) text rest units f g m =
     let later = makes_run first run (text ++ x ∷ []) rest units (has_tail separates x run f) (has_tail opens x run g)
-    (subst (λ (z : List ℕ). Makes first z rest units) (sym (append_assoc text (x ∷ []) run)) m) in
+    (subst (λ (z : List ℕ). MakesUnits first z rest units) (sym (append_assoc text (x ∷ []) run)) m) in
     (Byte x ∷ later.0, (run ++ rest, refl, (has_head separates x run f, has_head opens x run g), later.1), later.2)
 
 pub makes_separator : (first : Bool) (x : ℕ) (text rest : List ℕ) (units : List Part) → separates x ≡ true
-    → Makes (next_first first text x) [] rest units → Makes first text (x ∷ rest) (ended first text ++ units)
+    → MakesUnits (next_first first text x) [] rest units → MakesUnits first text (x ∷ rest) (ended first text ++ units)
 makes_separator first x text rest units h m = (Separator x ∷ m.0, (rest, refl, h, m.1), ap (λ (z : List Part). ended first text ++ z) m.2)
 
 pub opens_at : (s : List ℕ) (n : ℕ) → n < length s → opens (slice_index s n) ≡ true → opens_first (drop n s) ≡ true
@@ -50,46 +50,46 @@ free_parts (x ∷ xs) h =
 -- ---- steps over a transmission
 
 pub step_run : (first : Bool) (bytes : List ℕ) (at run : ℕ) (units : List Part) → has separates (take run (drop at bytes)) ≡ false → has opens (take run (drop at bytes)) ≡ false
-    → Makes first (take (at + run) bytes) (drop (at + run) bytes) units → Makes first (take at bytes) (drop at bytes) units
+    → MakesUnits first (take (at + run) bytes) (drop (at + run) bytes) units → MakesUnits first (take at bytes) (drop at bytes) units
 step_run first bytes at run units f g m =
-    subst (λ (z : List ℕ). Makes first (take at bytes) z units) (take-append-drop run (drop at bytes))
+    subst (λ (z : List ℕ). MakesUnits first (take at bytes) z units) (take-append-drop run (drop at bytes))
     (makes_run first (take run (drop at bytes)) (take at bytes) (drop run (drop at bytes)) units f g
-    (subst (λ (z : List ℕ). Makes first z (drop run (drop at bytes)) units) (take-add at run bytes)
-    (subst (λ (z : List ℕ). Makes first (take (at + run) bytes) z units) (drop-add at run bytes) m)))
+    (subst (λ (z : List ℕ). MakesUnits first z (drop run (drop at bytes)) units) (take-add at run bytes)
+    (subst (λ (z : List ℕ). MakesUnits first (take (at + run) bytes) z units) (drop-add at run bytes) m)))
 
 pub step_piece : (first : Bool) (bytes : List ℕ) (at n : ℕ) (units : List Part) → BeginsPiece (drop at bytes) (drop n (drop at bytes)) → is_closed (drop n (drop at bytes)) ≡ true
-    → Makes first (take (at + n) bytes) (drop (at + n) bytes) units → Makes first (take at bytes) (drop at bytes) units
+    → MakesUnits first (take (at + n) bytes) (drop (at + n) bytes) units → MakesUnits first (take at bytes) (drop at bytes) units
 step_piece first bytes at n units b h m =
     let text : take n (drop at bytes) ≡ spelling b.0 = append_cancel_right (take n (drop at bytes)) (spelling b.0) (drop n (drop at bytes)) (take-append-drop n (drop at bytes) ∙ b.1) in
-    let later = subst (λ (z : List ℕ). Makes first (take at bytes ++ z) (drop n (drop at bytes)) units) text
-    (subst (λ (z : List ℕ). Makes first z (drop n (drop at bytes)) units) (take-add at n bytes)
-    (subst (λ (z : List ℕ). Makes first (take (at + n) bytes) z units) (drop-add at n bytes) m)) in
+    let later = subst (λ (z : List ℕ). MakesUnits first (take at bytes ++ z) (drop n (drop at bytes)) units) text
+    (subst (λ (z : List ℕ). MakesUnits first z (drop n (drop at bytes)) units) (take-add at n bytes)
+    (subst (λ (z : List ℕ). MakesUnits first (take (at + n) bytes) z units) (drop-add at n bytes) m)) in
     (Whole b.0 ∷ later.0, (drop n (drop at bytes), b.1, (b.2, h), later.1), later.2)
 
 pub step_fault : (first : Bool) (bytes : List ℕ) (at : ℕ) → opens_first (drop at bytes) ≡ true → HasNoPiece is_closed (drop at bytes)
-    → Makes first (take at bytes) (drop at bytes) (record { text = bytes; first = first; fault = Some (fault_of (drop at bytes)) } ∷ [])
+    → MakesUnits first (take at bytes) (drop at bytes) (record { text = bytes; first = first; fault = Some (fault_of (drop at bytes)) } ∷ [])
 step_fault first bytes at o n =
-    subst (λ (z : List ℕ). Makes first (take at bytes) (drop at bytes) (record { text = z; first = first; fault = Some (fault_of (drop at bytes)) } ∷ []))
+    subst (λ (z : List ℕ). MakesUnits first (take at bytes) (drop at bytes) (record { text = z; first = first; fault = Some (fault_of (drop at bytes)) } ∷ []))
     (take-append-drop at bytes) (Faulty (drop at bytes) ∷ [], ([], sym (append-nil (drop at bytes)), (refl, o, n), refl), refl)
 
 -- ---- in the form of a unit's scan
 
 pub unit_step : (first : Bool) (bytes piece : List ℕ) (at found n : ℕ) (units : List Part) → piece ≡ drop (at + found) bytes
     → has separates (take found (drop at bytes)) ≡ false → has opens (take found (drop at bytes)) ≡ false → after_piece piece ≡ Some (drop n piece) → is_closed (drop n piece) ≡ true
-    → Makes first (take (at + (found + n)) bytes) (drop (at + (found + n)) bytes) units → Makes first (take at bytes) (drop at bytes) units
+    → MakesUnits first (take (at + (found + n)) bytes) (drop (at + (found + n)) bytes) units → MakesUnits first (take at bytes) (drop at bytes) units
 unit_step first bytes piece at found n units e a b p h m =
     let same : at + (found + n) ≡ at + found + n = omega arith in
     step_run first bytes at found units a b
     (step_piece first bytes (at + found) n units (whole _ _ (subst (λ (z : List ℕ). after_piece z ≡ Some (drop n z)) e p)) (subst (λ (z : List ℕ). is_closed (drop n z) ≡ true) e h)
-    (subst (λ (z : ℕ). Makes first (take z bytes) (drop z bytes) units) same m))
+    (subst (λ (z : ℕ). MakesUnits first (take z bytes) (drop z bytes) units) same m))
 
 pub unit_fault : (first : Bool) (bytes piece : List ℕ) (at found : ℕ) (fault : UnitFault) → piece ≡ drop (at + found) bytes
     → has separates (take found (drop at bytes)) ≡ false → has opens (take found (drop at bytes)) ≡ false → opens_first piece ≡ true → HasNoPiece is_closed piece → fault ≡ fault_of piece
-    → Makes first (take at bytes) (drop at bytes) (record { text = bytes; first = first; fault = Some fault } ∷ [])
+    → MakesUnits first (take at bytes) (drop at bytes) (record { text = bytes; first = first; fault = Some fault } ∷ [])
 unit_fault first bytes piece at found fault e a b o n is =
     let whole : Part = record { text = bytes; first = first; fault = Some fault } in
     step_run first bytes at found (whole ∷ []) a b
-    (subst (λ (z : UnitFault). Makes first (take (at + found) bytes) (drop (at + found) bytes) (record { text = bytes; first = first; fault = Some z } ∷ []))
+    (subst (λ (z : UnitFault). MakesUnits first (take (at + found) bytes) (drop (at + found) bytes) (record { text = bytes; first = first; fault = Some z } ∷ []))
     (ap fault_of (sym e) ∙ sym is)
     (step_fault first bytes (at + found) (subst (λ (z : List ℕ). opens_first z ≡ true) e o) (subst (HasNoPiece is_closed) e n)))
 
@@ -110,29 +110,29 @@ plain_at bytes rest piece at plain e p f =
     )
 
 -- no unit is left where no byte is left
-pub makes_none : (first : Bool) (units : List Part) → Makes first [] [] units → units ≡ []
+pub makes_none : (first : Bool) (units : List Part) → MakesUnits first [] [] units → units ≡ []
 makes_none first units m = m.2 ∙ ap (units_of first []) (same_tokens is_closed [] m.0 [] m.1 refl)
 
 -- the units from a unit's separator on, and from its end where no byte is left
-pub pass_none : (first : Bool) (rest text : List ℕ) (units : List Part) → length rest ≡ 0 → Makes first [] rest units → Makes first text rest (ended first text ++ units)
+pub pass_none : (first : Bool) (rest text : List ℕ) (units : List Part) → length rest ≡ 0 → MakesUnits first [] rest units → MakesUnits first text rest (ended first text ++ units)
 pass_none first [] text units n m =
-    subst (λ (z : List Part). Makes first text [] (ended first text ++ z)) (sym (makes_none first units m)) ([], refl, append-nil (ended first text))
+    subst (λ (z : List Part). MakesUnits first text [] (ended first text ++ z)) (sym (makes_none first units m)) ([], refl, append-nil (ended first text))
 pass_none first (x ∷ rest) text units n m = absurd (omega (arith, n))
 
 pub pass_some : (first next blank : Bool) (rest later text : List ℕ) (units : List Part) → (length rest ≡ 0 → ⊥) → ends_unit rest ≡ true → later ≡ drop 1 rest → next ≡ (slice_index rest 0 == 10 || (first && blank)) → blank ≡ all_white text
-    → Makes next [] later units → Makes first text rest (ended first text ++ units)
+    → MakesUnits next [] later units → MakesUnits first text rest (ended first text ++ units)
 pass_some first next blank [] later text units n u l f b m = absurd (n refl)
 pass_some first next blank (x ∷ rest) later text units n u l f b m =
     let is : next ≡ next_first first text x = f ∙ ap (λ (z : Bool). x == 10 || (first && z)) b in
-    makes_separator first x text rest units u (subst (λ (z : Bool). Makes z [] rest units) is (subst (λ (z : List ℕ). Makes next [] z units) l m))
+    makes_separator first x text rest units u (subst (λ (z : Bool). MakesUnits z [] rest units) is (subst (λ (z : List ℕ). MakesUnits next [] z units) l m))
 
 -- the units from the beginning of a unit on
 pub read_on : (first : Bool) (bytes unit more : List ℕ) (end : ℕ) (units : List Part) → unit ≡ take end bytes → more ≡ drop end bytes
-    → ((first : Bool) (units : List Part) → Makes first (take end bytes) (drop end bytes) units → Makes first [] bytes units)
-    → Makes first unit more (ended first unit ++ units) → Makes first [] bytes (ended first unit ++ units)
+    → ((first : Bool) (units : List Part) → MakesUnits first (take end bytes) (drop end bytes) units → MakesUnits first [] bytes units)
+    → MakesUnits first unit more (ended first unit ++ units) → MakesUnits first [] bytes (ended first unit ++ units)
 read_on first bytes unit more end units u m ok made =
-    ok first (ended first unit ++ units) (subst (λ (z : List ℕ). Makes first (take end bytes) z (ended first unit ++ units)) m
-    (subst (λ (z : List ℕ). Makes first z more (ended first unit ++ units)) u made))
+    ok first (ended first unit ++ units) (subst (λ (z : List ℕ). MakesUnits first (take end bytes) z (ended first unit ++ units)) m
+    (subst (λ (z : List ℕ). MakesUnits first z more (ended first unit ++ units)) u made))
 
 pub ended_none : (first : Bool) (text : List ℕ) → all_white text ≡ true → ended first text ≡ []
 ended_none first text h = rw h refl

@@ -1,7 +1,7 @@
 -- The errors: number, text, class and event status bit. Sources: SCPI-1999 volume 2, chapter 21; IEEE 488.2, 11.5.1.
 use Rattle.std.specs.Prelude.{ℕ, List, codes, nat_lt, if◌then◌else◌}
-use Rattle.psu_lex.specs.declared.error_class.ErrorClass.{ErrorClass}
-use Rattle.psu_lex.specs.declared.error_class.ErrorClass.TheVariants.{Command, Execution, Device}
+use Rattle.psu_lex.specs.declared.scpi_error.ErrorClass.{ErrorClass}
+use Rattle.psu_lex.specs.declared.scpi_error.ErrorClass.TheVariants.{Command, Execution, Device}
 use Rattle.psu_lex.specs.declared.scpi_error.ScpiError.{ScpiError}
 use Rattle.psu_lex.specs.declared.scpi_error.ScpiError.TheVariants.{InvalidCharacter, SyntaxError, DataTypeError, ParameterNotAllowed, MissingParameter, UndefinedHeader, HeaderSuffixOutOfRange, ExponentTooLarge, TooManyDigits, InvalidSuffix, InvalidStringData, InvalidBlockData, CommandProtected, TriggerIgnored, SettingsConflict, DataOutOfRange, TooMuchData, IllegalParameterValue, OutOfMemory, MassStorageError, MediaFull, FileNameNotFound, FileNameError, IllegalMacroLabel, MacroParameterError, MacroDefinitionTooLong, MacroRecursionError, MacroRedefinitionNotAllowed, MacroHeaderNotFound, StorageFault, QueueOverflow}
 

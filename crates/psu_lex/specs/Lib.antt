@@ -12,4 +12,4 @@ pub mod Syntax
 pub mod Names
 pub mod Shown
 pub mod SyntaxScan
-pub mod Held
+pub mod ByteStorage

@@ -105,8 +105,8 @@ units_of first text (Faulty rest ∷ tokens) =
     record { text = text ++ rest; first = first; fault = Some (fault_of rest) } ∷ []
 
 -- the bytes that follow the text of a begun unit give these units
-abbrev pub Makes : Bool → List ℕ → List ℕ → List Part → Type 0
-Makes first text bytes units = (tokens : List Token) × Reads is_closed bytes tokens × (units ≡ units_of first text tokens)
+abbrev pub MakesUnits : Bool → List ℕ → List ℕ → List Part → Type 0
+MakesUnits first text bytes units = (tokens : List Token) × Reads is_closed bytes tokens × (units ≡ units_of first text tokens)
 
 -- a unit ends before these bytes
 abbrev pub ends_unit : List ℕ → Bool
@@ -115,7 +115,7 @@ ends_unit (x ∷ xs) = separates x
 
 -- the units of a transmission
 abbrev pub IsMessage : List ℕ → List Part → Type 0
-IsMessage bytes units = Makes true [] bytes units
+IsMessage bytes units = MakesUnits true [] bytes units
 
 -- the last of the bytes
 abbrev pub EndsIn : List ℕ → List ℕ → Type 0

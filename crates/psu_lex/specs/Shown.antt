@@ -2,11 +2,11 @@
 use Rattle.std.specs.Prelude.{◌≡◌, ℕ, Bool, true, false, List, [], ◌∷◌, Option, Some, None, Result, Ok, Err}
 use Rattle.psu_lex.specs.Number.{Sign, Exponent, Number, fraction_digits}
 use Rattle.psu_lex.specs.Number.Sign.{Plus, Minus, Unsigned}
-use Rattle.psu_lex.specs.Syntax.{Header, IsHeader, header_text, path_text, Datum, IsDatum, Lists, Syntax, datum_of}
+use Rattle.psu_lex.specs.Syntax.{HeaderParts, IsHeader, header_text, path_text, Datum, IsDatum, Lists, Syntax, datum_of}
 use Rattle.psu_lex.specs.declared.data.Data as rust_data
 use Rattle.psu_lex.specs.declared.data.Datum as rust_datum
 use Rattle.psu_lex.specs.declared.data.Found as rust_found
-use Rattle.psu_lex.specs.declared.unit.Header as rust_header
+use Rattle.psu_lex.specs.declared.unit.UnitHeader as rust_header
 use Rattle.psu_lex.specs.declared.unit.Syntax as rust
 use Rattle.psu_lex.specs.declared.written.Written as rust_written
 use Rattle.psu_lex.specs.declared.scpi_error.ScpiError.{ScpiError}
@@ -14,7 +14,7 @@ use Rattle.psu_lex.specs.declared.scpi_error.ScpiError.{ScpiError}
 -- ---- headers
 
 -- the code's header has these parts
-pub record ShowsHeader (shown : rust_header.Header) (h : Header) : Type 0 where
+pub record ShowsHeader (shown : rust_header.UnitHeader) (h : HeaderParts) : Type 0 where
   pub text : shown.text.now ≡ header_text h
   pub mark : shown.mark ≡ h.mark
   pub nodes : shown.nodes.now ≡ path_text h
@@ -52,7 +52,7 @@ FirstIs (Some first) list =
 -- the code's syntax has these parts
 abbrev pub ShowsSyntax : rust.Syntax → Syntax → Type 0
 ShowsSyntax shown syntax =
-    (h : Header) × IsHeader h × (syntax.header ≡ header_text h) × ShowsHeader shown.header h × HoldsData shown.parameters syntax.parameters
+    (h : HeaderParts) × IsHeader h × (syntax.header ≡ header_text h) × ShowsHeader shown.header h × HoldsData shown.parameters syntax.parameters
 
 -- the code's result is this result
 abbrev pub Shows : Result rust.Syntax ScpiError → Result Syntax ScpiError → Type 0

@@ -9,8 +9,8 @@ use Rattle.psu_lex.specs.Message.Token.{Byte}
 use Rattle.psu_lex.specs.declared.data.DatumClass.{DatumClass}
 use Rattle.psu_lex.specs.declared.data.DatumClass.TheVariants.{Numeric, Character, String, Block}
 use Rattle.psu_lex.specs.declared.data.Datum as rust
-use Rattle.psu_lex.specs.declared.header_mark.HeaderMark.{HeaderMark}
-use Rattle.psu_lex.specs.declared.header_mark.HeaderMark.TheVariants.{Star, Colon, Bare}
+use Rattle.psu_lex.specs.declared.unit.HeaderMark.{HeaderMark}
+use Rattle.psu_lex.specs.declared.unit.HeaderMark.TheVariants.{Star, Colon, Bare}
 use Rattle.psu_lex.specs.declared.scpi_error.ScpiError.{ScpiError}
 use Rattle.psu_lex.specs.declared.scpi_error.ScpiError.TheVariants.{InvalidCharacter, InvalidStringData, InvalidBlockData, SyntaxError}
 use Rattle.psu_lex.specs.declared.unit.UnitFault.{UnitFault}
@@ -41,7 +41,7 @@ mark_text Colon = 58 ∷ []
 mark_text Bare = []
 
 -- the mark, the first node, the nodes after it, and whether the header ends with `?`
-pub record Header : Type 0 where
+pub record HeaderParts : Type 0 where
   pub mark : HeaderMark
   pub node : List ℕ
   pub nodes : List (List ℕ)
@@ -55,22 +55,22 @@ behind (n ∷ ns) = 58 ∷ (n ++ behind ns)
 abbrev pub ask_text : Bool → List ℕ
 ask_text asks = if asks then 63 ∷ [] else []
 
-abbrev pub header_text : Header → List ℕ
+abbrev pub header_text : HeaderParts → List ℕ
 header_text h = mark_text h.mark ++ (h.node ++ (behind h.nodes ++ ask_text h.asks))
 
 -- the nodes, separated by `:`
-abbrev pub path_text : Header → List ℕ
+abbrev pub path_text : HeaderParts → List ℕ
 path_text h = h.node ++ behind h.nodes
 
 -- a header with mark `*` has only one node
-pub record IsHeader (h : Header) : Type 0 where
+pub record IsHeader (h : HeaderParts) : Type 0 where
   pub node : is_node h.node ≡ true
   pub nodes : all_nodes h.nodes ≡ true
   pub common : h.mark ≡ Star → h.nodes ≡ []
 
 -- the text is a header
 abbrev pub SpellsHeader : List ℕ → Type 0
-SpellsHeader text = (h : Header) × IsHeader h × (text ≡ header_text h)
+SpellsHeader text = (h : HeaderParts) × IsHeader h × (text ≡ header_text h)
 
 -- ---- data
 

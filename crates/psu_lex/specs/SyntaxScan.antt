@@ -6,8 +6,8 @@ use Rattle.psu_lex.specs.Scan.{after_piece}
 use Rattle.psu_lex.specs.Syntax.{is_name_byte, is_node, Datum}
 use Rattle.psu_lex.specs.declared.data.DatumClass.{DatumClass}
 use Rattle.psu_lex.specs.declared.data.DatumClass.TheVariants.{Numeric, Character, String, Block}
-use Rattle.psu_lex.specs.declared.header_mark.HeaderMark.{HeaderMark}
-use Rattle.psu_lex.specs.declared.header_mark.HeaderMark.TheVariants.{Star, Colon, Bare}
+use Rattle.psu_lex.specs.declared.unit.HeaderMark.{HeaderMark}
+use Rattle.psu_lex.specs.declared.unit.HeaderMark.TheVariants.{Star, Colon, Bare}
 
 -- ---- headers
 

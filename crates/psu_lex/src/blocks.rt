@@ -1,4 +1,4 @@
-// Block data.
+//! Block data.
 ghost use Rattle.std.specs.Prelude.{ℕ, ◌≡◌, ◌==◌, ◌||◌, ◌<◌, ◌^◌, length, IfOk, IfErr, OnErr};
 ghost use Rattle.psu_lex.specs.Bytes.{starts};
 ghost use Rattle.psu_lex.specs.Data.{IsBlockOf, Refuses, definite_text};

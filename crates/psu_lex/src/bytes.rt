@@ -1,4 +1,4 @@
-// Bytes that a call returns, and how they are stored.
+//! Bytes that a call returns, and how they are stored.
 ghost use Rattle.std.specs.Prelude.{◌≡◌, ◌<◌, ◌≤◌, [], ◌++◌, length, decimal, IfOk, OnOk, OnErr};
 
 use arrayvec::ArrayVec;
@@ -7,31 +7,31 @@ use std::alloc::{AllocError, Allocator};
 use std::marker::Model;
 
 /// The number of bytes that are stored without allocation.
-pub const FEW: usize = 16;
+const INLINE_MOST: usize = 16;
 
 /// Bytes: a few inline, or more in allocated memory.
 #[derive(Drop)]
-pub enum Held<A: Allocator + Copy> {
+pub(crate) enum ByteStorage<A: Allocator + Copy> {
     /// A few bytes; where they become too many, memory is allocated by this allocator.
-    Few(A, ArrayVec<u8, FEW>),
+    Few(A, ArrayVec<u8, INLINE_MOST>),
     Many(Vec<u8, A>),
 }
 
 /// Bytes that a call returns; a few bytes need no allocation. Contracts see the list of them.
 #[derive(Drop)]
 pub struct Bytes<A: Allocator + Copy> {
-    held: Held<A>,
+    storage: ByteStorage<A>,
 }
 
 impl<A: Allocator + Copy> Model for Bytes<A> {
     ghost use Rattle.std.specs.Prelude.{List, ℕ};
-    ghost use Rattle.psu_lex.specs.Held.{bytes_in, AllocatesForMany};
+    ghost use Rattle.psu_lex.specs.ByteStorage.{bytes_in, AllocatesForMany};
 
     ghost Value = { List ℕ };
 
-    ghost view = { λ bytes. bytes_in bytes.held };
+    ghost view = { λ bytes. bytes_in bytes.storage };
 
-    ghost invariant = { λ bytes. AllocatesForMany bytes.held };
+    ghost invariant = { λ bytes. AllocatesForMany bytes.storage };
 }
 
 // Returns a list of a few bytes followed by more bytes.
@@ -49,7 +49,7 @@ impl<A: Allocator + Copy> Bytes<A> {
         ensures { result ≡ [] }
     {
         Bytes {
-            held: Held::Few(alloc, ArrayVec::new()),
+            storage: ByteStorage::Few(alloc, ArrayVec::new()),
         }
     }
 
@@ -61,7 +61,7 @@ impl<A: Allocator + Copy> Bytes<A> {
         let mut few = ArrayVec::new();
         match few.try_extend_from_slice(bytes) {
             Ok(()) => Bytes {
-                held: Held::Few(alloc, few),
+                storage: ByteStorage::Few(alloc, few),
             },
             Err(_) => unreachable!(),
         }
@@ -74,10 +74,10 @@ impl<A: Allocator + Copy> Bytes<A> {
         let mut few = ArrayVec::new();
         match few.try_extend_from_slice(list.as_slice()) {
             Ok(()) => Bytes {
-                held: Held::Few(alloc, few),
+                storage: ByteStorage::Few(alloc, few),
             },
             Err(_) => Bytes {
-                held: Held::Many(list),
+                storage: ByteStorage::Many(list),
             },
         }
     }
@@ -87,11 +87,11 @@ impl<A: Allocator + Copy> Bytes<A> {
         ensures ok { IfOk result (λ copy. copy ≡ bytes.now) }
         ensures many { OnErr result (16 < length bytes.now) }
     {
-        if bytes.len() <= FEW {
+        if bytes.len() <= INLINE_MOST {
             return Ok(Bytes::few(alloc, bytes));
         }
         Ok(Bytes {
-            held: Held::Many(bytes.to_vec(alloc)?),
+            storage: ByteStorage::Many(bytes.to_vec(alloc)?),
         })
     }
 
@@ -102,15 +102,15 @@ impl<A: Allocator + Copy> Bytes<A> {
         ensures err { OnErr result (self.new ≡ self.old) }
         ensures many { OnErr result (16 < length (self.old ++ bytes.now)) }
     {
-        match &mut self.held {
-            Held::Few(alloc, few) => {
+        match &mut self.storage {
+            ByteStorage::Few(alloc, few) => {
                 if few.try_extend_from_slice(bytes).is_err() {
                     let list = joined(*alloc, few.as_slice(), bytes)?;
-                    self.held = Held::Many(list);
+                    self.storage = ByteStorage::Many(list);
                 }
                 Ok(())
             }
-            Held::Many(list) => list.extend_from_slice(bytes),
+            ByteStorage::Many(list) => list.extend_from_slice(bytes),
         }
     }
 
@@ -128,9 +128,9 @@ impl<A: Allocator + Copy> Bytes<A> {
     pub fn as_slice(&self) -> &[u8]
         ensures { result.now ≡ self.now }
     {
-        match &self.held {
-            Held::Few(_, few) => few.as_slice(),
-            Held::Many(list) => list.as_slice(),
+        match &self.storage {
+            ByteStorage::Few(_, few) => few.as_slice(),
+            ByteStorage::Many(list) => list.as_slice(),
         }
     }
 }

@@ -1,11 +1,11 @@
-// Classes of bytes.
+//! Classes of bytes.
 ghost use Rattle.std.specs.Prelude.{◌≡◌};
 ghost use Rattle.psu_lex.specs.Bytes.{is_white};
 ghost use Rattle.psu_lex.specs.NumberScan.{belongs};
 
 /// Whether the byte is white space: 0 to 32, except NL.
 #[inline(always)]
-pub fn is_white(byte: u8) -> bool
+pub(crate) fn is_white(byte: u8) -> bool
     ensures { result ≡ is_white byte }
 {
     byte <= 32 && byte != b'\n'
@@ -13,7 +13,7 @@ pub fn is_white(byte: u8) -> bool
 
 /// A class of bytes.
 #[derive(Clone, Copy, Debug, PartialEq, Eq)]
-pub enum Class {
+pub(crate) enum Class {
     /// `0` to `9`.
     Digit,
     /// White space.
@@ -24,7 +24,7 @@ pub enum Class {
 
 impl Class {
     /// Whether the byte is of this class.
-    pub fn has(self, byte: u8) -> bool
+    pub(crate) fn has(self, byte: u8) -> bool
         ensures { result ≡ belongs self byte }
     {
         match self {

@@ -1,4 +1,4 @@
-// The data of a unit: a datum, its class, and the list of them.
+//! The data of a unit: a datum, its class, and the list of them.
 use crate::data_scan::next_of;
 use crate::pieces::{after, front};
 
@@ -63,7 +63,7 @@ impl<'a> Datum<'a> {
 
 /// A datum as it was found in a text.
 #[derive(Clone, Copy, Debug, PartialEq, Eq)]
-pub struct Found<'a> {
+pub(crate) struct Found<'a> {
     /// The datum.
     pub datum: Datum<'a>,
     /// What follows the datum after white space: nothing, or a `,` and more.

@@ -1,4 +1,4 @@
-// Where the data of a unit begin and end.
+//! Where the data of a unit begin and end.
 ghost use Rattle.std.specs.Prelude.{List, ◌≡◌, ◌≤◌, true, false, length, take, drop, Some, None, IfSome, IfNone};
 ghost use Rattle.psu_lex.specs.Bytes.{all_white};
 ghost use Rattle.psu_lex.specs.Syntax.{Datum as DatumData, Lists, datum_of, ends_in_white};
@@ -166,7 +166,7 @@ fn later_datum(text: &[u8]) -> Option<Found<'_>>
 }
 
 /// Returns the next datum of a list, after the `,`, or `None` where there is none.
-pub fn next_of(tail: &[u8]) -> Option<Found<'_>>
+pub(crate) fn next_of(tail: &[u8]) -> Option<Found<'_>>
     ensures { (others : List DatumData) → TailLists tail.now others → HoldsFound result others }
 {
     if tail.is_empty() {
@@ -206,7 +206,7 @@ fn is_list(text: &[u8], found: &Option<Found<'_>>) -> bool
 }
 
 /// Returns the data of a text that is only white space, or data separated by `,`; `None` for any other text.
-pub fn list_at(text: &[u8]) -> Option<Data<'_>>
+pub(crate) fn list_at(text: &[u8]) -> Option<Data<'_>>
     ensures some { IfSome result (λ shown. (list : List DatumData) × Lists text.now list × HoldsData shown list) }
     ensures none { IfNone result ((list : List DatumData) → Lists text.now list → ⊥) }
 {

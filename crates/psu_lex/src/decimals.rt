@@ -1,4 +1,4 @@
-// Numbers as response data.
+//! Numbers as response data.
 ghost use Rattle.std.specs.Prelude.{◌≡◌, ◌<◌, [], ◌∷◌, ◌++◌, length, decimal, if◌then◌else◌, IfOk, OnErr};
 ghost use Rattle.psu_lex.specs.Decimals.{fixed3_text};
 

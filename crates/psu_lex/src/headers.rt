@@ -1,14 +1,14 @@
-// Headers.
+//! Headers.
 ghost use Rattle.std.specs.Prelude.{◌≡◌, ◌≤◌, ◌<◌, ◌==◌, ◌||◌, Bool, true, false, length, drop, slice_index, IfSome, IfNone};
 ghost use Rattle.psu_lex.specs.Bytes.{is_dark, is_digit};
 ghost use Rattle.psu_lex.specs.NumberScan.{run};
 ghost use Rattle.psu_lex.specs.SyntaxScan.{EndsDark, Reaches, behind_ask, behind_mark, ends_asking, is_header, is_path, joins, mark_of, without_ask};
 ghost use Rattle.psu_lex.specs.Shown.{ShowsHeader};
-ghost use Rattle.psu_lex.specs.Syntax.{Header as Parts, IsHeader, header_text, is_apart, is_node, is_name_byte};
+ghost use Rattle.psu_lex.specs.Syntax.{HeaderParts, IsHeader, header_text, is_apart, is_node, is_name_byte};
 
 use crate::class::is_white;
 use crate::pieces::{after, begins, front};
-use crate::{Header, HeaderMark};
+use crate::{HeaderMark, UnitHeader};
 
 /// Whether another node follows a node.
 fn joins(several: bool, byte: u8) -> bool
@@ -27,14 +27,14 @@ fn is_rare(byte: u8) -> bool
 
 /// Whether the byte is a letter, a digit or `_`.
 #[inline(always)]
-pub fn is_name_byte(byte: u8) -> bool
+pub(crate) fn is_name_byte(byte: u8) -> bool
     ensures { result ≡ is_name_byte byte }
 {
     byte.is_ascii_alphabetic() || is_rare(byte)
 }
 
 /// Whether the text is a letter followed by letters, digits or `_`.
-pub fn is_node(text: &[u8]) -> bool
+pub(crate) fn is_node(text: &[u8]) -> bool
     ensures { result ≡ is_node text.now }
 {
     if text.is_empty() || !text[0].is_ascii_alphabetic() {
@@ -119,7 +119,7 @@ fn path_end(text: &[u8], several: bool) -> Option<usize>
 }
 
 /// Returns the length of the text before the first white space, if it is a header.
-pub fn header_end(text: &[u8]) -> Option<usize>
+pub(crate) fn header_end(text: &[u8]) -> Option<usize>
     ensures within { IfSome result (λ n. n ≤ length text.now) }
     ensures some { IfSome result (λ n. EndsDark is_header text.now n) }
     ensures none { IfNone result (is_header (run is_dark text.now) ≡ false) }
@@ -178,14 +178,14 @@ fn without_ask(text: &[u8], asks: bool) -> &[u8]
 }
 
 /// Returns the parts of a header.
-pub fn header_of(text: &[u8]) -> Header<'_>
+pub(crate) fn header_of(text: &[u8]) -> UnitHeader<'_>
     requires { is_header text.now ≡ true }
-    ensures { (h : Parts) × IsHeader h × (text.now ≡ header_text h) × ShowsHeader result h }
+    ensures { (h : HeaderParts) × IsHeader h × (text.now ≡ header_text h) × ShowsHeader result h }
 {
     let mark = mark_of(text);
     let body = behind_mark(text, mark);
     let asks = ends_asking(body);
-    Header {
+    UnitHeader {
         text,
         mark,
         nodes: without_ask(body, asks),

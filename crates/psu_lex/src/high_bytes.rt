@@ -1,4 +1,4 @@
-// Bytes of 127 or more.
+//! Bytes of 127 or more.
 ghost use Rattle.std.specs.Prelude.{List, ◌≡◌};
 ghost use Rattle.psu_lex.specs.Bytes.{is_closed};
 ghost use Rattle.psu_lex.specs.Message.{Token, Reads};
@@ -17,7 +17,7 @@ fn is_high(run: &[u8]) -> bool
 }
 
 /// Whether a byte of 127 or more occurs outside strings and blocks.
-pub fn has_high(text: &[u8]) -> bool
+pub(crate) fn has_high(text: &[u8]) -> bool
     ensures { (tokens : List Token) × Reads is_closed text.now tokens × (result ≡ has_high tokens) }
 {
     let mut rest = text;

@@ -4,7 +4,7 @@ ghost use Rattle.psu_lex.specs.Data.{IsBlockOf, IsDatumOf, IsStringOf};
 ghost use Rattle.psu_lex.specs.Macros.{ExpandsTo};
 ghost use Rattle.psu_lex.specs.Number.{Number, IsNumber, NumberGives, number_text};
 ghost use Rattle.psu_lex.specs.Message.{Part, IsMessage};
-ghost use Rattle.psu_lex.specs.Syntax.{Header, IsHeader, Syntax, SyntaxGives, UnitReads, header_text};
+ghost use Rattle.psu_lex.specs.Syntax.{HeaderParts, IsHeader, Syntax, SyntaxGives, UnitReads, header_text};
 ghost use Rattle.psu_lex.specs.declared.scpi_error.ScpiError.{ScpiError};
 
 /// Every list of bytes can be divided into units.
@@ -58,7 +58,7 @@ pub fn one_syntax_of_a_text()
 /// A text is the spelling of at most one header.
 #[tactic(auto, using(crate::proofs::HeaderScans::one_header))]
 pub fn one_header_of_a_text()
-    ensures { (header other : Header) → IsHeader header → IsHeader other → header_text header ≡ header_text other → header ≡ other }
+    ensures { (header other : HeaderParts) → IsHeader header → IsHeader other → header_text header ≡ header_text other → header ≡ other }
 {}
 
 /// A unit gives at most one result.

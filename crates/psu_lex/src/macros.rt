@@ -1,16 +1,14 @@
-// Macros: the expansion of a body with its parameters.
+//! Macros: the expansion of a body with its parameters.
 ghost use Rattle.std.specs.Prelude.{ℕ, List, [], ◌≡◌, ◌⊎◌, ◌+◌, ◌≤◌, ◌<◌, Ok, Err, false, length, map, min, IfOk, IfErr};
 ghost use Rattle.psu_lex.specs.Message.{opens_first};
 ghost use Rattle.psu_lex.specs.Macros.{ExpandsTo, parameter};
 ghost use Rattle.psu_lex.specs.MacroScan.{Keeps, Puts, Spells, begins_placeholder};
 ghost use Rattle.psu_lex.specs.declared.scpi_error.ScpiError.TheVariants.{OutOfMemory};
 
+use crate::limits::TEXT_MOST;
 use crate::pieces::{after, begins, front, whole_end};
 use crate::{Bytes, ScpiError};
 use std::alloc::{AllocError, Allocator};
-
-/// The maximum size of an expansion, in bytes.
-const MOST: usize = 65_536;
 
 /// Whether the text begins with a placeholder, `$1` to `$9`.
 fn is_placeholder(rest: &[u8]) -> bool
@@ -91,7 +89,7 @@ fn piece_at<'a>(rest: &'a [u8], args: &[&'a [u8]]) -> (&'a [u8], usize)
 fn longer(length: usize, more: usize) -> usize
     ensures { result ≡ min 65537 (length + more) }
 {
-    length.saturating_add(more).min(MOST + 1)
+    length.saturating_add(more).min(TEXT_MOST + 1)
 }
 
 /// Returns the length of an expansion, capped at one more than its maximum.
@@ -145,7 +143,7 @@ pub fn expand<'a, A: Allocator + Copy>(
         return Err(ScpiError::MacroParameterError);
     }
     let length = length_of(body, args);
-    if length > MOST {
+    if length > TEXT_MOST {
         return Err(ScpiError::TooMuchData);
     }
     match filled(alloc, body, args, length) {

@@ -1,7 +1,7 @@
-// Where the units of a message end.
+//! Where the units of a message end.
 ghost use Rattle.std.specs.Prelude.{List, [], ◌∷◌, ◌≡◌, ◌≤◌, Bool, Some, true, false, length, take, drop, IfOk, IfErr};
 ghost use Rattle.psu_lex.specs.Bytes.{all_white, opens};
-ghost use Rattle.psu_lex.specs.Message.{Makes, Part, ends_unit, fault_of, opens_first};
+ghost use Rattle.psu_lex.specs.Message.{MakesUnits, Part, ends_unit, fault_of, opens_first};
 ghost use Rattle.psu_lex.specs.Scan.{has, stops, stops_first};
 
 use crate::UnitFault;
@@ -62,11 +62,11 @@ fn fault_at(piece: &[u8]) -> UnitFault
 }
 
 /// Returns the length of the unit at the beginning, or its fault.
-pub fn unit_end(bytes: &[u8]) -> Result<usize, UnitFault>
+pub(crate) fn unit_end(bytes: &[u8]) -> Result<usize, UnitFault>
     ensures within { IfOk result (λ n. n ≤ length bytes.now) }
     ensures end { IfOk result (λ n. ends_unit (drop n bytes.now) ≡ true) }
-    ensures ok { IfOk result (λ n. (first : Bool) (units : List Part) → Makes first (take n bytes.now) (drop n bytes.now) units → Makes first [] bytes.now units) }
-    ensures err { IfErr result (λ fault. (first : Bool) → Makes first [] bytes.now (record { text = bytes.now; first = first; fault = Some fault } ∷ [])) }
+    ensures ok { IfOk result (λ n. (first : Bool) (units : List Part) → MakesUnits first (take n bytes.now) (drop n bytes.now) units → MakesUnits first [] bytes.now units) }
+    ensures err { IfErr result (λ fault. (first : Bool) → MakesUnits first [] bytes.now (record { text = bytes.now; first = first; fault = Some fault } ∷ [])) }
 {
     let mut at = 0;
     'pieces: loop {
@@ -84,7 +84,7 @@ pub fn unit_end(bytes: &[u8]) -> Result<usize, UnitFault>
 }
 
 /// Whether the text is white space alone.
-pub fn is_blank(text: &[u8]) -> bool
+pub(crate) fn is_blank(text: &[u8]) -> bool
     ensures { result ≡ all_white text.now }
 {
     for byte in text {

@@ -1,4 +1,4 @@
-// The parts of a number in a text.
+//! The parts of a number in a text.
 ghost use Rattle.std.specs.Prelude.{ℕ, List, [], ◌≡◌, ◌==◌, ◌||◌, ◌++◌, true, false, length, IfSome, IfNone};
 ghost use Rattle.psu_lex.specs.Number.{fraction_digits};
 ghost use Rattle.psu_lex.specs.Shown.{ShowsNumber};
@@ -9,7 +9,7 @@ use crate::pieces::{after, begins, front};
 use crate::written::{Power, Written};
 
 /// Splits the text after its longest prefix of bytes of this class.
-pub fn run_of(text: &[u8], class: Class) -> (&[u8], &[u8])
+pub(crate) fn run_of(text: &[u8], class: Class) -> (&[u8], &[u8])
     ensures run { result.0.now ≡ run (belongs class) text.now }
     ensures left { result.1.now ≡ left (belongs class) text.now }
 {
@@ -90,7 +90,7 @@ fn has_digit(whole: &[u8], fraction: &[u8]) -> bool
 
 /// Returns the number that the text is, if it is one.
 #[inline(always)]
-pub fn scan(text: &[u8]) -> Option<Written<'_>>
+pub(crate) fn scan(text: &[u8]) -> Option<Written<'_>>
     ensures some { IfSome result (λ shown. ShowsNumber shown (scanned text.now) × (is_number text.now ≡ true)) }
     ensures none { IfNone result (is_number text.now ≡ false) }
 {

@@ -1,4 +1,4 @@
-// The value of a number, as a whole number.
+//! The value of a number, as a whole number.
 ghost use Rattle.std.specs.Prelude.{ℕ, ◌≡◌, ◌+◌, ◌*◌, ◌^◌, ◌≤◌, ◌<◌, ◌++◌, nat_lt, min, true, length, take, slice_index, if◌then◌else◌, ℤ, pos};
 ghost use Rattle.psu_lex.specs.Bytes.{all_digits, value_after};
 ghost use Rattle.psu_lex.specs.Number.{Number, IsNumber, NumberGives, magnitude, reading_of, valued, without_zeros};
@@ -10,7 +10,7 @@ use crate::pieces::front;
 use crate::written::Written;
 
 /// The magnitude to which a value is clamped.
-const GREATEST: u64 = 1_000_000_000_000_000;
+const MAGNITUDE_MOST: u64 = 1_000_000_000_000_000;
 
 /// Returns a digit of the mantissa, whose digits are counted across the point.
 fn digit_at(whole: &[u8], fraction: &[u8], at: usize) -> u8
@@ -33,7 +33,7 @@ fn held(whole: &[u8], fraction: &[u8], count: usize) -> u64
     let mut value = 0u64;
     for at in 0..count {
         let digit = digit_at(whole, fraction, at) - b'0';
-        value = (10 * value + digit as u64).min(GREATEST);
+        value = (10 * value + digit as u64).min(MAGNITUDE_MOST);
     }
     value
 }
@@ -47,7 +47,7 @@ fn appended(value: u64, digits: &[u8]) -> u64
 {
     let mut value = value;
     for digit in digits {
-        value = (10 * value + (*digit - b'0') as u64).min(GREATEST);
+        value = (10 * value + (*digit - b'0') as u64).min(MAGNITUDE_MOST);
     }
     value
 }
@@ -60,7 +60,7 @@ fn shifted(value: u64, power: usize) -> u64
     let mut value = value;
     for i in 0..power.min(16) {
         let _ = i;
-        value = (10 * value).min(GREATEST);
+        value = (10 * value).min(MAGNITUDE_MOST);
     }
     value
 }
@@ -82,7 +82,7 @@ fn scaled(whole: &[u8], fraction: &[u8], up: usize, down: usize) -> u64
     let kept = total - cut;
     let value = held(whole, fraction, kept);
     if digit_at(whole, fraction, kept) >= b'5' {
-        (value + 1).min(GREATEST)
+        (value + 1).min(MAGNITUDE_MOST)
     } else {
         value
     }
@@ -133,7 +133,7 @@ fn signed(negative: bool, value: u64) -> i64
 
 /// Returns the value of a number that was found in a text, or its fault. The suffix is ignored.
 #[inline(always)]
-pub fn valued(shown: &Written<'_>, places: u8) -> Result<i64, ScpiError>
+pub(crate) fn valued(shown: &Written<'_>, places: u8) -> Result<i64, ScpiError>
     requires { (n : Number) × IsNumber n × ShowsNumber shown.now n }
     ensures { (n : Number) → IsNumber n → ShowsNumber shown.now n → result ≡ valued n places }
 {

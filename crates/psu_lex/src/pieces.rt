@@ -1,4 +1,4 @@
-// The ends of strings and blocks.
+//! The ends of strings and blocks.
 ghost use Rattle.std.specs.Prelude.{ℕ, ◌≡◌, ◌-◌, ◌≤◌, ◌<◌, true, false, length, take, drop, Some, None, IfSome, IfNone};
 ghost use Rattle.psu_lex.specs.Bytes.{all_digits, ends_in_newline, is_closed, is_quote, starts, starts_quoted, value_after};
 ghost use Rattle.psu_lex.specs.Message.{HasNoPiece};
@@ -8,7 +8,7 @@ use crate::class::is_white;
 use memchr::memchr2;
 
 /// Returns the bytes from index `n` onward.
-pub fn after(bytes: &[u8], n: usize) -> &[u8]
+pub(crate) fn after(bytes: &[u8], n: usize) -> &[u8]
     requires { n ≤ length bytes.now }
     ensures { result.now ≡ drop n bytes.now }
 {
@@ -16,7 +16,7 @@ pub fn after(bytes: &[u8], n: usize) -> &[u8]
 }
 
 /// Returns the bytes from one index up to another.
-pub fn between(bytes: &[u8], from: usize, to: usize) -> &[u8]
+pub(crate) fn between(bytes: &[u8], from: usize, to: usize) -> &[u8]
     requires low { from ≤ to }
     requires high { to ≤ length bytes.now }
     ensures { result.now ≡ take (to - from) (drop from bytes.now) }
@@ -25,7 +25,7 @@ pub fn between(bytes: &[u8], from: usize, to: usize) -> &[u8]
 }
 
 /// Returns the first `n` bytes.
-pub fn front(bytes: &[u8], n: usize) -> &[u8]
+pub(crate) fn front(bytes: &[u8], n: usize) -> &[u8]
     requires { n ≤ length bytes.now }
     ensures { result.now ≡ take n bytes.now }
 {
@@ -33,14 +33,14 @@ pub fn front(bytes: &[u8], n: usize) -> &[u8]
 }
 
 /// Whether this byte is the first.
-pub fn begins(bytes: &[u8], byte: u8) -> bool
+pub(crate) fn begins(bytes: &[u8], byte: u8) -> bool
     ensures { result ≡ starts byte bytes.now }
 {
     !bytes.is_empty() && bytes[0] == byte
 }
 
 /// Whether the first byte is a quote.
-pub fn is_quote_byte(bytes: &[u8]) -> bool
+pub(crate) fn is_quote_byte(bytes: &[u8]) -> bool
     ensures { result ≡ starts_quoted bytes.now }
 {
     begins(bytes, b'"') || begins(bytes, b'\'')
@@ -54,7 +54,7 @@ fn is_quote(byte: u8) -> bool
 }
 
 /// Returns the number of bytes that belong to the string, where the text begins after its opening quote.
-pub fn string_end(text: &[u8], quote: u8) -> Option<usize>
+pub(crate) fn string_end(text: &[u8], quote: u8) -> Option<usize>
     requires { is_quote quote ≡ true }
     ensures within { IfSome result (λ n. n ≤ length text.now) }
     ensures some { IfSome result (λ n. after_string false quote text.now ≡ Some (drop n text.now)) }
@@ -118,7 +118,7 @@ fn ends_line(text: &[u8]) -> bool
 }
 
 /// Returns the number of bytes that belong to the block, where the text begins after its `#`.
-pub fn block_end(text: &[u8]) -> Option<usize>
+pub(crate) fn block_end(text: &[u8]) -> Option<usize>
     ensures within { IfSome result (λ n. n ≤ length text.now) }
     ensures some { IfSome result (λ n. after_block text.now ≡ Some (drop n text.now)) }
     ensures none { IfNone result (after_block text.now ≡ None) }
@@ -151,7 +151,7 @@ pub fn block_end(text: &[u8]) -> Option<usize>
 }
 
 /// Returns the length of the string or block at the beginning.
-pub fn whole_end(bytes: &[u8]) -> Option<usize>
+pub(crate) fn whole_end(bytes: &[u8]) -> Option<usize>
     ensures within { IfSome result (λ n. (0 < n) × (n ≤ length bytes.now)) }
     ensures some { IfSome result (λ n. after_piece bytes.now ≡ Some (drop n bytes.now)) }
     ensures none { IfNone result (after_piece bytes.now ≡ None) }
@@ -169,7 +169,7 @@ pub fn whole_end(bytes: &[u8]) -> Option<usize>
 }
 
 /// Returns the length of the string or block at the beginning, if what follows it may follow one in a message.
-pub fn piece_end(bytes: &[u8]) -> Option<usize>
+pub(crate) fn piece_end(bytes: &[u8]) -> Option<usize>
     ensures within { IfSome result (λ n. (0 < n) × (n ≤ length bytes.now)) }
     ensures some { IfSome result (λ n. after_piece bytes.now ≡ Some (drop n bytes.now) × (is_closed (drop n bytes.now) ≡ true)) }
     ensures none { IfNone result (HasNoPiece is_closed bytes.now) }

@@ -1,4 +1,4 @@
-// String data.
+//! String data.
 ghost use Rattle.std.specs.Prelude.{◌≡◌, ◌≤◌, ◌-◌, true, false, length, take, drop, slice_index, IfOk, IfErr};
 ghost use Rattle.psu_lex.specs.Data.{IsStringOf, Refuses};
 ghost use Rattle.psu_lex.specs.Scan.{is_string, quoted, single};

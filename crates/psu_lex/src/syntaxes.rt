@@ -1,4 +1,4 @@
-// The syntax of a unit.
+//! The syntax of a unit.
 ghost use Rattle.std.specs.Prelude.{◌≡◌, Result, IfSome, IfNone};
 ghost use Rattle.psu_lex.specs.Message.{part};
 ghost use Rattle.psu_lex.specs.Syntax.{Syntax as Parts, SyntaxGives, UnitReads};

@@ -1,5 +1,17 @@
-// A unit of a message: its text, its fault, and its parts.
-use crate::{Data, HeaderMark, ScpiError};
+//! A unit of a message: its text, its fault, and its parts.
+
+use crate::{Data, ScpiError};
+
+/// The mark that a header begins with (IEEE 488.2, 7.6; SCPI-1999 volume 1, 6.2).
+#[derive(Clone, Copy, Debug, PartialEq, Eq)]
+pub enum HeaderMark {
+    /// `*`: a common command header, of one node.
+    Star,
+    /// `:`: a header that is resolved from the root of the tree.
+    Colon,
+    /// No mark.
+    Bare,
+}
 
 /// The fault of a unit: the first of its strings and blocks that is not whole.
 #[derive(Clone, Copy, Debug, PartialEq, Eq)]
@@ -38,7 +50,7 @@ pub struct Unit<'a> {
 
 /// The parts of a unit's header (IEEE 488.2, 7.6).
 #[derive(Clone, Copy, Debug, PartialEq, Eq)]
-pub struct Header<'a> {
+pub struct UnitHeader<'a> {
     /// The header as written, with its mark and its `?`.
     pub text: &'a [u8],
     /// The mark that it begins with.
@@ -53,7 +65,7 @@ pub struct Header<'a> {
 #[derive(Clone, Copy, Debug, PartialEq, Eq)]
 pub struct Syntax<'a> {
     /// Its header.
-    pub header: Header<'a>,
+    pub header: UnitHeader<'a>,
     /// Its data, in order.
     pub parameters: Data<'a>,
 }

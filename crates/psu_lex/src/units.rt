@@ -1,7 +1,7 @@
-// The units of a transmission, one after another.
+//! The units of a transmission, one after another.
 ghost use Rattle.std.specs.Prelude.{ℕ, List, [], ◌∷◌, ◌≡◌, ◌++◌, ◌-◌, ◌<◌, ◌==◌, ◌||◌, ◌&&◌, true, length, IfSome, IfNone};
 ghost use Rattle.psu_lex.specs.Bytes.{all_white};
-ghost use Rattle.psu_lex.specs.Message.{EndsIn, Makes, Part, ended, ends_unit, part};
+ghost use Rattle.psu_lex.specs.Message.{EndsIn, MakesUnits, Part, ended, ends_unit, part};
 
 use crate::Unit;
 use crate::message::{is_blank, unit_end};
@@ -50,8 +50,8 @@ impl<'a> Units<'a> {
     // Moves past the separator after a unit, if there is one; `blank` is whether the unit is white space alone.
     fn pass_separator(&mut self, blank: bool)
         requires { ends_unit self.old.text.now ≡ true }
-        ensures makes { (text : List ℕ) (units : List Part) → blank ≡ all_white text → Makes self.new.first [] self.new.text.now units
-            → Makes self.old.first text self.old.text.now (ended self.old.first text ++ units) }
+        ensures makes { (text : List ℕ) (units : List Part) → blank ≡ all_white text → MakesUnits self.new.first [] self.new.text.now units
+            → MakesUnits self.old.first text self.old.text.now (ended self.old.first text ++ units) }
         ensures rest { EndsIn self.old.text.now self.new.text.now }
         ensures length { length self.new.text.now ≡ length self.old.text.now - 1 }
     {
@@ -66,8 +66,8 @@ impl<'a> Units<'a> {
     // Reads the unit at the beginning and its separator. Returns none where the unit is white space alone.
     fn read(&mut self) -> Option<Unit<'a>>
         requires { 0 < length self.old.text.now }
-        ensures some { IfSome result (λ unit. (units : List Part) → Makes self.new.first [] self.new.text.now units → Makes self.old.first [] self.old.text.now (part unit ∷ units)) }
-        ensures none { IfNone result ((units : List Part) → Makes self.new.first [] self.new.text.now units → Makes self.old.first [] self.old.text.now units) }
+        ensures some { IfSome result (λ unit. (units : List Part) → MakesUnits self.new.first [] self.new.text.now units → MakesUnits self.old.first [] self.old.text.now (part unit ∷ units)) }
+        ensures none { IfNone result ((units : List Part) → MakesUnits self.new.first [] self.new.text.now units → MakesUnits self.old.first [] self.old.text.now units) }
         ensures rest { EndsIn self.old.text.now self.new.text.now }
         ensures less { length self.new.text.now < length self.old.text.now }
     {
@@ -100,8 +100,8 @@ impl<'a> Units<'a> {
     /// Reads the next unit; returns none where none is left. A faulty string or block is reported as the fault of its
     /// unit, which extends up to END.
     pub fn next_unit(&mut self) -> Option<Unit<'a>>
-        ensures some { IfSome result (λ unit. (units : List Part) → Makes self.new.first [] self.new.text.now units → Makes self.old.first [] self.old.text.now (part unit ∷ units)) }
-        ensures none { IfNone result (Makes self.old.first [] self.old.text.now []) }
+        ensures some { IfSome result (λ unit. (units : List Part) → MakesUnits self.new.first [] self.new.text.now units → MakesUnits self.old.first [] self.old.text.now (part unit ∷ units)) }
+        ensures none { IfNone result (MakesUnits self.old.first [] self.old.text.now []) }
         ensures rest { EndsIn self.old.text.now self.new.text.now }
         ensures less { IfSome result (λ _. length self.new.text.now < length self.old.text.now) }
     {

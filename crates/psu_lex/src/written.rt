@@ -1,11 +1,11 @@
-// A number as it was found in a text.
+//! A number as it was found in a text.
 use crate::ScpiError;
 use crate::number_scan::scan;
 use crate::numbers::valued;
 
 /// An exponent, which has no digits where there is none.
 #[derive(Clone, Copy, Debug, PartialEq, Eq)]
-pub struct Power<'a> {
+pub(crate) struct Power<'a> {
     /// Whether it has a minus.
     pub(crate) divides: bool,
     /// Its digits.

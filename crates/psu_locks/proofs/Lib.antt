@@ -1,4 +1,4 @@
-mod Requests
+mod WaitingRequests
 mod Looking
 mod Settled
 mod Deadlines

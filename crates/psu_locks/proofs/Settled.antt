@@ -7,13 +7,13 @@ use Rattle.std.specs.Str.{bytes_eq}
 use Rattle.std.proofs.lemmas.List.{get_or-set_other}
 use Rattle.std.proofs.lemmas.Bool.Decides.{nat_tests}
 use Rattle.std.proofs.lemmas.Slice.Eq.{bytes_eq-Decides}
-use Rattle.psu_locks.specs.declared.kind.Kind.{Kind}
-use Rattle.psu_locks.specs.declared.kind.Kind.TheVariants.{Exclusive, Shared}
+use Rattle.psu_locks.specs.declared.requests.Kind.{Kind}
+use Rattle.psu_locks.specs.declared.requests.Kind.TheVariants.{Exclusive, Shared}
 use Rattle.psu_locks.specs.declared.holders.Holders.{Holders}
-use Rattle.psu_locks.specs.declared.request.Request.{Request}
+use Rattle.psu_locks.specs.declared.requests.LockRequest.{LockRequest}
 use Rattle.psu_locks.specs.Locks.{waits, can_grant, with_grant, holders_after, holds_exclusive, kept, is_shared, shares, looked_through, Locks}
 use Rattle.psu_locks.specs.Table.{AreWaiting, IsSettled, NoneCanBeGranted}
-use Rattle.psu_locks.proofs.Requests.{filtered, one_more, or_false, or_both, still}
+use Rattle.psu_locks.proofs.WaitingRequests.{filtered, one_more, or_false, or_both, still}
 
 any_set : (flags : List Bool) (i : ℕ) → list_any (λ flag. flag) flags ≡ true → list_any (λ flag. flag) (slice_set flags i true) ≡ true
 any_set [] i e = absurd cc
@@ -47,14 +47,14 @@ still_none h s t (Shared a) (Shared b) apart first second grant none =
     (λ is c. another h.string b a (passes (is_none h.exclusive || holds_exclusive h t) (is_shared h) (bytes_eq h.string b) grant is) c)
 
 -- the requests of other sessions
-pub none_after : (h : Holders) (rs : List Request) (s : ℕ) (l : Kind) → waits rs s ≡ false → AreWaiting rs → 1 ≤ s → can_grant h s l ≡ true → NoneCanBeGranted h rs → NoneCanBeGranted (with_grant h s l) rs
+pub none_after : (h : Holders) (rs : List LockRequest) (s : ℕ) (l : Kind) → waits rs s ≡ false → AreWaiting rs → 1 ≤ s → can_grant h s l ≡ true → NoneCanBeGranted h rs → NoneCanBeGranted (with_grant h s l) rs
 none_after h [] s l e w least grant none = tt
 none_after h (r ∷ rs) s l e w least grant none =
     let both = or_false (eqb r.session s) (waits rs s) e in
     let apart : eqb s r.session ≡ false = grind (arith, nat_tests, both.0) in
     (still_none h r.session s r.kind l apart w.0 least grant none.0, none_after h rs s l both.1 w.3 least grant none.1)
 
-still_after : (h : Holders) (rs : List Request) (s : ℕ) (k : Kind) → AreWaiting rs → waits rs s ≡ false → 1 ≤ s → can_grant h s k ≡ false → can_grant (holders_after h rs) s k ≡ false
+still_after : (h : Holders) (rs : List LockRequest) (s : ℕ) (k : Kind) → AreWaiting rs → waits rs s ≡ false → 1 ≤ s → can_grant h s k ≡ false → can_grant (holders_after h rs) s k ≡ false
 still_after h [] s k w e least none = none
 still_after h (r ∷ rs) s k w e least none =
     let both = or_false (eqb r.session s) (waits rs s) e in
@@ -67,7 +67,7 @@ still_after h (r ∷ rs) s k w e least none =
     by false is passed given = passed
 
 -- the requests that remain after going through all of them
-pub none_left : (h : Holders) (rs : List Request) → AreWaiting rs → NoneCanBeGranted (holders_after h rs) (kept h rs)
+pub none_left : (h : Holders) (rs : List LockRequest) → AreWaiting rs → NoneCanBeGranted (holders_after h rs) (kept h rs)
 none_left h [] w = tt
 none_left h (r ∷ rs) w =
     by (can_grant h r.session r.kind) refl (none_left h rs w.3) (none_left (with_grant h r.session r.kind) rs w.3)
@@ -78,12 +78,12 @@ none_left h (r ∷ rs) w =
     by false is passed given = (still_after h rs r.session r.kind w.3 w.2 w.0 is, passed)
 
 -- one more request that can't be granted
-pub none_and : (h : Holders) (rs : List Request) (r : Request) → NoneCanBeGranted h rs → can_grant h r.session r.kind ≡ false → NoneCanBeGranted h (rs ++ r ∷ [])
+pub none_and : (h : Holders) (rs : List LockRequest) (r : LockRequest) → NoneCanBeGranted h rs → can_grant h r.session r.kind ≡ false → NoneCanBeGranted h (rs ++ r ∷ [])
 none_and h [] r none last = (last, tt)
 none_and h (q ∷ rs) r none last = (none.0, none_and h rs r none.1 last)
 
 -- some of the requests
-pub none_of : (h : Holders) (p : Request → Bool) (rs : List Request) → NoneCanBeGranted h rs → NoneCanBeGranted h (filter p rs)
+pub none_of : (h : Holders) (p : LockRequest → Bool) (rs : List LockRequest) → NoneCanBeGranted h rs → NoneCanBeGranted h (filter p rs)
 none_of h p [] none = tt
 none_of h p (r ∷ rs) none = by (p r) (none_of h p rs none.1)
   where
@@ -93,16 +93,16 @@ none_of h p (r ∷ rs) none = by (p r) (none_of h p rs none.1)
 
 -- ---- the calls
 
-pub looked : (l : Locks) (h : Holders) (rs : List Request) → AreWaiting rs → IsSettled (looked_through l h rs)
+pub looked : (l : Locks) (h : Holders) (rs : List LockRequest) → AreWaiting rs → IsSettled (looked_through l h rs)
 looked l h rs w = record { one_each = still h rs w; none_left = none_left h rs w }
 
-pub granted_one : (h : Holders) (rs : List Request) (then now s : ℕ) (k : Kind) → IsSettled (record { holders = h; waiting = rs; latest = then }) → waits rs s ≡ false → 1 ≤ s → can_grant h s k ≡ true
+pub granted_one : (h : Holders) (rs : List LockRequest) (then now s : ℕ) (k : Kind) → IsSettled (record { holders = h; waiting = rs; latest = then }) → waits rs s ≡ false → 1 ≤ s → can_grant h s k ≡ true
     → IsSettled (record { holders = with_grant h s k; waiting = rs; latest = now })
 granted_one h rs then now s k was alone least grant = record { one_each = was.one_each; none_left = none_after h rs s k alone was.one_each least grant was.none_left }
 
-pub queued_one : (h : Holders) (rs : List Request) (then now : ℕ) (r : Request) → IsSettled (record { holders = h; waiting = rs; latest = then }) → waits rs r.session ≡ false → 1 ≤ r.session → r.session ≤ 16 → can_grant h r.session r.kind ≡ false
+pub queued_one : (h : Holders) (rs : List LockRequest) (then now : ℕ) (r : LockRequest) → IsSettled (record { holders = h; waiting = rs; latest = then }) → waits rs r.session ≡ false → 1 ≤ r.session → r.session ≤ 16 → can_grant h r.session r.kind ≡ false
     → IsSettled (record { holders = h; waiting = rs ++ r ∷ []; latest = now })
 queued_one h rs then now r was alone least most none = record { one_each = one_more rs r was.one_each alone least most; none_left = none_and h rs r was.none_left none }
 
-pub ticked : (h : Holders) (rs : List Request) (then now : ℕ) (p : Request → Bool) → IsSettled (record { holders = h; waiting = rs; latest = then }) → IsSettled (record { holders = h; waiting = filter p rs; latest = now })
+pub ticked : (h : Holders) (rs : List LockRequest) (then now : ℕ) (p : LockRequest → Bool) → IsSettled (record { holders = h; waiting = rs; latest = then }) → IsSettled (record { holders = h; waiting = filter p rs; latest = now })
 ticked h rs then now p was = record { one_each = filtered p rs was.one_each; none_left = none_of h p rs was.none_left }

@@ -3,22 +3,22 @@
 use Rattle.std.specs.Prelude.{ℕ, ◌+◌, ◌-◌, ◌==◌, ◌&&◌, ◌||◌, not, max, nat_le, Bool, true, false, if◌then◌else◌, Option, Some, None, is_none, is_some, List, [], ◌∷◌, ◌++◌, slice_index_or, slice_set, filter, map, count_by, replicate}
 use Rattle.std.specs.List.{list_any}
 use Rattle.std.specs.Str.{bytes_eq}
-use Rattle.psu_locks.specs.declared.kind.Kind.{Kind}
-use Rattle.psu_locks.specs.declared.kind.Kind.TheVariants.{Exclusive, Shared}
-use Rattle.psu_locks.specs.declared.request.Request.{Request}
-use Rattle.psu_locks.specs.declared.lock_refusal.LockRefusal.{LockRefusal}
-use Rattle.psu_locks.specs.declared.lock_refusal.LockRefusal.TheVariants.{AlreadyHeld, Waiting}
-use Rattle.psu_locks.specs.declared.grant.Grant.{Grant}
-use Rattle.psu_locks.specs.declared.grant.Grant.TheVariants.{Granted, Queued, Failed}
-use Rattle.psu_locks.specs.declared.freed.Freed.{Freed}
-use Rattle.psu_locks.specs.declared.freed.Freed.TheVariants as freed
-use Rattle.psu_locks.specs.declared.info.Info.{Info}
+use Rattle.psu_locks.specs.declared.requests.Kind.{Kind}
+use Rattle.psu_locks.specs.declared.requests.Kind.TheVariants.{Exclusive, Shared}
+use Rattle.psu_locks.specs.declared.requests.LockRequest.{LockRequest}
+use Rattle.psu_locks.specs.declared.results.LockRefusal.{LockRefusal}
+use Rattle.psu_locks.specs.declared.results.LockRefusal.TheVariants.{AlreadyHeld, Waiting}
+use Rattle.psu_locks.specs.declared.results.Grant.{Grant}
+use Rattle.psu_locks.specs.declared.results.Grant.TheVariants.{Granted, Queued, Failed}
+use Rattle.psu_locks.specs.declared.results.Freed.{Freed}
+use Rattle.psu_locks.specs.declared.results.Freed.TheVariants as freed
+use Rattle.psu_locks.specs.declared.results.Info.{Info}
 use Rattle.psu_locks.specs.declared.holders.Holders.{Holders}
 
 -- The holders, the waiting requests in order of arrival, and the latest time passed so far.
 pub record Locks : Type 0 where
   pub holders : Holders
-  pub waiting : List Request
+  pub waiting : List LockRequest
   pub latest : ℕ
 
 -- # Holders
@@ -70,28 +70,28 @@ holds_kind h session (Shared string) = shares h session
 
 -- # Waiting requests
 
-abbrev pub is_of : ℕ → Request → Bool
+abbrev pub is_of : ℕ → LockRequest → Bool
 is_of session request = request.session == session
 
-abbrev pub waits : List Request → ℕ → Bool
+abbrev pub waits : List LockRequest → ℕ → Bool
 waits requests session = list_any (is_of session) requests
 
 -- Each request in order is granted if it can be: the holders after that, the requests that still wait, and the sessions
 -- whose requests were granted.
-abbrev pub holders_after : Holders → List Request → Holders
+abbrev pub holders_after : Holders → List LockRequest → Holders
 holders_after h [] = h
 holders_after h (r ∷ rs) = if can_grant h r.session r.kind then holders_after (with_grant h r.session r.kind) rs else holders_after h rs
 
-abbrev pub kept : Holders → List Request → List Request
+abbrev pub kept : Holders → List LockRequest → List LockRequest
 kept h [] = []
 kept h (r ∷ rs) = if can_grant h r.session r.kind then kept (with_grant h r.session r.kind) rs else r ∷ kept h rs
 
-abbrev pub granted : Holders → List Request → List ℕ
+abbrev pub granted : Holders → List LockRequest → List ℕ
 granted h [] = []
 granted h (r ∷ rs) = if can_grant h r.session r.kind then r.session ∷ granted (with_grant h r.session r.kind) rs else granted h rs
 
 -- the locks with these holders, after going through the waiting requests
-abbrev pub looked_through : Locks → Holders → List Request → Locks
+abbrev pub looked_through : Locks → Holders → List LockRequest → Locks
 looked_through l h requests = record { holders = holders_after h requests; waiting = kept h requests; latest = l.latest }
 
 -- # The calls
@@ -132,13 +132,13 @@ without h session freed.Exclusive = with_exclusive h None
 without h session freed.Shared = with_sharer h session false
 
 -- the request has reached its deadline and fails
-abbrev pub is_expired : ℕ → Request → Bool
+abbrev pub is_expired : ℕ → LockRequest → Bool
 is_expired now request = nat_le request.deadline now
 
-abbrev pub failed_at : ℕ → List Request → List ℕ
+abbrev pub failed_at : ℕ → List LockRequest → List ℕ
 failed_at now requests = map (λ r. r.session) (filter (is_expired now) requests)
 
-abbrev pub still_waiting : ℕ → List Request → List Request
+abbrev pub still_waiting : ℕ → List LockRequest → List LockRequest
 still_waiting now requests = filter (λ r. not (is_expired now r)) requests
 
 -- all locks of a session are released
@@ -146,7 +146,7 @@ abbrev pub without_session : Holders → ℕ → Holders
 without_session h session = with_sharer (if holds_exclusive h session then with_exclusive h None else h) session false
 
 -- the requests of the other sessions
-abbrev pub of_others : ℕ → List Request → List Request
+abbrev pub of_others : ℕ → List LockRequest → List LockRequest
 of_others session requests = filter (λ r. not (is_of session r)) requests
 
 -- the flags of all sessions that hold a lock; the exclusive holder may share too

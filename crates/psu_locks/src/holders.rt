@@ -1,4 +1,4 @@
-// The lock holders, and which locks can be granted.
+//! The lock holders, and which locks can be granted.
 ghost use Rattle.std.specs.Prelude.{◌≡◌};
 ghost use Rattle.psu_locks.specs.Locks.{shares, is_shared, holds_exclusive, may_command, can_grant, with_grant, holds_kind, freed_of, without, without_session, info_of, with_exclusive, with_sharer};
 
@@ -7,7 +7,7 @@ use crate::{Freed, Info, Kind, LockString, Session};
 /// The holder of the exclusive lock, and the sessions that share the string: a flag for each session, in the order of
 /// the session numbers. The string is meaningful only while a session shares it.
 #[derive(Drop)]
-pub struct Holders {
+pub(crate) struct Holders {
     pub exclusive: Option<Session>,
     pub string: LockString,
     pub sharers: [bool; 16],
@@ -15,7 +15,7 @@ pub struct Holders {
 
 impl Holders {
     /// Whether a session shares the string.
-    pub fn shares(&self, session: Session) -> bool
+    pub(crate) fn shares(&self, session: Session) -> bool
         ensures { result ≡ shares self.now session }
     {
         self.sharers[session.place()]
@@ -37,7 +37,7 @@ impl Holders {
     }
 
     /// Whether a session may execute commands.
-    pub fn may_command(&self, session: Session) -> bool
+    pub(crate) fn may_command(&self, session: Session) -> bool
         ensures { result ≡ may_command self.now session }
     {
         if self.exclusive.is_some() {
@@ -48,7 +48,7 @@ impl Holders {
     }
 
     /// Whether a lock can be granted to a session.
-    pub fn can_grant(&self, session: Session, kind: &Kind) -> bool
+    pub(crate) fn can_grant(&self, session: Session, kind: &Kind) -> bool
         ensures { result ≡ can_grant self.now session kind.now }
     {
         match kind {
@@ -63,7 +63,7 @@ impl Holders {
     }
 
     /// Whether a session holds a lock of this kind, under any string.
-    pub fn holds_kind(&self, session: Session, kind: &Kind) -> bool
+    pub(crate) fn holds_kind(&self, session: Session, kind: &Kind) -> bool
         ensures { result ≡ holds_kind self.now session kind.now }
     {
         match kind {
@@ -73,7 +73,7 @@ impl Holders {
     }
 
     /// Grants a lock to a session.
-    pub fn put(&mut self, session: Session, kind: Kind)
+    pub(crate) fn put(&mut self, session: Session, kind: Kind)
         ensures { self.new ≡ with_grant self.old session kind }
     {
         match kind {
@@ -86,7 +86,7 @@ impl Holders {
     }
 
     /// Returns the lock that a release by a session would release, if it holds one.
-    pub fn freed(&self, session: Session) -> Option<Freed>
+    pub(crate) fn freed(&self, session: Session) -> Option<Freed>
         ensures { result ≡ freed_of self.now session }
     {
         if self.holds_exclusive(session) {
@@ -99,7 +99,7 @@ impl Holders {
     }
 
     /// Removes a lock of a session.
-    pub fn remove(&mut self, session: Session, freed: Freed)
+    pub(crate) fn remove(&mut self, session: Session, freed: Freed)
         ensures { self.new ≡ without self.old session freed }
     {
         match freed {
@@ -109,7 +109,7 @@ impl Holders {
     }
 
     /// Removes all locks of a session.
-    pub fn remove_all(&mut self, session: Session)
+    pub(crate) fn remove_all(&mut self, session: Session)
         ensures { self.new ≡ without_session self.old session }
     {
         if self.holds_exclusive(session) {
@@ -119,7 +119,7 @@ impl Holders {
     }
 
     /// Returns the lock information.
-    pub fn info(&self) -> Info
+    pub(crate) fn info(&self) -> Info
         ensures { result ≡ info_of self.now }
     {
         let mut flags = self.sharers;

@@ -1,11 +1,11 @@
-// The lock table: the lock holders, and the waiting requests in order of arrival.
+//! The lock table: the lock holders, and the waiting requests in order of arrival.
 ghost use Rattle.std.specs.Prelude.{◌≡◌, ◌≤◌, max, Some, None, IfOk, IfErr, IfSome, []};
 ghost use Rattle.psu_locks.specs.Locks.{Locks, no_locks, may_command, info_of, request_refusal, grant_of, after_grant, at_moment, waits, holders_after, kept, granted, looked_through, freed_of, without, without_session, of_others, failed_at, still_waiting};
 ghost use Rattle.psu_locks.specs.Table.{CommandsAlone, FailsFirst, IsSettled, next_deadline};
-ghost use Rattle.psu_locks.specs.declared.lock_refusal.LockRefusal.TheVariants.{NotHeld};
+ghost use Rattle.psu_locks.specs.declared.results.LockRefusal.TheVariants.{NotHeld};
 
 use crate::holders::Holders;
-use crate::request::Request;
+use crate::requests::LockRequest;
 use crate::{Freed, Grant, Info, Kind, LockRefusal, LockString, SESSIONS, Session, Sessions};
 use arrayvec::ArrayVec;
 use std::marker::Model;
@@ -15,7 +15,7 @@ use std::marker::Model;
 #[derive(Drop)]
 pub struct LockTable {
     holders: Holders,
-    waiting: ArrayVec<Request, SESSIONS>,
+    waiting: ArrayVec<LockRequest, SESSIONS>,
     latest: u64,
 }
 
@@ -105,7 +105,7 @@ impl LockTable {
             return Ok(Grant::Failed);
         }
         let deadline = self.latest as u128 + timeout as u128;
-        self.waiting.push(Request {
+        self.waiting.push(LockRequest {
             session,
             kind,
             deadline,
@@ -153,7 +153,7 @@ impl LockTable {
     }
 }
 
-fn waits(waiting: &[Request], session: Session) -> bool
+fn waits(waiting: &[LockRequest], session: Session) -> bool
     ensures value { result ≡ waits waiting.now session }
     ensures in_range { (1 ≤ session) × (session ≤ 16) }
 {
@@ -164,14 +164,14 @@ fn waits(waiting: &[Request], session: Session) -> bool
 }
 
 // Returns the least of the deadlines.
-fn next_deadline(waiting: &[Request]) -> Option<u128>
+fn next_deadline(waiting: &[LockRequest]) -> Option<u128>
     ensures { result ≡ next_deadline waiting.now }
 {
     waiting.iter().map(|request| request.deadline).min()
 }
 
 // Removes the request of a session.
-fn keep_others(waiting: &mut ArrayVec<Request, SESSIONS>, session: Session)
+fn keep_others(waiting: &mut ArrayVec<LockRequest, SESSIONS>, session: Session)
     ensures { waiting.new.items ≡ of_others session waiting.old.items }
 {
     waiting.retain(|request| request.session.number() != session.number());
@@ -179,7 +179,7 @@ fn keep_others(waiting: &mut ArrayVec<Request, SESSIONS>, session: Session)
 
 // Goes through the waiting requests in order of arrival, grants each that can be granted, and returns the sessions of
 // those.
-fn look_through(holders: &mut Holders, waiting: &mut ArrayVec<Request, SESSIONS>) -> Sessions
+fn look_through(holders: &mut Holders, waiting: &mut ArrayVec<LockRequest, SESSIONS>) -> Sessions
     ensures holders { holders.new ≡ holders_after holders.old waiting.old.items }
     ensures kept { waiting.new.items ≡ kept holders.old waiting.old.items }
     ensures granted { result ≡ granted holders.old waiting.old.items }
@@ -201,7 +201,7 @@ fn look_through(holders: &mut Holders, waiting: &mut ArrayVec<Request, SESSIONS>
 }
 
 // Removes the requests whose deadlines are reached, and returns their sessions.
-fn fail_at(waiting: &mut ArrayVec<Request, SESSIONS>, now: u128) -> Sessions
+fn fail_at(waiting: &mut ArrayVec<LockRequest, SESSIONS>, now: u128) -> Sessions
     ensures failed { result ≡ failed_at now waiting.old.items }
     ensures kept { waiting.new.items ≡ still_waiting now waiting.old.items }
 {

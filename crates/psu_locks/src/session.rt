@@ -1,10 +1,7 @@
-// Sessions by their numbers.
+//! Sessions by their numbers.
 ghost use Rattle.std.specs.Prelude.{◌≡◌, ◌+◌, ◌-◌, ◌<◌, ◌≤◌, SomeIff};
 
 use std::marker::Model;
-
-/// The maximum number of sessions open at once.
-pub const SESSIONS: usize = 16;
 
 /// A session of the instrument: a number from 1 to 16. A contract sees the number.
 #[derive(Clone, Copy, Debug, PartialEq, Eq)]

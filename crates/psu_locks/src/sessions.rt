@@ -1,4 +1,4 @@
-// Lists of sessions.
+//! Lists of sessions.
 ghost use Rattle.std.specs.Prelude.{◌≡◌, ◌↔◌, IsTrue, ◌<◌, ◌≤◌, [], ◌∷◌, ◌++◌, length};
 
 use crate::{SESSIONS, Session};

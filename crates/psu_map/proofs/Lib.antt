@@ -5,4 +5,4 @@ pub mod Sorted
 pub mod Costs
 pub mod Aiming
 pub mod Keeping
-pub mod Begun
+pub mod FirstTarget

@@ -3,7 +3,7 @@ ghost use Rattle.std.specs.Prelude.{◌≡◌, ◌↔◌, IsTrue, true};
 ghost use Rattle.psu_map.specs.Target.{item_in};
 
 use crate::Pair;
-use crate::keyed::Keyed;
+use crate::search::Keyed;
 use std::alloc::Allocator;
 use std::marker::Model;
 

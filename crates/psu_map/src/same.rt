@@ -5,7 +5,7 @@ use crate::{Items, Pair};
 use std::alloc::Allocator;
 
 /// Whether two maps have the same keys and the same value at each.
-pub fn same<A: Allocator + Copy>(a: &Items<A>, b: &Items<A>) -> bool
+pub(crate) fn same<A: Allocator + Copy>(a: &Items<A>, b: &Items<A>) -> bool
     ensures { IsTrue result ↔ (a.now ≡ b.now) }
 {
     let (a, b) = (a.pairs(), b.pairs());

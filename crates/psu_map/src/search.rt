@@ -1,17 +1,36 @@
 //! Finding a key among elements in order.
 ghost use Rattle.std.specs.Prelude.{◌≡◌, ◌<◌, length, map, IfOk, IfErr, IsTrue, option_map};
+ghost use Rattle.psu_map.specs.Map.{Item, get, IsSorted};
 ghost use Rattle.std.specs.Ordering.{nat_cmp};
 ghost use Rattle.std.specs.Cmp.Lexicographic.{slice_cmp};
-ghost use Rattle.psu_map.specs.Map.{get, IsSorted};
 ghost use Rattle.psu_map.specs.Place.{key_at, IsPlace, IsAt, IsGap};
 
 use crate::Pair;
-use crate::keyed::Keyed;
 use std::alloc::Allocator;
 use std::cmp::Ordering;
 
+/// An element that is looked up by its key.
+pub(crate) trait Keyed {
+    ghost item: { Self → Item };
+
+    /// The bytes of the key.
+    fn its_key(&self) -> &[u8]
+        ensures { result.now ≡ (let i = item self.now in i.key) };
+}
+
+impl<A: Allocator + Copy> Keyed for Pair<A> {
+    ghost item = { λ pair. pair };
+
+    fn its_key(&self) -> &[u8] {
+        self.key()
+    }
+}
+
 /// Returns the value of a key; `None` if no pair has it.
-pub fn value_of<'p, A: Allocator + Copy>(pairs: &'p [Pair<A>], key: &[u8]) -> Option<&'p [u8]>
+pub(crate) fn value_of<'p, A: Allocator + Copy>(
+    pairs: &'p [Pair<A>],
+    key: &[u8],
+) -> Option<&'p [u8]>
     requires { IsSorted pairs.now }
     ensures { option_map (λ v. v.now) result ≡ get pairs.now key.now }
 {
@@ -24,7 +43,7 @@ pub fn value_of<'p, A: Allocator + Copy>(pairs: &'p [Pair<A>], key: &[u8]) -> Op
 /// Returns the value of a key, for keys that are looked up in their order. The key is looked for first at the index
 /// `next`, which is the one after the previous key; `next` then moves past this key.
 #[inline(always)]
-pub fn value_near<'p, A: Allocator + Copy>(
+pub(crate) fn value_near<'p, A: Allocator + Copy>(
     pairs: &'p [Pair<A>],
     next: &mut usize,
     key: &[u8],
@@ -72,7 +91,7 @@ fn is_there<A: Allocator + Copy>(pairs: &[Pair<A>], at: usize, key: &[u8]) -> bo
 }
 
 /// Returns the index of the key among pairs, or the index at which it would be inserted.
-pub fn search<A: Allocator + Copy>(pairs: &[Pair<A>], key: &[u8]) -> Result<usize, usize>
+pub(crate) fn search<A: Allocator + Copy>(pairs: &[Pair<A>], key: &[u8]) -> Result<usize, usize>
     requires { IsSorted pairs.now }
     ensures found { IfOk result (IsAt pairs.now key.now) }
     ensures absent { IfErr result (IsGap pairs.now key.now) }
@@ -82,7 +101,7 @@ pub fn search<A: Allocator + Copy>(pairs: &[Pair<A>], key: &[u8]) -> Result<usiz
 
 /// Returns the index of the key among elements in order, or the index at which it would be inserted.
 #[tactic(auto, using(crate::proofs::Keys::same_by_order, crate::proofs::Keys::other_by_order))]
-pub fn find<T: Keyed>(things: &[T], key: &[u8]) -> Result<usize, usize>
+pub(crate) fn find<T: Keyed>(things: &[T], key: &[u8]) -> Result<usize, usize>
     requires { IsSorted (map T.item things.now) }
     ensures found { IfOk result (IsAt (map T.item things.now) key.now) }
     ensures absent { IfErr result (IsGap (map T.item things.now) key.now) }

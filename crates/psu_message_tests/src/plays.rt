@@ -1,5 +1,5 @@
-// Rows of transmissions, played on a new device: without a break, and with one at each call of its executors.
-use crate::devices::{Power, is_flushed, opened, powered_on};
+//! Rows of transmissions, played on a new device: without a break, and with one at each call of its executors.
+use crate::devices::{Power, is_flushed, new_device, opened};
 use crate::holds::holds;
 use crate::log::{Log, Turn};
 use crate::probe::{Probe, Stopped};
@@ -14,7 +14,7 @@ use std::process::Abort;
 const WAITS: u32 = 16;
 
 // Executes a transmission by one executor, up to a unit that has to wait.
-fn goes(
+fn proceeds(
     alloc: Global,
     exec: &mut Power,
     session: Session,
@@ -26,7 +26,7 @@ fn goes(
 }
 
 // Whether a unit waits for what it is to wait for, and that occurs: a flush has to succeed.
-fn comes(exec: &mut Power, log: &Log, need: Need) -> bool {
+fn occurs(exec: &mut Power, log: &Log, need: Need) -> bool {
     need == log.need && (need != Need::Flush || is_flushed(exec))
 }
 
@@ -41,9 +41,9 @@ fn runs_to_end(
 ) -> bool {
     let mut transmission = Transmission::new(alloc, input, ResponseBuffer::new(alloc));
     for _ in 0..WAITS {
-        match goes(alloc, exec, session, log, &mut transmission) {
+        match proceeds(alloc, exec, session, log, &mut transmission) {
             Ok(None) => return true,
-            Ok(Some(need)) if comes(exec, log, need) => {}
+            Ok(Some(need)) if occurs(exec, log, need) => {}
             _ => return false,
         }
     }
@@ -75,7 +75,7 @@ struct Row<'r> {
 impl<'r> Row<'r> {
     // Executes them on a device of their own, and returns whether all of them are over.
     fn is_played(&self, log: &mut Log) -> Option<bool> {
-        let mut exec = powered_on(self.alloc, self.pages)?;
+        let mut exec = new_device(self.alloc, self.pages)?;
         all_run_to_end(self.alloc, &mut exec, log, self.given)
     }
 
@@ -83,8 +83,8 @@ impl<'r> Row<'r> {
     // are sent.
     fn calls(&self, at: u32, turn: Turn) -> Option<u32> {
         let mut log = Log::new(self.alloc, at, turn);
-        let is_over = self.is_played(&mut log)?;
-        (is_over && log.has_sent(self.wanted.as_slice())).then_some(log.calls)
+        let has_finished = self.is_played(&mut log)?;
+        (has_finished && log.has_sent(self.wanted.as_slice())).then_some(log.calls)
     }
 
     // Whether another executor that continues where one broke off sends the rest, and executes nothing again.
@@ -98,9 +98,9 @@ impl<'r> Row<'r> {
     // Whether no call follows the one at which an executor stops permanently, and the texts that were sent before it
     // are the first ones.
     fn is_cut(&self, at: u32) -> Option<bool> {
-        let mut log = Log::new(self.alloc, at, Turn::Stops);
-        let is_over = self.is_played(&mut log)?;
-        Some(!is_over && log.calls == at && log.has_sent_first(self.wanted.as_slice()))
+        let mut log = Log::new(self.alloc, at, Turn::Ends);
+        let has_finished = self.is_played(&mut log)?;
+        Some(!has_finished && log.calls == at && log.has_sent_first(self.wanted.as_slice()))
     }
 
     // Whether all of this holds where an executor breaks off at this call of that many.
@@ -126,7 +126,7 @@ fn play_row(rt: &impl Abort, row: &Row<'_>) {
 /// Plays rows, each a line: transmissions with ` & ` between them, and the texts that are sent for them. Each text is
 /// followed by `|` where it is the last of its message, and otherwise by `~`. The images of their devices have this
 /// many pages.
-pub fn play(rt: &impl Abort, alloc: Global, pages: u16, rows: &str) {
+pub(crate) fn play(rt: &impl Abort, alloc: Global, pages: u16, rows: &str) {
     for line in rows.lines() {
         if let Some((given, wanted)) = row(line) {
             let wanted = spelled(alloc, wanted).expect(rt, "what is sent");

@@ -1,20 +1,20 @@
-// The executor of the rows.
+//! The executor of the rows.
 use crate::devices::Power;
 use crate::log::{Log, Turn};
 use psu_exec::{Outcome, Request, Session};
-use psu_messages::{Executor, Need, Refused};
+use psu_messages::{Executor, MemoryRefused, Need};
 use std::alloc::Global;
 
 /// The executor has stopped permanently.
 #[derive(Drop)]
-pub struct Stopped;
+pub(crate) struct Stopped;
 
 /// A device with its session, and a log of the calls.
 #[derive(Drop)]
-pub struct Probe<'a> {
-    pub exec: &'a mut Power,
-    pub session: Session,
-    pub log: &'a mut Log,
+pub(crate) struct Probe<'a> {
+    pub(crate) exec: &'a mut Power,
+    pub(crate) session: Session,
+    pub(crate) log: &'a mut Log,
 }
 
 impl<'a> Executor<Global> for Probe<'a> {
@@ -30,7 +30,7 @@ impl<'a> Executor<Global> for Probe<'a> {
     fn execute(&mut self, request: &Request<'_>) -> Result<Outcome<Global>, Stopped> {
         match self.log.turn() {
             Turn::Continues => self.executed(request),
-            Turn::Stops => Err(Stopped),
+            Turn::Ends => Err(Stopped),
             Turn::Held => self.put_off(Need::Lock, Outcome::Held),
             Turn::Later => self.put_off(Need::Room, Outcome::Later),
         }
@@ -39,19 +39,19 @@ impl<'a> Executor<Global> for Probe<'a> {
     fn settle(&mut self) -> Result<Outcome<Global>, Stopped> {
         match self.log.turn() {
             Turn::Continues => self.settled(),
-            Turn::Stops => Err(Stopped),
+            Turn::Ends => Err(Stopped),
             Turn::Held | Turn::Later => self.put_off(Need::Flush, Outcome::Parked),
         }
     }
 
     fn send(&mut self, text: &[u8], is_last: bool) -> Result<(), Stopped> {
-        if self.log.turn() == Turn::Stops {
+        if self.log.turn() == Turn::Ends {
             return Err(Stopped);
         }
         self.log.send(text, is_last).ok_or(Stopped)
     }
 
-    fn out_of_memory(&self, _: Refused) -> Stopped {
+    fn out_of_memory(&self, _: MemoryRefused) -> Stopped {
         Stopped
     }
 }

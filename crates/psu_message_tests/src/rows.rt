@@ -1,4 +1,4 @@
-// Transmissions, and the texts that are sent for them.
+//! Transmissions, and the texts that are sent for them.
 use crate::plays::play;
 
 const UNITS: &str = r#"
@@ -13,7 +13,7 @@ VOLT 3\n;CURR 1\n -> nothing
 nothing -> nothing
 \n -> nothing
  ;; \n ;\n\n -> nothing
-the path goes on in a message, and a common command leaves it
+the path continues in a message, and a common command leaves it
 SOUR2:VOLT 3;CURR 0.5;*TST?;VOLT?;CURR? -> 0;3.000;0.500\n|
 "#;
 
@@ -29,7 +29,7 @@ VOLT 2\n;VOLT?;;\n \n*TST?\n -> 2.000\n|0\n|
 *TST?\nVOLT 1\nVOLT?;*TST?\nCURR 1 -> 0\n|1.000;0\n|
 each begins at the root
 SOUR2:VOLT 3;VOLT?\nCURR 1;VOLT?;CURR? -> 3.000\n|0.000;1.000\n|
-one transmission behind another
+one transmission after another
 VOLT 2;VOLT? & nothing & SOUR2:VOLT?;VOLT 1 & VOLT? -> 2.000\n|0.000\n|2.000\n|
 "#;
 
@@ -62,7 +62,7 @@ VOLT?;*SAV 1;*OPC?;*TST? -> 0.000;1;0\n|
 VOLT?;*SAV 1;*WAI;*TST? -> 0.000;0\n|
 VOLT?;*SAV 1;*WAI\n*OPC? -> 0.000\n|1\n|
 *SAV 1;FOO;*OPC?;*SAV 2;*OPC?;SYST:ERR:COUN? -> 1;1;1\n|
-the path behind them
+the path after them
 SOUR2:VOLT 3;*SAV 1;*OPC?;VOLT? -> 1;3.000\n|
 SOUR2:VOLT 3\n*SAV 1;*OPC?;VOLT? -> 1;0.000\n|
 what an operation that completes sets
@@ -75,7 +75,7 @@ fn units_that_wait(rt: HostRuntime) {
 }
 
 const MACROS: &str = r#"
-read from the root, and then the message goes on at its own path
+read from the root, and then the message continues at its own path
 SOUR2:VOLT 3;*DMC "M",#218VOLT 1;VOLT?;*TST?;*EMC 1;VOLT?;M;VOLT? -> 3.000;1.000;0;3.000\n|
 a path of its own
 *DMC "M",#225SOUR3:VOLT 2;CURR 1;CURR?;*EMC 1;M;SOUR3:VOLT? -> 1.000;2.000\n|

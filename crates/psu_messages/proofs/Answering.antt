@@ -1,10 +1,10 @@
 -- The texts that are sent for a transmission.
 use Rattle.std.proofs.Common.{◌≡◌, ℕ, Bool, true, false, List, [], ◌∷◌, ◌++◌, refl, sym, ap, ◌∙◌, subst, append_assoc}
 use Rattle.std.proofs.lemmas.List.{append-nil}
-use Rattle.psu_tree.specs.declared.unit_request.Request.{Request}
+use Rattle.psu_tree.specs.declared.command.Request.{Request}
 use Rattle.psu_exec.specs.Device.{Reply, Done, Answer, Error, Expand, Parked, Held, Later}
-use Rattle.psu_messages.specs.ResponseBuffer.{Makes, PartsAreTheAnswers, Text, emptied}
-use Rattle.psu_messages.specs.ResponseBuffer.Makes.{Begin, Append, Send}
+use Rattle.psu_messages.specs.ResponseBuffer.{MakesBuffer, PartsAreTheAnswers, Text, emptied}
+use Rattle.psu_messages.specs.ResponseBuffer.MakesBuffer.{Begin, Append, Send}
 use Rattle.psu_messages.specs.Response.{are_some}
 use Rattle.psu_messages.specs.Answers.{AllIsSent, AreAnswered, IsAnswered, Taken, answer_in, answers, ends_text, text_sent}
 use Rattle.psu_messages.specs.Answers.AreAnswered.{None, More}
@@ -48,25 +48,25 @@ record Responding (effects : List Effect) (text : Text) : Type 0 where
   is : effects ≡ whole ++ now
   messages : AreAnswered whole
   unended : ends_text now ≡ false
-  makes : Makes (answers now) (text_sent now) text
+  makes : MakesBuffer (answers now) (text_sent now) text
 
-replied : (given : List (List ℕ)) (sent : List ℕ) (text : Text) (reply : Reply) → Makes given sent text → Makes (given ++ answer_in reply) sent (text_after text reply)
-replied given sent text Done m = subst (λ (z : List (List ℕ)). Makes z sent text) (sym (append-nil given)) m
+replied : (given : List (List ℕ)) (sent : List ℕ) (text : Text) (reply : Reply) → MakesBuffer given sent text → MakesBuffer (given ++ answer_in reply) sent (text_after text reply)
+replied given sent text Done m = subst (λ (z : List (List ℕ)). MakesBuffer z sent text) (sym (append-nil given)) m
 replied given sent text (Answer answer) m = Append m answer
-replied given sent text (Error error) m = subst (λ (z : List (List ℕ)). Makes z sent text) (sym (append-nil given)) m
-replied given sent text (Expand body) m = subst (λ (z : List (List ℕ)). Makes z sent text) (sym (append-nil given)) m
-replied given sent text Parked m = subst (λ (z : List (List ℕ)). Makes z sent text) (sym (append-nil given)) m
-replied given sent text Held m = subst (λ (z : List (List ℕ)). Makes z sent text) (sym (append-nil given)) m
-replied given sent text Later m = subst (λ (z : List (List ℕ)). Makes z sent text) (sym (append-nil given)) m
+replied given sent text (Error error) m = subst (λ (z : List (List ℕ)). MakesBuffer z sent text) (sym (append-nil given)) m
+replied given sent text (Expand body) m = subst (λ (z : List (List ℕ)). MakesBuffer z sent text) (sym (append-nil given)) m
+replied given sent text Parked m = subst (λ (z : List (List ℕ)). MakesBuffer z sent text) (sym (append-nil given)) m
+replied given sent text Held m = subst (λ (z : List (List ℕ)). MakesBuffer z sent text) (sym (append-nil given)) m
+replied given sent text Later m = subst (λ (z : List (List ℕ)). MakesBuffer z sent text) (sym (append-nil given)) m
 
 -- an effect that sends nothing and has this reply
-pub added_by : (now : List Effect) (text : Text) (effect : Effect) (reply : Reply) → answers (effect ∷ []) ≡ answer_in reply → text_sent (effect ∷ []) ≡ [] → Makes (answers now) (text_sent now) text
-    → Makes (answers (now ++ effect ∷ [])) (text_sent (now ++ effect ∷ [])) (text_after text reply)
+pub added_by : (now : List Effect) (text : Text) (effect : Effect) (reply : Reply) → answers (effect ∷ []) ≡ answer_in reply → text_sent (effect ∷ []) ≡ [] → MakesBuffer (answers now) (text_sent now) text
+    → MakesBuffer (answers (now ++ effect ∷ [])) (text_sent (now ++ effect ∷ [])) (text_after text reply)
 added_by now text effect reply gives quiet m =
     let sent : text_sent now ≡ text_sent (now ++ effect ∷ []) = sym (text_append now (effect ∷ []) ∙ ap (λ (l : List ℕ). text_sent now ++ l) quiet ∙ append-nil (text_sent now)) in
     let given : answers now ++ answer_in reply ≡ answers (now ++ effect ∷ []) = sym (answers_append now (effect ∷ []) ∙ ap (λ (l : List (List ℕ)). answers now ++ l) gives) in
-    subst (λ (z : List ℕ). Makes (answers (now ++ effect ∷ [])) z (text_after text reply)) sent
-    (subst (λ (z : List (List ℕ)). Makes z (text_sent now) (text_after text reply)) given (replied (answers now) (text_sent now) text reply m))
+    subst (λ (z : List ℕ). MakesBuffer (answers (now ++ effect ∷ [])) z (text_after text reply)) sent
+    (subst (λ (z : List (List ℕ)). MakesBuffer z (text_sent now) (text_after text reply)) given (replied (answers now) (text_sent now) text reply m))
 
 pub try_gives : (parked : Bool) (request : Request) (effect : Effect) (reply : Reply) → IsTry parked request effect reply → answers (effect ∷ []) ≡ answer_in reply
 try_gives false request (Executed other answer) reply (same, is) = append-nil (answer_in answer) ∙ ap answer_in is
@@ -84,7 +84,7 @@ try_quiet true request (Executed other answer) reply none = absurd none
 try_quiet true request (Settled answer) reply is = (refl, refl)
 try_quiet true request (Sent text last) reply none = absurd none
 
-adds_more : (effects : List Effect) (old new : Text) (effect : Effect) → (t : Responding effects old) → ends_text (effect ∷ []) ≡ false → Makes (answers (t.now ++ effect ∷ [])) (text_sent (t.now ++ effect ∷ [])) new → Responding (effects ++ effect ∷ []) new
+adds_more : (effects : List Effect) (old new : Text) (effect : Effect) → (t : Responding effects old) → ends_text (effect ∷ []) ≡ false → MakesBuffer (answers (t.now ++ effect ∷ [])) (text_sent (t.now ++ effect ∷ [])) new → Responding (effects ++ effect ∷ []) new
 adds_more effects old new effect t still m = record {
   whole = t.whole;
   now = t.now ++ effect ∷ [];
@@ -95,19 +95,19 @@ adds_more effects old new effect t still m = record {
 }
 
 -- a part is sent
-pub parted : (now : List Effect) (text : Text) → Makes (answers now) (text_sent now) text → Makes (answers (now ++ Sent text.rest false ∷ [])) (text_sent (now ++ Sent text.rest false ∷ [])) (emptied text)
+pub parted : (now : List Effect) (text : Text) → MakesBuffer (answers now) (text_sent now) text → MakesBuffer (answers (now ++ Sent text.rest false ∷ [])) (text_sent (now ++ Sent text.rest false ∷ [])) (emptied text)
 parted now text m =
     let given : answers now ≡ answers (now ++ Sent text.rest false ∷ []) = sym (answers_append now (Sent text.rest false ∷ []) ∙ append-nil (answers now)) in
     let sent : text_sent now ++ text.rest ≡ text_sent (now ++ Sent text.rest false ∷ [])
     = sym (text_append now (Sent text.rest false ∷ []) ∙ ap (λ (l : List ℕ). text_sent now ++ l) (append-nil text.rest)) in
-    subst (λ (z : List ℕ). Makes (answers (now ++ Sent text.rest false ∷ [])) z (emptied text)) sent
-    (subst (λ (z : List (List ℕ)). Makes z (text_sent now ++ text.rest) (emptied text)) given (Send m))
+    subst (λ (z : List ℕ). MakesBuffer (answers (now ++ Sent text.rest false ∷ [])) z (emptied text)) sent
+    (subst (λ (z : List (List ℕ)). MakesBuffer z (text_sent now ++ text.rest) (emptied text)) given (Send m))
 
 has_more : (given : List (List ℕ)) (answer : List ℕ) → are_some (given ++ answer ∷ []) ≡ true
 has_more [] answer = refl
 has_more (x ∷ xs) answer = refl
 
-has_answer : (given : List (List ℕ)) (sent : List ℕ) (text : Text) → Makes given sent text → text.answered ≡ true → are_some given ≡ true
+has_answer : (given : List (List ℕ)) (sent : List ℕ) (text : Text) → MakesBuffer given sent text → text.answered ≡ true → are_some given ≡ true
 has_answer given sent text Begin e = absurd (cc (e))
 has_answer given sent text (Append {answers = before} {sent = gone} {text = old} m answer) e = has_more before answer
 has_answer given sent text (Send {answers = all} {sent = before} {text = old} m) e = has_answer all before old m e
@@ -117,14 +117,14 @@ pub record Nothing (given : List (List ℕ)) (sent : List ℕ) (text : Text) : T
   pub unsent : sent ≡ []
   pub empty : text.rest ≡ []
 
-pub no_answer : (given : List (List ℕ)) (sent : List ℕ) (text : Text) → Makes given sent text → text.answered ≡ false → Nothing given sent text
+pub no_answer : (given : List (List ℕ)) (sent : List ℕ) (text : Text) → MakesBuffer given sent text → text.answered ≡ false → Nothing given sent text
 no_answer given sent text Begin e = record { unanswered = refl; unsent = refl; empty = refl }
 no_answer given sent text (Append {answers = before} {sent = gone} {text = old} m answer) e = absurd (cc (e))
 no_answer given sent text (Send {answers = all} {sent = before} {text = old} m) e =
     let n = no_answer all before old m e in record { unanswered = n.unanswered; unsent = ap (λ (l : List ℕ). l ++ old.rest) n.unsent ∙ n.empty; empty = refl }
 
 -- a message ends
-pub answered : PartsAreTheAnswers → (now : List Effect) (text : Text) → ends_text now ≡ false → Makes (answers now) (text_sent now) text → text.answered ≡ true → IsAnswered (now ++ Sent (text.rest ++ 10 ∷ []) true ∷ [])
+pub answered : PartsAreTheAnswers → (now : List Effect) (text : Text) → ends_text now ≡ false → MakesBuffer (answers now) (text_sent now) text → text.answered ≡ true → IsAnswered (now ++ Sent (text.rest ++ 10 ∷ []) true ∷ [])
 answered parts now text still m e = record {
   before = now;
   piece = text.rest ++ 10 ∷ [];

@@ -1,7 +1,7 @@
 -- Effects, one after another.
 use Rattle.std.proofs.Common.{◌≡◌, ℕ, ◌+◌, Bool, false, Option, Some, None, List, [], ◌∷◌, ◌++◌, refl, sym, ap, ◌∙◌, subst, append_assoc, ◌⊎◌, inl, inr, Result, Ok, Err, OnErr, IfErr, IsErrAnd}
 use Rattle.std.proofs.lemmas.List.{append-nil}
-use Rattle.psu_tree.specs.declared.unit_request.Request.{Request}
+use Rattle.psu_tree.specs.declared.command.Request.{Request}
 use Rattle.psu_exec.specs.Device.{Reply, Done, Answer, Error, Expand, Parked, Held, Later}
 use Rattle.psu_messages.specs.ResponseBuffer.{Text}
 use Rattle.psu_messages.specs.Standing.{Standing}

@@ -6,10 +6,10 @@ use Rattle.std.proofs.lemmas.List.{append-nil}
 use Rattle.std.proofs.Math.Bool.{or-true}
 use Rattle.psu_lex.specs.Bytes.{all_white}
 use Rattle.psu_lex.specs.Message.{Part, Token, Byte, Separator, Whole, Faulty, next_first, units_of}
-use Rattle.psu_tree.specs.declared.unit_request.Request.{Request}
+use Rattle.psu_tree.specs.declared.command.Request.{Request}
 use Rattle.psu_exec.specs.Device.{Reply, Done, Answer, Error, Expand, Parked, Held, Later}
-use Rattle.psu_messages.specs.ResponseBuffer.{Makes, PartsAreTheAnswers, Text, nothing}
-use Rattle.psu_messages.specs.ResponseBuffer.Makes.{Begin, Append, Send}
+use Rattle.psu_messages.specs.ResponseBuffer.{MakesBuffer, PartsAreTheAnswers, Text, nothing}
+use Rattle.psu_messages.specs.ResponseBuffer.MakesBuffer.{Begin, Append, Send}
 use Rattle.psu_messages.specs.declared.need.Need.{Need}
 use Rattle.psu_messages.specs.Answers.{IsSilent, answer_in, answers, ends_text, text_sent}
 use Rattle.psu_messages.specs.Effects.{Effect, Executed, Settled, Sent, IsTry, needs}
@@ -121,7 +121,7 @@ answers_acts (Executed request reply ∷ effects) = ap (λ (l : List (List ℕ))
 answers_acts (Settled reply ∷ effects) = ap (λ (l : List (List ℕ)). answer_in reply ++ l) (answers_acts effects)
 answers_acts (Sent text last ∷ effects) = answers_acts effects
 
-unanswered : (given : List (List ℕ)) (sent : List ℕ) (text : Text) → Makes given sent text → given ≡ [] → text.answered ≡ false
+unanswered : (given : List (List ℕ)) (sent : List ℕ) (text : Text) → MakesBuffer given sent text → given ≡ [] → text.answered ≡ false
 unanswered given sent text Begin e = refl
 unanswered given sent text (Append {answers = []} {sent = gone} {text = old} m answer) e = absurd (cc (e))
 unanswered given sent text (Append {answers = one ∷ more} {sent = gone} {text = old} m answer) e = absurd (cc (e))
@@ -133,7 +133,7 @@ not_both e f = let bad = sym e ∙ f in cc
 nothing_buffered : (t : Text) → t.answered ≡ false → t.rest ≡ [] → nothing ≡ t
 nothing_buffered t e f = sym (ap (λ (b : Bool). (let u : Text = record { answered = b; rest = t.rest } in u)) e ∙ ap (λ (l : List ℕ). (let u : Text = record { answered = false; rest = l } in u)) f)
 
-silent : (now : List Effect) (text : Text) → ends_text now ≡ false → Makes (answers now) (text_sent now) text → text.answered ≡ false → IsSilent now
+silent : (now : List Effect) (text : Text) → ends_text now ≡ false → MakesBuffer (answers now) (text_sent now) text → text.answered ≡ false → IsSilent now
 silent now text still m e = let n = no_answer (answers now) (text_sent now) text m e in record { answers = n.unanswered; text = n.unsent; ends = still }
 
 -- ---- the message that has begun
@@ -147,7 +147,7 @@ record Now (source : Source) (effects : List Effect) (c : Progress) : Type 0 whe
   begins : IsBeginning source from
   at : At (IsAskedIn source from) from (acts now) c.standing.units c.standing.parked c.expansion c.standing.inside
   unended : ends_text now ≡ false
-  makes : Makes (answers now) (text_sent now) c.text
+  makes : MakesBuffer (answers now) (text_sent now) c.text
   clean : acts now ≡ [] → now ≡ []
 
 -- no unit of a message has been tried
@@ -171,7 +171,7 @@ continues source effects old new request effect reply n try text at =
       begins = n.begins;
       at = at;
       unended = open_more n.now effect n.unended quiet.1;
-      makes = subst (λ (t : Text). Makes (answers (n.now ++ effect ∷ [])) (text_sent (n.now ++ effect ∷ [])) t) (sym text)
+      makes = subst (λ (t : Text). MakesBuffer (answers (n.now ++ effect ∷ [])) (text_sent (n.now ++ effect ∷ [])) t) (sym text)
           (added_by n.now old.text effect reply (try_gives old.standing.parked request effect reply try) quiet.0 n.makes);
       clean = λ e. absurd (acted n.now old.standing.parked request effect reply try e);
     }
@@ -192,8 +192,8 @@ continues_after one source effects old new request effect reply n try text clear
       begins = λ other first also. same_first one source old.standing.units other request first true also asks;
       at = at;
       unended = quiet.1;
-      makes = subst (λ (t : Text). Makes (answers (effect ∷ [])) (text_sent (effect ∷ [])) t) (sym text)
-          (added_by [] old.text effect reply (try_gives old.standing.parked request effect reply try) quiet.0 (subst (λ (t : Text). Makes [] [] t) (nothing_buffered old.text clear none.empty) Begin));
+      makes = subst (λ (t : Text). MakesBuffer (answers (effect ∷ [])) (text_sent (effect ∷ [])) t) (sym text)
+          (added_by [] old.text effect reply (try_gives old.standing.parked request effect reply try) quiet.0 (subst (λ (t : Text). MakesBuffer [] [] t) (nothing_buffered old.text clear none.empty) Begin));
       clean = λ e. absurd (acted [] old.standing.parked request effect reply try e);
     }
 
@@ -252,7 +252,7 @@ record Closed (source : Source) (from : ℕ) (now : List Effect) (place : ℕ) (
   at : At (IsAskedIn source place) place [] place parked expansion inside
 
 closed : OneList → (source : Source) (from : ℕ) (now : List Effect) (place : ℕ) (parked : Bool) (expansion : Option (List ℕ)) (inside : Option ℕ) (text : Text) → At (IsAskedIn source from) from (acts now) place parked expansion inside
-    → EndsMessage source place inside → Makes (answers now) (text_sent now) text → text.answered ≡ true → Closed source from now place parked expansion inside
+    → EndsMessage source place inside → MakesBuffer (answers now) (text_sent now) text → text.answered ≡ true → Closed source from now place parked expansion inside
 closed one source from now place parked expansion None text o ends makes answered =
     let below = from_place (IsAskedIn source from) from (acts now) place parked expansion None o in
     let later : place ≡ from → ⊥ = λ here.

@@ -3,14 +3,14 @@ use Rattle.std.proofs.Common.{◌≡◌, ℕ, Bool, true, false, if◌then◌els
 use Rattle.std.proofs.lemmas.List.{append-nil}
 use Rattle.std.proofs.Math.Seq.{drop-append_seam, take-append_seam}
 use Rattle.psu_lex.specs.Bytes.{is_closed}
-use Rattle.psu_lex.specs.Message.{EndsIn, IsMessage, Makes, Part, units_of}
+use Rattle.psu_lex.specs.Message.{EndsIn, IsMessage, MakesUnits, Part, units_of}
 use Rattle.psu_lex.proofs.Tokens.{some_tokens}
 use Rattle.psu_lex.proofs.UnitScans.{ends_through, makes_none}
-use Rattle.psu_tree.specs.Reading.{Calls, Moves, Reads}
-use Rattle.psu_tree.specs.declared.unit_request.Request.{Request}
+use Rattle.psu_tree.specs.Reading.{CallsMacro, Moves, Reads}
+use Rattle.psu_tree.specs.declared.command.Request.{Request}
 use Rattle.psu_messages.specs.Places.{IsAt}
-use Rattle.psu_messages.specs.Units.{IsBehind, IsRequest, IsUnit, Leads, path_at}
-use Rattle.psu_messages.specs.Units.Leads.{Behind, Root}
+use Rattle.psu_messages.specs.Units.{IsBehind, IsRequest, IsUnit, LeadsToPath, path_at}
+use Rattle.psu_messages.specs.Units.LeadsToPath.{Behind, Root}
 
 pub first_path : (path from : List (List ℕ)) (p : Part) → p.first ≡ true → from ≡ [] → from ≡ path_at path p
 first_path path from p first e = e ∙ ap (λ (b : Bool). (let l : List (List ℕ) = if b then [] else path in l)) (sym first)
@@ -18,7 +18,7 @@ first_path path from p first e = e ∙ ap (λ (b : Bool). (let l : List (List �
 pub next_path : (path from : List (List ℕ)) (p : Part) → p.first ≡ false → from ≡ path → from ≡ path_at path p
 next_path path from p later e = e ∙ ap (λ (b : Bool). (let l : List (List ℕ) = if b then [] else path in l)) (sym later)
 
-pub read_at : (inside : Bool) (path from next : List (List ℕ)) (p : Part) (request : Request) → from ≡ path_at path p → Reads from p request.reading → Moves from p request.reading next → Calls p request.call
+pub read_at : (inside : Bool) (path from next : List (List ℕ)) (p : Part) (request : Request) → from ≡ path_at path p → Reads from p request.reading → Moves from p request.reading next → CallsMacro p request.call
     → request.inside ≡ inside → IsRequest inside (path_at path p) p request next
 read_at inside path from next p request e reads moves calls place =
     subst (λ (z : List (List ℕ)). IsRequest inside z p request next) e (record { reading = reads; moves = moves; call = calls; place = place })
@@ -32,7 +32,7 @@ at_start inside bytes rest first path e f p =
     (subst (λ (z : Bool). IsAt inside bytes 0 bytes z path) (sym f) (subst (λ (z : List (List ℕ)). IsAt inside bytes 0 bytes true z) (sym p) start))
 
 -- no unit is left where no byte is left
-pub none_left : (first : Bool) (text : List ℕ) → length text ≡ 0 → Makes first [] text []
+pub none_left : (first : Bool) (text : List ℕ) → length text ≡ 0 → MakesUnits first [] text []
 none_left first [] n = ([], refl, refl)
 none_left first (x ∷ xs) n = absurd (omega (arith, n))
 
@@ -53,10 +53,10 @@ module _ {inside : Bool} {bytes : List ℕ} {done : ℕ} {rest : List ℕ} {firs
   most = elim at.count [ inl e ↦ omega (arith, e) | inr n ↦ n.1 ]
 
   -- no unit is left
-  pub behind_at : Makes first [] rest [] → IsBehind bytes done
+  pub behind_at : MakesUnits first [] rest [] → IsBehind bytes done
   behind_at none = (at.before ++ [], at.units [] none, omega (arith, ap length (append-nil at.before), most))
 
-  pub at_end : (count : ℕ) → Makes first [] rest [] → done ≤ count → IsAt inside bytes count [] true path
+  pub at_end : (count : ℕ) → MakesUnits first [] rest [] → done ≤ count → IsAt inside bytes count [] true path
   at_end count none later = record {
     before = at.before;
     count = inr (refl, omega (arith, most, later));
@@ -67,7 +67,7 @@ module _ {inside : Bool} {bytes : List ℕ} {done : ℕ} {rest : List ℕ} {firs
   }
 
   -- one more unit is read
-  module _ (later : List ℕ) (flag : Bool) (part : Part) (makes : (more : List Part) → Makes flag [] later more → Makes first [] rest (part ∷ more)) (ends : EndsIn rest later) (less : length later < length rest)
+  module _ (later : List ℕ) (flag : Bool) (part : Part) (makes : (more : List Part) → MakesUnits flag [] later more → MakesUnits first [] rest (part ∷ more)) (ends : EndsIn rest later) (less : length later < length rest)
       (request : Request) (next : List (List ℕ)) (reads : IsRequest inside (path_at path part) part request next) where
     pub at_next : IsAt inside bytes (done + 1) later flag next
     at_next = record {
@@ -92,6 +92,6 @@ module _ {inside : Bool} {bytes : List ℕ} {done : ℕ} {rest : List ℕ} {firs
           next = next;
           are = at.units (part ∷ more) (makes more (tokens.0, tokens.1, refl));
           here = ap (λ (n : ℕ). drop n (at.before ++ part ∷ more)) there ∙ drop-append_seam at.before (part ∷ more);
-          leads = subst (λ (z : List Part). Leads inside z path) (sym (ap (λ (n : ℕ). take n (at.before ++ part ∷ more)) there ∙ take-append_seam at.before (part ∷ more))) at.leads;
+          leads = subst (λ (z : List Part). LeadsToPath inside z path) (sym (ap (λ (n : ℕ). take n (at.before ++ part ∷ more)) there ∙ take-append_seam at.before (part ∷ more))) at.leads;
           reads = reads;
         }

@@ -1,6 +1,6 @@
 -- The effects of a transmission: tries of its units, and sent pieces of its response messages.
 use Rattle.std.specs.Prelude.{◌≡◌, [], ◌∷◌, ℕ, Bool, true, false, Option, Some, None, List}
-use Rattle.psu_tree.specs.declared.unit_request.Request.{Request}
+use Rattle.psu_tree.specs.declared.command.Request.{Request}
 use Rattle.psu_messages.specs.declared.need.Need.{Need}
 use Rattle.psu_messages.specs.declared.need.Need.TheVariants.{Flush, Lock, Room}
 use Rattle.psu_exec.specs.Device.{Reply, Parked, Held, Later}

@@ -1,7 +1,7 @@
 -- The messages of a transmission, one after another. Source: IEEE 488.2, 8.4: the responses of a message's units are
 -- sent as one text.
 use Rattle.std.specs.Prelude.{◌≡◌, ◌⊎◌, ℕ, ◌<◌, ◌==◌, false, List, [], ◌++◌}
-use Rattle.psu_tree.specs.declared.unit_request.Request.{Request}
+use Rattle.psu_tree.specs.declared.command.Request.{Request}
 use Rattle.psu_messages.specs.ResponseBuffer.{Text}
 use Rattle.psu_messages.specs.Response.{joined}
 use Rattle.psu_messages.specs.Effects.{Effect}

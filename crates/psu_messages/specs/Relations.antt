@@ -1,5 +1,5 @@
 -- What is known of an executor: the relations between its states.
-use Rattle.psu_tree.specs.declared.unit_request.Request.{Request}
+use Rattle.psu_tree.specs.declared.command.Request.{Request}
 use Rattle.std.specs.Prelude.{◌≡◌, ◌⊎◌}
 use Rattle.psu_messages.specs.declared.need.Need.{Need}
 use Rattle.psu_messages.specs.declared.need.Need.TheVariants.{Turn}

@@ -28,15 +28,15 @@ ended text = record { answered = text.answered; rest = text.rest ++ 10 ∷ [] }
 
 -- The states of the response buffer, where responses are appended and parts are sent between them: the responses so
 -- far, the text that was sent, and the buffer after that.
-pub data Makes : List (List ℕ) → List ℕ → Text → Type 0 where
-  Begin : Makes [] [] nothing
-  Append : {answers : List (List ℕ)} {sent : List ℕ} {text : Text} → Makes answers sent text → (answer : List ℕ) → Makes (answers ++ answer ∷ []) sent (appended text answer)
-  Send : {answers : List (List ℕ)} {sent : List ℕ} {text : Text} → Makes answers sent text → Makes answers (sent ++ text.rest) (emptied text)
+pub data MakesBuffer : List (List ℕ) → List ℕ → Text → Type 0 where
+  Begin : MakesBuffer [] [] nothing
+  Append : {answers : List (List ℕ)} {sent : List ℕ} {text : Text} → MakesBuffer answers sent text → (answer : List ℕ) → MakesBuffer (answers ++ answer ∷ []) sent (appended text answer)
+  Send : {answers : List (List ℕ)} {sent : List ℕ} {text : Text} → MakesBuffer answers sent text → MakesBuffer answers (sent ++ text.rest) (emptied text)
 
 -- However parts are sent, what was sent and what is left are the responses, joined.
 abbrev pub PartsAreTheAnswers : Type 0
-PartsAreTheAnswers = (answers : List (List ℕ)) (sent : List ℕ) (text : Text) → Makes answers sent text → sent ++ text.rest ≡ joined answers
+PartsAreTheAnswers = (answers : List (List ℕ)) (sent : List ℕ) (text : Text) → MakesBuffer answers sent text → sent ++ text.rest ≡ joined answers
 
 -- With the end of the message, they are its response message.
 abbrev pub PartsAreTheResponse : Type 0
-PartsAreTheResponse = (answers : List (List ℕ)) (sent : List ℕ) (text : Text) → Makes answers sent text → sent ++ (text.rest ++ end_of text.answered) ≡ response answers
+PartsAreTheResponse = (answers : List (List ℕ)) (sent : List ℕ) (text : Text) → MakesBuffer answers sent text → sent ++ (text.rest ++ end_of text.answered) ≡ response answers

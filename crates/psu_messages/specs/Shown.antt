@@ -1,6 +1,6 @@
 -- The code's values as the definitions name them.
 use Rattle.std.specs.Prelude.{◌≡◌, Bool, false, Option, Some, None, List, ℕ}
-use Rattle.psu_tree.specs.declared.unit_request.Request.{Request}
+use Rattle.psu_tree.specs.declared.command.Request.{Request}
 use Rattle.psu_exec.specs.Shown.{outcome_of}
 use Rattle.psu_messages.specs.Effects.{Effect, needs}
 use Rattle.psu_messages.specs.Executions.{Trial}

@@ -1,7 +1,7 @@
-// A cursor over the units of a text, and the place at which one is kept.
+//! A cursor over the units of a text, and the place at which one is kept.
 ghost use Rattle.std.specs.Prelude.{ℕ, List, [], ◌∷◌, Bool, ◌≡◌, ◌+◌, ◌<◌, ◌≤◌, ◌^◌, length, IfSome, IfNone};
-ghost use Rattle.psu_lex.specs.Message.{EndsIn, Makes, Part, part};
-ghost use Rattle.psu_messages.specs.Places.{IsCursor, IsKept};
+ghost use Rattle.psu_lex.specs.Message.{EndsIn, MakesUnits, Part, part};
+ghost use Rattle.psu_messages.specs.Places.{IsCursor, IsSavedPlace};
 ghost use Rattle.psu_messages.specs.Units.{IsRequest, path_at};
 
 use psu_lex::{Unit, Units};
@@ -24,8 +24,8 @@ pub(crate) struct Cursor<'t> {
 /// Takes the next unit, if one is left. At the end of a text the look at its bytes saves a call.
 #[inline(always)]
 pub(crate) fn take_unit<'t>(units: &mut Units<'t>) -> Option<Unit<'t>>
-    ensures some { IfSome result (λ unit. (more : List Part) → Makes units.new.first [] units.new.text.now more → Makes units.old.first [] units.old.text.now (part unit ∷ more)) }
-    ensures none { IfNone result (Makes units.old.first [] units.old.text.now []) }
+    ensures some { IfSome result (λ unit. (more : List Part) → MakesUnits units.new.first [] units.new.text.now more → MakesUnits units.old.first [] units.old.text.now (part unit ∷ more)) }
+    ensures none { IfNone result (MakesUnits units.old.first [] units.old.text.now []) }
     ensures rest { EndsIn units.old.text.now units.new.text.now }
     ensures less { IfSome result (λ _. length units.new.text.now < length units.old.text.now) }
 {
@@ -51,6 +51,7 @@ impl<'t> Cursor<'t> {
     }
 
     /// Parses the unit that was taken last, and moves the path; the first unit of a message is read from the root.
+    #[inline(always)]
     pub(crate) fn request(&mut self, unit: &Unit<'t>, inside: bool) -> Request<'t>
         requires { self.old.read + 1 < 2 ^ 64 }
         ensures request { IsRequest inside (path_at self.old.path (part unit.now)) (part unit.now) result self.new.path }
@@ -82,12 +83,12 @@ impl<'t> Cursor<'t> {
     }
 
     // Returns the place of the cursor, to be kept without the text; none where memory is refused.
-    fn save<A: Allocator + Copy>(&self, alloc: A) -> Option<Place<A>>
-        ensures place { IfSome result (λ place. (inside : Bool) → IsCursor inside self.now → IsKept inside self.now.text.now place) }
+    fn save<A: Allocator + Copy>(&self, alloc: A) -> Option<SavedPlace<A>>
+        ensures place { IfSome result (λ place. (inside : Bool) → IsCursor inside self.now → IsSavedPlace inside self.now.text.now place) }
         ensures read { IfSome result (λ place. place.read ≡ self.now.read) }
     {
         let path = self.path.save(alloc).ok()?;
-        Some(Place {
+        Some(SavedPlace {
             read: self.read,
             left: self.units.text.len(),
             first: self.units.first,
@@ -101,8 +102,8 @@ impl<'t> Cursor<'t> {
         alloc: A,
         least: u64,
         most: u64,
-    ) -> Option<Place<A>>
-        ensures place { IfSome result (λ place. (inside : Bool) → IsCursor inside self.now → IsKept inside self.now.text.now place) }
+    ) -> Option<SavedPlace<A>>
+        ensures place { IfSome result (λ place. (inside : Bool) → IsCursor inside self.now → IsSavedPlace inside self.now.text.now place) }
         ensures read { IfSome result (λ place. place.read ≤ most) }
     {
         if self.read <= least || most < self.read {
@@ -114,7 +115,7 @@ impl<'t> Cursor<'t> {
 
 /// A place between two units of a text, kept while the text is not read.
 #[derive(Drop)]
-pub(crate) struct Place<A: Allocator + Copy> {
+pub(crate) struct SavedPlace<A: Allocator + Copy> {
     /// How many units are before it.
     pub(crate) read: u64,
     /// How many bytes are after it.
@@ -125,13 +126,13 @@ pub(crate) struct Place<A: Allocator + Copy> {
     pub(crate) path: SavedPath<A>,
 }
 
-impl<A: Allocator + Copy> Place<A> {
+impl<A: Allocator + Copy> SavedPlace<A> {
     /// Returns the place before the first unit of a text of so many bytes.
-    pub(crate) fn start(alloc: A, size: usize) -> Place<A>
-        ensures place { (inside : Bool) (bytes : List ℕ) → length bytes ≡ size → IsKept inside bytes result }
+    pub(crate) fn start(alloc: A, size: usize) -> SavedPlace<A>
+        ensures place { (inside : Bool) (bytes : List ℕ) → length bytes ≡ size → IsSavedPlace inside bytes result }
         ensures read { result.read ≡ 0 }
     {
-        Place {
+        SavedPlace {
             read: 0,
             left: size,
             first: true,
@@ -141,7 +142,7 @@ impl<A: Allocator + Copy> Place<A> {
 
     /// Returns a cursor at this place of its text.
     pub(crate) fn cursor<'t>(&'t self, text: &'t [u8]) -> Cursor<'t>
-        ensures place { (inside : Bool) → IsKept inside text.now self.now → IsCursor inside result }
+        ensures place { (inside : Bool) → IsSavedPlace inside text.now self.now → IsCursor inside result }
         ensures text { result.text.now ≡ text.now }
         ensures read { result.read ≡ self.now.read }
     {
@@ -154,8 +155,8 @@ impl<A: Allocator + Copy> Place<A> {
     }
 
     /// Becomes a later place of the same text, where there is one.
-    pub(crate) fn advance_to(&mut self, later: Option<Place<A>>)
-        ensures place { (inside : Bool) (bytes : List ℕ) → IsKept inside bytes self.old → IfSome later (IsKept inside bytes) → IsKept inside bytes self.new }
+    pub(crate) fn advance_to(&mut self, later: Option<SavedPlace<A>>)
+        ensures place { (inside : Bool) (bytes : List ℕ) → IsSavedPlace inside bytes self.old → IfSome later (IsSavedPlace inside bytes) → IsSavedPlace inside bytes self.new }
         ensures read { (most : ℕ) → self.old.read ≤ most → IfSome later (λ place. place.read ≤ most) → self.new.read ≤ most }
     {
         if let Some(later) = later {

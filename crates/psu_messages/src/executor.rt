@@ -1,10 +1,10 @@
-// The executor of a session's units.
+//! The executor of a session's units.
 ghost use Rattle.std.specs.Prelude.{◌≡◌, false, IfOk, IfErr, OnOk};
 ghost use Rattle.psu_exec.specs.Shown.{outcome_of};
 ghost use Rattle.psu_messages.specs.Effects.{Executed, Settled, Sent};
 ghost use Rattle.psu_messages.specs.Relations.{Relations};
 
-use crate::Refused;
+use crate::MemoryRefused;
 use psu_exec::{Outcome, Request};
 use std::alloc::Allocator;
 
@@ -37,6 +37,6 @@ pub trait Executor<A: Allocator + Copy> {
         ensures stopped { IfErr result (λ stop. relations.stops self.old stop self.new) };
 
     /// The reason why it stops where memory was refused.
-    fn out_of_memory(&self, refused: Refused) -> Self::Stop
+    fn out_of_memory(&self, refused: MemoryRefused) -> Self::Stop
         ensures { relations.stops self.now result self.now };
 }

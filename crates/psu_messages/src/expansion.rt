@@ -1,4 +1,4 @@
-// An expansion in a unit's place.
+//! An expansion in a unit's place.
 
 use psu_lex::Bytes;
 use std::alloc::Allocator;

@@ -1,4 +1,4 @@
-// The units of an expansion, in the place of the unit that it replaces.
+//! The units of an expansion, in the place of the unit that it replaces.
 ghost use Rattle.std.specs.Prelude.{ℕ, IfOk, IfErr, IfSome};
 ghost use Rattle.psu_messages.specs.Relations.{IsAwaited};
 ghost use Rattle.psu_messages.specs.Executions.{Advances, StopsAt};

@@ -1,4 +1,4 @@
-// What is executed.
+//! What is executed.
 ghost use Rattle.std.specs.Prelude.{◌≡◌};
 ghost use Rattle.psu_messages.specs.Units.{size_of, source_of};
 

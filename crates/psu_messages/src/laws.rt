@@ -1,10 +1,10 @@
-// Laws of the execution of a transmission, and of response messages that are sent in parts.
+//! Laws of the execution of a transmission, and of response messages that are sent in parts.
 ghost use Rattle.psu_messages.specs.Answers.{CallsAreOneExecution, OverIsSent};
 ghost use Rattle.psu_messages.specs.Messages.{OverIsMessages, SoFarIsMessages};
 ghost use Rattle.psu_messages.specs.ResponseBuffer.{PartsAreTheAnswers, PartsAreTheResponse};
 ghost use Rattle.psu_messages.specs.Turns.{OverIsDone};
 
-use psu_lex::laws::one_list_of_units;
+use psu_lex::one_list_of_units;
 
 /// However a response message is sent in parts, what was sent and what is buffered are the responses of its units,
 /// joined by `;`.

@@ -1,13 +1,13 @@
-// The execution of a transmission, unit by unit, with a response message for each message that has responses.
+//! The execution of a transmission, unit by unit, with a response message for each message that has responses.
 ghost use Rattle.std.specs.Prelude.{◌≡◌, ℕ, List, is_some, ◌+◌, ◌<◌, ◌≤◌, ◌^◌, true, false, None, IfOk, IfErr, IfSome, OnOk, OnErr};
 ghost use Rattle.psu_messages.specs.Relations.{IsAwaited};
 ghost use Rattle.psu_messages.specs.Executions.{Advances, IsNext, IsOver, NextUnit, StopsAt};
-ghost use Rattle.psu_messages.specs.Places.{IsCursor, IsKept};
+ghost use Rattle.psu_messages.specs.Places.{IsCursor, IsSavedPlace};
 ghost use Rattle.psu_messages.specs.Shown.{progress_of};
 ghost use Rattle.psu_messages.specs.Stepping.{plain, within};
 ghost use Rattle.psu_messages.specs.Units.{Asks, EndsMessage, Fault, Source, Text};
 
-use crate::cursor::{Cursor, Place, take_unit};
+use crate::cursor::{Cursor, SavedPlace, take_unit};
 use crate::expansions::expand;
 use crate::responses::{add_response, close};
 use crate::tries::{Tried, attempt};
@@ -221,16 +221,16 @@ pub(crate) fn execute_rest<A: Allocator + Copy, F: Executor<A>>(
     executor: &mut F,
     alloc: A,
     bytes: &[u8],
-    place: &mut Place<A>,
+    place: &mut SavedPlace<A>,
     progress: &mut Progress<A>,
 ) -> Result<Option<Need>, F::Stop>
-    requires kept { IsKept false bytes.now place.old }
+    requires kept { IsSavedPlace false bytes.now place.old }
     requires done { place.old.read ≤ progress.old.units }
     ensures advances { IfOk result (λ _. Advances F.relations.does (Text bytes.now) executor.old (progress_of progress.old) executor.new (progress_of progress.new)) }
     ensures over { IfOk result (λ need. need ≡ None → IsOver (Text bytes.now) (progress_of progress.new)) }
     ensures waits { IfOk result (λ some. IfSome some (IsAwaited F.relations executor.new)) }
     ensures stops { IfErr result (λ stop. StopsAt F.relations (Text bytes.now) executor.old (progress_of progress.old) stop executor.new progress.new.gathered) }
-    ensures kept { IsKept false bytes.now place.new }
+    ensures kept { IsSavedPlace false bytes.now place.new }
     ensures done { place.new.read ≤ progress.new.units }
 {
     let mut cursor = place.cursor(bytes);

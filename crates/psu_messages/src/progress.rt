@@ -1,4 +1,4 @@
-// The progress of a transmission.
+//! The progress of a transmission.
 ghost use Rattle.std.specs.Prelude.{◌≡◌};
 ghost use Rattle.psu_messages.specs.Executions.{beginning};
 ghost use Rattle.psu_messages.specs.Shown.{progress_of};

@@ -1,12 +1,10 @@
-// The response buffer of a message.
+//! The response buffer of a message.
 ghost use Rattle.std.specs.Prelude.{◌≡◌, ◌<◌, ◌↔◌, ◌++◌, ◌∷◌, length, IsTrue, OnOk, OnErr};
 ghost use Rattle.psu_messages.specs.ResponseBuffer.{Text, emptied, ended, nothing, appended};
 
+use crate::RESPONSE_ROOM;
 use std::alloc::{AllocError, Allocator};
 use std::marker::Model;
-
-/// How many bytes of a response message are buffered before a part of it is sent.
-const ROOM: usize = 65_536;
 
 /// The response buffer: the responses of a message's units that are not sent yet, and whether a unit has responded.
 #[derive(Drop)]
@@ -55,7 +53,7 @@ impl<A: Allocator + Copy> ResponseBuffer<A> {
     pub fn is_long(&self) -> bool
         ensures { IsTrue result ↔ (65536 < length self.now.rest) }
     {
-        ROOM < self.text.len()
+        RESPONSE_ROOM < self.text.len()
     }
 
     /// The text that is buffered and not sent.

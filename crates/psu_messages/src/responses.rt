@@ -1,10 +1,10 @@
-// The responses of units: gathered in the response buffer, and sent.
+//! The responses of units: gathered in the response buffer, and sent.
 ghost use Rattle.std.specs.Prelude.{◌≡◌, true, IfErr, OnOk, OnErr};
 ghost use Rattle.psu_exec.specs.Shown.{outcome_of};
 ghost use Rattle.psu_messages.specs.Executions.{AddsResponse, Closes, IsResponse};
 ghost use Rattle.psu_messages.specs.Stepping.{IsLeft};
 
-use crate::refused::{append_to, end};
+use crate::memory_refused::{append_to, end};
 use crate::{Executor, ResponseBuffer};
 use psu_exec::Outcome;
 use std::alloc::Allocator;

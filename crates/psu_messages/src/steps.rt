@@ -1,4 +1,4 @@
-// A try of a unit of an expansion, and its response.
+//! A try of a unit of an expansion, and its response.
 ghost use Rattle.std.specs.Prelude.{◌≡◌, List, ℕ, IfOk, IfErr, IfSome};
 ghost use Rattle.psu_messages.specs.Executions.{Advances, StopsAt};
 ghost use Rattle.psu_messages.specs.Effects.{Awaits};

@@ -1,10 +1,10 @@
-// A transmission in execution.
+//! A transmission in execution.
 ghost use Rattle.std.specs.Prelude.{◌≡◌, None, IfOk, IfErr, IfSome};
 ghost use Rattle.psu_messages.specs.Relations.{IsAwaited};
 ghost use Rattle.psu_messages.specs.Executions.{Advances, IsOver, StopsAt, beginning};
 ghost use Rattle.psu_messages.specs.Units.{source_of};
 
-use crate::cursor::Place;
+use crate::cursor::SavedPlace;
 use crate::messages::{execute_fault, execute_rest};
 use crate::{Executor, Input, Need, Progress, ResponseBuffer};
 use std::alloc::Allocator;
@@ -16,7 +16,7 @@ use std::marker::Model;
 pub struct Transmission<A: Allocator + Copy> {
     input: Input<A>,
     // A place in its text up to which all units are done.
-    place: Place<A>,
+    place: SavedPlace<A>,
     progress: Progress<A>,
 }
 
@@ -42,7 +42,7 @@ impl<A: Allocator + Copy> Transmission<A> {
         let size = input.size();
         Transmission {
             input,
-            place: Place::start(alloc, size),
+            place: SavedPlace::start(alloc, size),
             progress: Progress::new(buffer),
         }
     }

@@ -7,7 +7,7 @@ use Rattle.psu_map.proofs.Maps.{same_map}
 use Rattle.psu_outputs.specs.declared.output_settings.OutputSettings.{OutputSettings}
 use Rattle.psu_outputs.specs.Settings.{AreSettings, reset, bytes_of, is_reset}
 use Rattle.psu_outputs.proofs.Apart.{same_settings}
-use Rattle.psu_status.specs.declared.enables.Enables.{Enables as EnableRegisters}
+use Rattle.psu_status.specs.declared.groups.Enables.{Enables as EnableRegisters}
 use Rattle.psu_nv.specs.Contents.{Macro, Contents, contents_of, IsContents, IsMacro, enables_items, user_items, macros_items, macro_bytes, recall_items, items_of}
 use Rattle.psu_nv.specs.Commands.{settings_at}
 use Rattle.psu_nv.specs.Parts.{Part, Enables, Register, User, Macros, File, Recall, key_of, part_items, value_in}

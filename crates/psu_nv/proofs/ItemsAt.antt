@@ -4,7 +4,7 @@ use Rattle.std.proofs.lemmas.Bool.Decides.{nat_tests}
 use Rattle.psu_map.specs.Map.{get}
 use Rattle.psu_outputs.specs.Settings.{bytes_of, is_reset}
 use Rattle.psu_outputs.specs.declared.output_settings.OutputSettings.{OutputSettings}
-use Rattle.psu_status.specs.declared.enables.Enables.{Enables as EnableRegisters}
+use Rattle.psu_status.specs.declared.groups.Enables.{Enables as EnableRegisters}
 use Rattle.psu_nv.specs.Commands.{settings_at}
 use Rattle.psu_nv.specs.Contents.{Contents, IsContents, Macro, enables_items, items_of, macros_items, recall_items, user_items}
 use Rattle.psu_nv.specs.Decoding.{is_key, is_nothing, is_number, is_single}

@@ -5,7 +5,7 @@ use Rattle.std.specs.Option.{ForSome}
 use Rattle.std.specs.List.{AllByRecursion}
 use Rattle.psu_map.specs.Map.{Item, item_of, put, without, IsSorted}
 use Rattle.psu_map.proofs.Maps.{sorted-put, sorted-without}
-use Rattle.psu_status.specs.declared.enables.Enables.{Enables}
+use Rattle.psu_status.specs.declared.groups.Enables.{Enables}
 use Rattle.psu_nv.proofs.Items.{all_put, all_without}
 use Rattle.std.specs.Cmp.Lexicographic.{nat_list_eq_equiv}
 use Rattle.psu_lex.specs.Names.{is_label}

@@ -10,12 +10,12 @@ use Rattle.psu_map.proofs.Maps.{same_map}
 use Rattle.psu_outputs.specs.declared.output_settings.OutputSettings.{OutputSettings}
 use Rattle.psu_outputs.specs.Settings.{AreSettings, reset, bytes_of, is_reset}
 use Rattle.psu_lex.specs.Names.{is_name}
-use Rattle.psu_status.specs.declared.enables.Enables.{Enables as EnableRegisters}
+use Rattle.psu_status.specs.declared.groups.Enables.{Enables as EnableRegisters}
 use Rattle.psu_nv.specs.Decoding.{is_between}
 use Rattle.psu_nv.specs.Contents.{Macro, Contents, contents_of, IsContents, IsMacro, IsFile, HasDistinct, enables_items, register_items, registers_items, user_items, macros_items, file_item, recall_items, items_of}
 use Rattle.psu_nv.specs.Commands.{settings_at}
 use Rattle.psu_nv.specs.Parts.{Part, Enables, Register, User, Macros, File, Recall, key_of, part_items, value_in}
-use Rattle.psu_nv.specs.Decoding.{is_nothing, is_number, is_single, is_key, has_keys, IsKept, name_in, files_in, fits_file, fit_files}
+use Rattle.psu_nv.specs.Decoding.{is_nothing, is_number, is_single, is_key, has_keys, RepresentsContents, name_in, files_in, fits_file, fit_files}
 use Rattle.psu_nv.proofs.Finding.{all_at}
 use Rattle.psu_nv.proofs.Parts.{all-append, items_sorted}
 use Rattle.psu_nv.proofs.Gets.{part_found, value_file}
@@ -254,7 +254,7 @@ at_error (Ok x) p = tt
 at_error (Err e) p = p
 
 -- the value of a part of a map's contents is at the part's key
-pub kept_part : (items : List Item) (kept : IsKept items) (part : Part) → value_in (part_items kept.contents part) ≡ get items (key_of part)
+pub kept_part : (items : List Item) (kept : RepresentsContents items) (part : Part) → value_in (part_items kept.contents part) ≡ get items (key_of part)
 kept_part items kept part = sym (part_found kept.contents part) ∙ ap (λ (l : List Item). get l (key_of part)) kept.items_are
 
 pub each_reset : (n : ℕ) → AllByRecursion AreSettings (replicate n reset)
@@ -262,8 +262,8 @@ each_reset zero = tt
 each_reset (suc n) = ((refl, refl), each_reset n)
 
 -- a register of the contents
-pub kept_register : (items : List Item) (kept : IsKept items) (r : ℕ) → r < 100 → AreSettings (settings_at kept.contents.registers r)
+pub kept_register : (items : List Item) (kept : RepresentsContents items) (r : ℕ) → r < 100 → AreSettings (settings_at kept.contents.registers r)
 kept_register items kept r lt = all_at AreSettings kept.contents.registers r reset kept.are.settings (omega (arith, lt, kept.are.count))
 
-pub kept_files : (items : List Item) → IsKept items → fit_files items ≡ true
+pub kept_files : (items : List Item) → RepresentsContents items → fit_files items ≡ true
 kept_files items kept = ap fit_files (sym kept.items_are) ∙ contents_files kept.contents kept.are

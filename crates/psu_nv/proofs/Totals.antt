@@ -102,8 +102,8 @@ cost-without (i ∷ files) name sorted = by_test (bytes_eq i.key name) refl (cos
     by_test false e rest = omega (arith, rest)
 
 -- a file moved to a name that no file has
-pub cost-moved : (files : List Item) (from to value : List ℕ) → IsSorted files → get files from ≡ Some value → get files to ≡ None → cost (without (put files to value) from) ≡ cost files
-cost-moved files from to value sorted found free =
+pub cost-of-move : (files : List Item) (from to value : List ℕ) → IsSorted files → get files from ≡ Some value → get files to ≡ None → cost (without (put files to value) from) ≡ cost files
+cost-of-move files from to value sorted found free =
     let there : get (put files to value) from ≡ Some value = get-put files to value from ∙ ap (λ (o : Option (List ℕ)). cond (bytes_eq to from) (Some value) o) found ∙ either (bytes_eq to from) in
     let put_cost = cost-put files to value sorted in
     let out_cost = cost-without (put files to value) from (sorted-put files to value sorted) in

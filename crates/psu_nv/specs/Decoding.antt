@@ -2,8 +2,8 @@
 use Rattle.std.specs.Prelude.{◌≡◌, ℕ, ◌≤◌, ◌==◌, ◌&&◌, ◌||◌, nat_le, Bool, true, false, if◌then◌else◌, Option, Some, None, List, [], ◌∷◌, ◌++◌, length}
 use Rattle.std.specs.List.{flat_map, list_all, AllByRecursion}
 use Rattle.psu_map.specs.Map.{Item, item_of}
-use Rattle.psu_nv.specs.declared.decode_fault.DecodeFault.{DecodeFault}
-use Rattle.psu_nv.specs.declared.decode_fault.DecodeFault.TheVariants.{BadKey, BadValue, Memory}
+use Rattle.psu_nv.specs.declared.decode.DecodeFault.{DecodeFault}
+use Rattle.psu_nv.specs.declared.decode.DecodeFault.TheVariants.{BadKey, BadValue, Memory}
 use Rattle.psu_lex.specs.Names.{is_name}
 use Rattle.psu_nv.specs.Contents.{Macro, Contents, IsContents, IsMacro, HasDistinct, begins_with_kind, macro_bytes, items_of}
 
@@ -39,7 +39,7 @@ has_keys items = list_all (λ (i : Item). is_key i.key) items
 -- # Faults
 
 -- the map encodes some contents
-pub record IsKept (items : List Item) : Type 0 where
+pub record RepresentsContents (items : List Item) : Type 0 where
   pub contents : Contents
   pub are : IsContents contents
   pub items_are : items_of contents ≡ items
@@ -48,8 +48,8 @@ pub record IsKept (items : List Item) : Type 0 where
 -- allocation can fail only for a map that encodes contents.
 abbrev pub IsFault : List Item → DecodeFault → Type 0
 IsFault items BadKey = has_keys items ≡ false
-IsFault items BadValue = (has_keys items ≡ true) × (IsKept items → ⊥)
-IsFault items Memory = IsKept items
+IsFault items BadValue = (has_keys items ≡ true) × (RepresentsContents items → ⊥)
+IsFault items Memory = RepresentsContents items
 
 -- # Parts
 

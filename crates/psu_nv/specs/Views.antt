@@ -1,8 +1,8 @@
 -- The commands and the types of the code, as data with no borrows.
 use Rattle.std.specs.Prelude.{ℕ, Option, Some, None, if◌then◌else◌, ◌==◌}
 use Rattle.psu_nv.specs.Commands.{Command, ServiceEnable, EventEnable, PowerOnClear, Save, User, DefineMacro, RemoveMacro, PurgeMacros, StoreBytes, Delete, Copy, Move, StoreState, LoadState, StoreMacro, LoadMacro, Recall}
-use Rattle.psu_nv.specs.declared.file_kind.FileKind.{FileKind}
-use Rattle.psu_nv.specs.declared.file_kind.FileKind.TheVariants.{Binary, State, Macro}
+use Rattle.psu_nv.specs.declared.file.FileKind.{FileKind}
+use Rattle.psu_nv.specs.declared.file.FileKind.TheVariants.{Binary, State, Macro}
 use Rattle.psu_nv.specs.declared.command.NvCommand.{NvCommand}
 use Rattle.psu_nv.specs.declared.command.NvCommand.TheVariants as given
 use Rattle.psu_nv.specs.Parts as kept

@@ -1,4 +1,4 @@
-// The cost of contents after a command that its names and labels do not refuse, part by part.
+//! The cost of contents after a command that its names and labels do not refuse, part by part.
 ghost use Rattle.std.specs.Prelude.{◌≡◌, ◌+◌, ◌<◌, ◌≤◌, ◌^◌, None, length, slice_set};
 ghost use Rattle.std.specs.List.{AllByRecursion};
 ghost use Rattle.psu_outputs.specs.Settings.{AreSettings};
@@ -8,9 +8,10 @@ ghost use Rattle.psu_nv.specs.Commands.{refused, apply};
 ghost use Rattle.psu_nv.specs.Costs.{macros_cost, registers_cost};
 ghost use Rattle.psu_nv.specs.Views.{command_of};
 
+use crate::file::state_in;
+use crate::limits::MACROS_MOST;
 use crate::pages::{Pages, enables_pages, user_pages};
 use crate::recall::recall_pages;
-use crate::state::state_in;
 use crate::{Contents, NvCommand, Register};
 use psu_outputs::Settings;
 use std::alloc::Allocator;
@@ -134,7 +135,7 @@ impl<A: Allocator + Copy> Contents<A> {
         requires { refused self.now (command_of command.now) ≡ None }
         ensures { result ≡ fits limit (apply self.now (command_of command.now)) }
     {
-        self.cost_after(command) <= limit as u128 && self.count_after(command) <= 32
+        self.cost_after(command) <= limit as u128 && self.count_after(command) <= MACROS_MOST
     }
 
     /// The cost of the contents in pages: one for each item, and one for each started block of 512 bytes of its value.
@@ -157,6 +158,6 @@ impl<A: Allocator + Copy> Contents<A> {
     pub fn fits(&self, limit: u16) -> bool
         ensures { result ≡ fits limit self.now }
     {
-        self.cost() <= limit as u128 && self.macros.len() <= 32
+        self.cost() <= limit as u128 && self.macros.len() <= MACROS_MOST
     }
 }

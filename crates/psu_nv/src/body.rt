@@ -1,4 +1,4 @@
-// A macro's body.
+//! A macro's body.
 ghost use Rattle.std.specs.Prelude.{◌≡◌, IfOk};
 
 use std::alloc::{AllocError, Allocator};

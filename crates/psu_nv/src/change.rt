@@ -1,4 +1,4 @@
-// Changes of the contents by nonvolatile commands.
+//! Changes of the contents by nonvolatile commands.
 ghost use Rattle.std.specs.Prelude.{◌≡◌, ◌⊎◌, ◌≤◌, Some, None, true, false, length, IfErr, OnOk, OnErr};
 ghost use Rattle.psu_lex.specs.declared.scpi_error.ScpiError.TheVariants.{MediaFull, OutOfMemory};
 ghost use Rattle.psu_nv.specs.Commands.{answer, apply, refused, takes_memory};
@@ -42,6 +42,7 @@ impl<A: Allocator + Copy> Contents<A> {
         }
         match self.make(command) {
             Ok(()) => {
+                // A field is named, so that the proof has the invariant of the contents.
                 let _ = &self.alloc;
                 Ok(())
             }

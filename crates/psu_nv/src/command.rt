@@ -1,4 +1,4 @@
-// The nonvolatile commands.
+//! The nonvolatile commands.
 use crate::{FileBytes, Register, UserData};
 use psu_outputs::Settings;
 use psu_status::Enables;

@@ -1,4 +1,4 @@
-// The nonvolatile contents, as one value.
+//! The nonvolatile contents, as one value.
 ghost use Rattle.std.specs.Prelude.{◌≡◌, ◌≤◌, length, map, IfOk, IfSome, option_map, Option, Some, None};
 ghost use Rattle.psu_map.specs.Map.{get};
 ghost use Rattle.psu_outputs.specs.Settings.{is_reset};

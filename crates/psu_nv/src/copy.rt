@@ -1,4 +1,4 @@
-// Copying contents.
+//! Copying contents.
 ghost use Rattle.std.specs.Prelude.{◌≡◌, IfOk};
 
 use crate::Contents;

@@ -1,14 +1,14 @@
-// Decoding contents from the map that stores them.
+//! Decoding contents from the map that stores them.
 ghost use Rattle.std.specs.Prelude.{◌≡◌, ◌∷◌, [], ◌<◌, ◌≤◌, ◌++◌, List, ℕ, Option, true, length, slice_index_or, slice_set, IfOk, IfErr, IfSome, IfNone, option_map, bit_and};
+ghost use Rattle.psu_nv.specs.declared.decode.DecodeFault.TheVariants.{Memory, BadValue};
 ghost use Rattle.std.specs.Option.{ForSome};
 ghost use Rattle.std.specs.List.{AllByRecursion};
 ghost use Rattle.psu_outputs.specs.declared.output_settings.OutputSettings.{OutputSettings as Each};
 ghost use Rattle.psu_outputs.specs.Settings.{AreSettings, reset};
 ghost use Rattle.psu_map.specs.Map.{get};
-ghost use Rattle.psu_nv.specs.declared.decode_fault.DecodeFault.TheVariants.{BadValue};
 ghost use Rattle.psu_nv.specs.Contents.{Macro, IsContents, contents_of, enables_items, register_items, user_items, macros_items, items_of, IsMacro, HasDistinct};
 ghost use Rattle.psu_nv.specs.Parts.{value_in};
-ghost use Rattle.psu_nv.specs.Decoding.{has_keys, IsKept, IsFault, files_in};
+ghost use Rattle.psu_nv.specs.Decoding.{has_keys, RepresentsContents, IsFault, files_in};
 
 use crate::files::Files;
 use crate::keys::{files_of, fit_files, has_keys};
@@ -16,12 +16,39 @@ use crate::macros::Macros;
 use crate::recall::recall_in;
 use crate::registers::Registers;
 use crate::written::{Written, WrittenMacros, macros_of};
-use crate::{Contents, DecodeFault, Register, UserData};
+use crate::{Contents, Register, UserData};
 use arrayvec::ArrayVec;
 use psu_map::Items;
 use psu_outputs::Settings;
 use psu_status::Enables;
-use std::alloc::{AllocError, Allocator};
+use std::alloc::{AllocError, AllocFailed, Allocator};
+
+/// Why a map is not decoded: it encodes no contents, or an allocation failed.
+#[derive(Clone, Copy, Debug, PartialEq, Eq, Drop)]
+pub enum DecodeFault {
+    /// A key that no contents have.
+    BadKey,
+    /// The keys are valid, but no contents have these values.
+    BadValue,
+    /// An allocation failed.
+    Memory,
+}
+
+impl From<AllocError> for DecodeFault {
+    ghost from_gives = { λ _ fault. fault ≡ Memory };
+
+    fn from(_: AllocError) -> Self {
+        DecodeFault::Memory
+    }
+}
+
+impl<T: Drop> From<AllocFailed<T>> for DecodeFault {
+    ghost from_gives = { λ _ fault. fault ≡ Memory };
+
+    fn from(_: AllocFailed<T>) -> Self {
+        DecodeFault::Memory
+    }
+}
 
 // All parts but the files, as a map encodes them. They are read before anything is allocated.
 #[derive(Drop)]
@@ -55,7 +82,7 @@ fn parts_of<A: Allocator + Copy>(items: &Items<A>) -> Result<Read<'_>, DecodeFau
     ensures are { IfOk result (λ r. IsContents (contents_of r.registers r.user r.macros.items r.enables (files_in items.now) r.recall)) }
     ensures items { IfOk result (λ r. items_of (contents_of r.registers r.user r.macros.items r.enables (files_in items.now) r.recall) ≡ items.now) }
     ensures bad { IfErr result (λ e. e ≡ BadValue) }
-    ensures none { IfErr result (λ e. IsKept items.now → ⊥) }
+    ensures none { IfErr result (λ e. RepresentsContents items.now → ⊥) }
 {
     let enables = enables_in(items.get(&[1]))?;
     let registers = registers_in(items)?;
@@ -135,7 +162,7 @@ fn registers_in<A: Allocator + Copy>(items: &Items<A>) -> Result<Registers, Deco
     ensures are { IfOk result (λ registers. AllByRecursion AreSettings registers) }
     ensures found { IfOk result (λ registers. (r : ℕ) → r < 100 → value_in (register_items r (slice_index_or registers r reset)) ≡ get items.now (2 ∷ r ∷ [])) }
     ensures bad { IfErr result (λ e. e ≡ BadValue) }
-    ensures none { IfErr result (λ e. IsKept items.now → ⊥) }
+    ensures none { IfErr result (λ e. RepresentsContents items.now → ⊥) }
 {
     let mut registers = Registers::reset();
     for number in 0..100 {

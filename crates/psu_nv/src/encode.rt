@@ -1,4 +1,4 @@
-// Encoding contents as the map that stores them.
+//! Encoding contents as the map that stores them.
 ghost use Rattle.std.specs.Prelude.{◌≡◌, ℕ, ◌++◌, ◌∷◌, [], map, IfOk, OnOk, OnErr, option_map};
 ghost use Rattle.std.specs.List.{AllByRecursion};
 ghost use Rattle.psu_map.specs.Map.{Item, Before};
@@ -33,6 +33,7 @@ impl<A: Allocator + Copy> Contents<A> {
         requires { items.old ≡ enables_items self.now.enables }
         ensures { OnOk result (items.new ≡ enables_items self.now.enables ++ registers_items 0 self.now.registers) }
     {
+        // A field is named, so that the proof has the invariant of the contents.
         let _ = &self.alloc;
         for number in 0..100 {
             if let Some(register) = Register::of(number) {

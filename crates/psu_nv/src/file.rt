@@ -1,9 +1,66 @@
-// A file as it is read.
-use crate::FileKind;
+//! Files as they are read and stored: their types, and settings in them.
+ghost use Rattle.std.specs.Prelude.{◌≡◌, Some, None, if◌then◌else◌};
+ghost use Rattle.psu_nv.specs.Views.{code_of, kind_of};
+ghost use Rattle.psu_nv.specs.Commands.{is_state, settings_in};
+
+use psu_outputs::Settings;
 
 /// A file: its type, and its bytes.
 #[derive(Clone, Copy)]
 pub struct File<'a> {
     pub kind: FileKind,
     pub bytes: &'a [u8],
+}
+
+/// The type of a file: how it was made.
+#[derive(Clone, Copy, Debug, PartialEq, Eq)]
+pub enum FileKind {
+    /// BIN, made by `MMEMory:DATA`.
+    Binary,
+    /// STAT, the settings of a register.
+    State,
+    /// MACR, the body of a macro.
+    Macro,
+}
+
+impl FileKind {
+    /// The byte that encodes the type in an item.
+    pub fn code(self) -> u8
+        ensures { result ≡ code_of self }
+    {
+        match self {
+            FileKind::Binary => 0,
+            FileKind::State => 1,
+            FileKind::Macro => 2,
+        }
+    }
+
+    /// The type that a byte encodes.
+    pub fn of_code(code: u8) -> Option<FileKind>
+        ensures { result ≡ kind_of code }
+    {
+        match code {
+            0 => Some(FileKind::Binary),
+            1 => Some(FileKind::State),
+            2 => Some(FileKind::Macro),
+            _ => None,
+        }
+    }
+}
+
+// Whether the bytes encode settings.
+pub(crate) fn is_state(bytes: &[u8]) -> bool
+    ensures { result ≡ is_state bytes.now }
+{
+    state_in(bytes).is_some()
+}
+
+// The settings that the bytes of a file encode; `None` if they encode none.
+pub(crate) fn state_in(bytes: &[u8]) -> Option<Settings>
+    ensures { result ≡ (if is_state bytes.now then Some (settings_in bytes.now) else None) }
+{
+    match Settings::of_bytes(bytes) {
+        Some(settings) => Some(settings),
+        None => None,
+    }
 }

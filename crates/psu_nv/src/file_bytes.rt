@@ -1,8 +1,8 @@
-// The bytes that a file may hold.
+//! The bytes of a file that is stored. They are apart from the types of files, whose definitions name commands with such
+//! bytes.
 ghost use Rattle.std.specs.Prelude.{◌≡◌, ◌<◌, ◌≤◌, length, IfSome, IfNone};
 
-/// The most bytes of a file.
-pub const FILE_MOST: usize = 32_768;
+use psu_lex::FILE_MOST;
 
 /// At most 32,768 bytes, as a file may hold.
 #[derive(Clone, Copy)]

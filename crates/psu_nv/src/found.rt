@@ -1,10 +1,10 @@
-// Lookups by names and labels.
+//! Lookups by names and labels.
 ghost use Rattle.std.specs.Prelude.{◌≡◌, ◌≤◌, length, true};
 ghost use Rattle.psu_nv.specs.Contents.{has_label, begins_with_kind};
 ghost use Rattle.psu_nv.specs.Commands.{body_of, has_file, bytes_in, value_of, is_state, settings_in};
 
 use crate::Contents;
-use crate::state::state_in;
+use crate::file::state_in;
 use psu_outputs::Settings;
 use std::alloc::Allocator;
 
@@ -21,6 +21,7 @@ impl<A: Allocator + Copy> Contents<A> {
         ensures value { result.now ≡ body_of self.now.macros label.now }
         ensures most { length result.now ≤ 1024 }
     {
+        // A field is named, so that the proof has the invariant of the contents.
         let _ = &self.alloc;
         match self.body(label) {
             Some(body) => body,

@@ -1,4 +1,4 @@
-// Which keys the map of contents has, without encoding it.
+//! Which keys the map of contents has, without encoding it.
 ghost use Rattle.std.specs.Prelude.{◌≡◌, ◌≢◌, ◌∷◌, [], is_some};
 ghost use Rattle.psu_map.specs.Map.{get};
 ghost use Rattle.psu_nv.specs.Contents.{IsContents, items_of};

@@ -1,10 +1,10 @@
-// The keys of the map, and the files at their keys.
+//! The keys of the map, and the files at their keys.
 ghost use Rattle.std.specs.Prelude.{◌≡◌, IfOk, option_map};
 ghost use Rattle.psu_map.specs.Map.{IsSorted};
 ghost use Rattle.psu_nv.specs.Contents.{begins_with_kind};
 ghost use Rattle.psu_nv.specs.Decoding.{is_number, is_single, is_key, has_keys, name_in, files_in, fits_file, fit_files};
 
-use crate::file_kind::FileKind;
+use crate::file::FileKind;
 use psu_lex::is_name;
 use psu_map::{Items, Pair};
 use std::alloc::{AllocError, Allocator};

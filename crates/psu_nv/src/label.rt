@@ -1,4 +1,4 @@
-// A macro's label.
+//! A macro's label.
 ghost use Rattle.std.specs.Prelude.{◌≡◌, ◌≤◌, ◌<◌, length, fold, nat_eq, IfSome, IfNone};
 ghost use Rattle.std.specs.Hash as fed;
 ghost use Rattle.std.specs.Cmp.Rules.{comparing, hashing};
@@ -8,6 +8,7 @@ ghost use Rattle.std.proofs.Common.{rules};
 ghost use Rattle.psu_nv.specs.Labels.{lowercase, same_label};
 
 use arrayvec::ArrayVec;
+use psu_lex::LABEL_MOST;
 use std::hash::{Hash, Hasher};
 use std::marker::Model;
 
@@ -15,7 +16,7 @@ use std::marker::Model;
 /// bytes, at most 12.
 #[derive(Drop)]
 pub struct Label {
-    bytes: ArrayVec<u8, 12>,
+    bytes: ArrayVec<u8, LABEL_MOST>,
 }
 
 impl Model for Label {
@@ -42,7 +43,7 @@ impl Label {
         ensures found { IfSome result (λ label. label ≡ bytes.now) }
         ensures none { IfNone result (12 < length bytes.now) }
     {
-        if bytes.len() > 12 {
+        if bytes.len() > LABEL_MOST {
             return None;
         }
         Some(Label::new(bytes))

@@ -1,4 +1,4 @@
-// Laws over the definitions, which no code needs to run.
+//! Laws over the definitions, which no code needs to run.
 ghost use Rattle.std.specs.Prelude.{◌≡◌, true, List, map};
 ghost use Rattle.psu_map.specs.Map.{get, IsSorted};
 ghost use Rattle.psu_map.specs.Batch.{changed};

@@ -1,4 +1,4 @@
-// Macros in order of definition, found by their labels.
+//! Macros in order of definition, found by their labels.
 ghost use Rattle.std.specs.Prelude.{◌≡◌, ◌<◌, ◌≤◌, ◌^◌, ◌==◌, ◌++◌, ◌∷◌, [], false, map, length, IfOk, OnOk, OnErr, option_map};
 ghost use Rattle.std.specs.List.{flat_map, AllByRecursion};
 ghost use Rattle.psu_nv.specs.Contents.{IsMacro, body_at, has_label, macro_bytes};

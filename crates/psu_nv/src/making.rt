@@ -1,4 +1,4 @@
-// Changes of the parts of contents. Each one that allocates does so before it changes anything.
+//! Changes of the parts of contents. Each one that allocates does so before it changes anything.
 ghost use Rattle.std.specs.Prelude.{◌≡◌, ◌<◌, ◌≤◌, ◌++◌, ◌∷◌, [], length, slice_set, true, false, OnOk, OnErr, IfOk, bit_and};
 ghost use Rattle.std.specs.Option.{ForSome};
 ghost use Rattle.psu_map.specs.Map.{put, without};

@@ -1,4 +1,4 @@
-// The pages that the parts of contents cost.
+//! The pages that the parts of contents cost.
 ghost use Rattle.std.specs.Prelude.{◌≡◌, ◌+◌, ◌^◌, ◌<◌, ◌≤◌, length};
 ghost use Rattle.psu_map.specs.Map.{cost};
 ghost use Rattle.psu_nv.specs.Contents.{enables_items, user_items};

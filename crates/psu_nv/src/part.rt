@@ -1,4 +1,4 @@
-// The parts of contents, each stored under a key of its own.
+//! The parts of contents, each stored under a key of its own.
 ghost use Rattle.std.specs.Prelude.{◌≡◌, ◌∷◌, [], true, false, IfOk, IfSome, IfNone};
 ghost use Rattle.psu_nv.specs.Decoding.{is_key, is_number, is_single};
 ghost use Rattle.psu_nv.specs.Parts.{key_of};

@@ -1,7 +1,7 @@
-// Whether the settings at power-on are those of register 0.
+//! Whether the settings at power-on are those of register 0.
 ghost use Rattle.std.specs.Prelude.{◌≡◌, ◌≤◌, Bool, IfOk, IfErr, option_map};
 ghost use Rattle.psu_map.specs.Map.{cost};
-ghost use Rattle.psu_nv.specs.declared.decode_fault.DecodeFault.TheVariants.{BadValue};
+ghost use Rattle.psu_nv.specs.declared.decode.DecodeFault.TheVariants.{BadValue};
 ghost use Rattle.psu_nv.specs.Contents.{recall_items};
 ghost use Rattle.psu_nv.specs.Commands.{apply};
 ghost use Rattle.psu_nv.specs.Parts.{value_in};

@@ -1,11 +1,12 @@
-// The refusals of a nonvolatile command by its names and labels, before its result is computed.
+//! The refusals of a nonvolatile command by its names and labels, before its result is computed.
 ghost use Rattle.std.specs.Prelude.{◌≡◌, ℕ, ◌∷◌, [], not};
 ghost use Rattle.psu_lex.specs.declared.scpi_error.ScpiError.TheVariants.{FileNameError};
 ghost use Rattle.psu_lex.specs.Names.{is_name};
 ghost use Rattle.psu_nv.specs.Commands.{DefineMacro, RemoveMacro, Delete, Copy, LoadState, StoreMacro, LoadMacro, first_of, refused};
 ghost use Rattle.psu_nv.specs.Views.{command_of};
 
-use crate::state::is_state;
+use crate::file::is_state;
+use crate::limits::BODY_MOST;
 use crate::{Contents, NvCommand};
 use psu_lex::{ScpiError, is_label, is_name};
 use std::alloc::Allocator;
@@ -53,7 +54,7 @@ impl<A: Allocator + Copy> Contents<A> {
         if !is_label(label) {
             return Some(ScpiError::IllegalMacroLabel);
         }
-        if body.len() > 1024 {
+        if body.len() > BODY_MOST {
             return Some(ScpiError::MacroDefinitionTooLong);
         }
         if self.has_label(label) {
@@ -140,7 +141,7 @@ impl<A: Allocator + Copy> Contents<A> {
         if self.has_label(label) {
             return Some(ScpiError::MacroRedefinitionNotAllowed);
         }
-        if self.bytes_of(name).len() > 1024 {
+        if self.bytes_of(name).len() > BODY_MOST {
             return Some(ScpiError::MassStorageError);
         }
         None

@@ -1,4 +1,4 @@
-// The registers by number.
+//! The registers by number.
 ghost use Rattle.std.specs.Prelude.{◌≡◌, ◌<◌, ◌≤◌, IfSome, IfNone};
 
 /// One of the hundred registers of settings, 0 to 99.

@@ -1,4 +1,4 @@
-// The registers of contents.
+//! The registers of contents.
 ghost use Rattle.std.specs.Prelude.{◌≡◌, ◌≤◌, replicate, slice_set, if◌then◌else◌};
 ghost use Rattle.psu_outputs.specs.Settings.{reset, is_reset};
 ghost use Rattle.psu_nv.specs.Commands.{settings_at};

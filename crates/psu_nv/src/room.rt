@@ -1,4 +1,4 @@
-// The cost of contents after a command, without making the change.
+//! The cost of contents after a command, without making the change.
 ghost use Rattle.std.specs.Prelude.{◌≡◌, ◌+◌, ◌-◌, ◌<◌, ◌≤◌, ◌^◌, List, ℕ, ◌++◌, ◌∷◌, [], length, None, true};
 ghost use Rattle.psu_map.specs.Map.{get, put, without, cost};
 ghost use Rattle.psu_nv.specs.Contents.{has_label, Macro};
@@ -25,11 +25,13 @@ impl<A: Allocator + Copy> Contents<A> {
         ensures value { result ≡ cost (put self.now.files name.now (1 ∷ bytes_of (settings_at self.now.registers register.number))) }
         ensures most { result < 2 ^ 125 }
     {
+        // A field is named, so that the proof has the invariant of the contents.
         let _ = &self.alloc;
         self.files_with(name, 29)
     }
 
-    // The pages of the files after one moves to a name that no file has.
+    // The pages of the files after one moves to a name that no file has: as many as before, whatever the names, which only
+    // the contract reads.
     pub(crate) fn files_moved(&self, from: &[u8], to: &[u8]) -> u128
         requires { refused self.now (Move from.now to.now) ≡ None }
         ensures value { result ≡ cost (without (put self.now.files to.now (value_of self.now.files from.now)) from.now) }

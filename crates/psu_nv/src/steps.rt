@@ -1,4 +1,4 @@
-// The changes that read another part of the contents, or allocate.
+//! The changes that read another part of the contents, or allocate.
 ghost use Rattle.std.specs.Prelude.{◌≡◌, ◌<◌, ◌≤◌, None, length, OnOk, OnErr};
 ghost use Rattle.psu_nv.specs.Commands.{DefineMacro, StoreBytes, Copy, Move, StoreState, LoadState, StoreMacro, LoadMacro, apply, refused};
 

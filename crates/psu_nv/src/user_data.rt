@@ -1,16 +1,14 @@
-// User data.
+//! User data.
 ghost use Rattle.std.specs.Prelude.{◌≡◌, ◌<◌, ◌≤◌, [], length, IfSome, IfNone};
 
 use arrayvec::ArrayVec;
+use psu_lex::USER_DATA_MOST;
 use std::marker::Model;
-
-/// The most bytes of user data.
-pub const USER_MOST: usize = 63;
 
 /// User data of 0 to 63 bytes (`*PUD`). Contracts see its bytes.
 #[derive(Drop)]
 pub struct UserData {
-    bytes: ArrayVec<u8, USER_MOST>,
+    bytes: ArrayVec<u8, USER_DATA_MOST>,
 }
 
 impl Model for UserData {

@@ -1,4 +1,4 @@
-// Macros borrowed from the bytes of their item.
+//! Macros borrowed from the bytes of their item.
 ghost use Rattle.std.specs.Prelude.{◌≡◌, ◌<◌, ◌≤◌, ◌++◌, ◌∷◌, [], List, ℕ, true, false, length, IfSome, IfNone, OnOk};
 ghost use Rattle.std.specs.Int.{w16, to_be_bytes};
 ghost use Rattle.psu_nv.specs.Contents.{Macro, IsMacro, macro_bytes, has_label};
@@ -7,14 +7,12 @@ ghost use Rattle.psu_nv.specs.Decoding.{AreMacros};
 use crate::Label;
 use crate::body::Body;
 use crate::label::same_label;
+use crate::limits::{BODY_MOST, MACROS_MOST};
 use crate::macros::Macros;
 use arrayvec::ArrayVec;
 use psu_lex::is_label;
 use std::alloc::{AllocError, Allocator};
 use std::marker::Model;
-
-/// The most macros of contents.
-pub(crate) const MACROS_MOST: usize = 32;
 
 /// A macro's label and body, borrowed from the bytes of an item. Contracts see a `Macro` of `specs/`.
 #[derive(Default, Drop)]
@@ -54,7 +52,7 @@ impl<'a> Written<'a> {
         ensures found { result ≡ true → IsMacro self.now }
         ensures none { result ≡ false → IsMacro self.now → ⊥ }
     {
-        is_label(self.label) && self.body.len() <= 1024
+        is_label(self.label) && self.body.len() <= BODY_MOST
     }
 }
 

@@ -1,4 +1,4 @@
-// Contents: the items that they are kept as, their cost, and which changes are refused.
+//! Contents: the items that they are kept as, their cost, and which changes are refused.
 use crate::holds::holds;
 use psu_lex::ScpiError;
 use psu_map::{Batch, Items};
@@ -156,7 +156,7 @@ fn change(contents: &mut Contents<Global>, what: &str, count: u32) -> Option<Ans
 }
 
 // Whether the result of a change is the one of its row.
-fn comes_to(contents: &mut Contents<Global>, line: &str) -> Option<bool> {
+fn results_in(contents: &mut Contents<Global>, line: &str) -> Option<bool> {
     let (changed, wanted) = row(line)?;
     let (what, count) = changed.rsplit_once(" ")?;
     let answer = change(contents, what, count.parse().ok()?)?;
@@ -166,8 +166,8 @@ fn comes_to(contents: &mut Contents<Global>, line: &str) -> Option<bool> {
 // Makes the changes of a table one after another.
 fn play(rt: &impl Abort, contents: &mut Contents<Global>, table: &str) {
     for line in table.lines() {
-        let is_told = line.is_empty() || comes_to(contents, line) == Some(true);
-        holds(rt, is_told, line);
+        let is_so = line.is_empty() || results_in(contents, line) == Some(true);
+        holds(rt, is_so, line);
     }
 }
 

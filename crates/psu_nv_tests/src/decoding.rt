@@ -1,4 +1,4 @@
-// Contents from a map: each of its items valid, and each way in which one is invalid.
+//! Contents from a map: each of its items valid, and each way in which one is invalid.
 use crate::holds::holds;
 use crate::maps::{bytes_of, map_of};
 use psu_map::{Items, Value};
@@ -54,7 +54,7 @@ fn is(alloc: Global, key: &[u8], value: &[u8], wanted: &str) -> Option<bool> {
 }
 
 // Whether the result for an item is the wanted one.
-fn is_told(alloc: Global, item: &str, wanted: &str) -> Option<bool> {
+fn is_decoded_as(alloc: Global, item: &str, wanted: &str) -> Option<bool> {
     let (key, value) = item.split_once("|")?;
     let key = bytes_of(alloc, key)?;
     is(alloc, &key, &bytes_of(alloc, value)?, wanted)
@@ -64,7 +64,7 @@ fn is_told(alloc: Global, item: &str, wanted: &str) -> Option<bool> {
 fn look(rt: &impl Abort, alloc: Global, table: &str) {
     for line in table.lines() {
         if let Some((item, wanted)) = row(line) {
-            holds(rt, is_told(alloc, item, wanted) == Some(true), line);
+            holds(rt, is_decoded_as(alloc, item, wanted) == Some(true), line);
         }
     }
 }

@@ -1,4 +1,4 @@
-// Maps as tables: an item a line, its key and its value.
+//! Maps as tables: an item a line, its key and its value.
 use psu_map::{Items, Value};
 use psu_tables::bytes;
 use std::alloc::Allocator;
@@ -9,7 +9,7 @@ const RESET: &[u8] = &[
 ];
 
 /// Returns the bytes of a cell, which may end with those of outputs 2 to 4 at `*RST`.
-pub fn bytes_of<A: Allocator>(alloc: A, cell: &str) -> Option<Vec<u8, A>> {
+pub(crate) fn bytes_of<A: Allocator>(alloc: A, cell: &str) -> Option<Vec<u8, A>> {
     match cell.strip_suffix(" reset") {
         Some(first) => {
             let mut bytes = bytes(alloc, first)?;
@@ -33,7 +33,7 @@ fn put<A: Allocator + Copy>(alloc: A, items: &mut Items<A>, line: &str) -> Optio
 }
 
 /// Returns the map of these items.
-pub fn map_of<A: Allocator + Copy>(alloc: A, table: &str) -> Option<Items<A>> {
+pub(crate) fn map_of<A: Allocator + Copy>(alloc: A, table: &str) -> Option<Items<A>> {
     let mut items = Items::new(alloc);
     for line in table.lines() {
         put(alloc, &mut items, line)?;

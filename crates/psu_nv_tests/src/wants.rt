@@ -1,5 +1,5 @@
-// Each allocation of contents is refused in turn: a change fails with -225 and changes nothing, and each other step
-// fails because memory is refused.
+//! Each allocation of contents is refused in turn: a change fails with -225 and changes nothing, and each other step
+//! fails because memory is refused.
 use crate::holds::holds;
 use crate::maps::map_of;
 use bumpalo::Bump;

@@ -1,6 +1,6 @@
 -- The settings of the outputs, their bytes, and what is measured with a resistor at each.
 -- Sources: SCPI-1999 volume 2 (SOURce, OUTPut); ranges, bytes and formulas are this project's profile.
-use Rattle.std.specs.Prelude.{◌≡◌, ℕ, ◌+◌, ◌*◌, ◌/◌, ◌==◌, ◌&&◌, nat_lt, nat_le, Bool, true, false, if◌then◌else◌, Option, Some, None, List, [], ◌∷◌, ◌++◌, length, replicate, slice_index_or, slice_set}
+use Rattle.std.specs.Prelude.{◌≡◌, ℕ, ◌+◌, ◌*◌, ◌/◌, ◌&&◌, nat_lt, nat_le, Bool, true, false, if◌then◌else◌, List, [], ◌∷◌, ◌++◌, length, replicate, slice_index_or, slice_set}
 use Rattle.std.specs.List.{list_all, flat_map}
 use Rattle.std.specs.Str.{bytes_eq}
 use Rattle.std.specs.Int.{w16, to_be_bytes}
@@ -9,21 +9,13 @@ use Rattle.psu_outputs.specs.declared.output.Output.TheVariants.{First, Second, 
 use Rattle.psu_outputs.specs.declared.setting.Setting.{Setting}
 use Rattle.psu_outputs.specs.declared.setting.Setting.TheVariants.{Voltage, Current, ProtectionLevel, Protection, State}
 use Rattle.psu_outputs.specs.declared.output_settings.OutputSettings.{OutputSettings}
-use Rattle.psu_outputs.specs.declared.measured.Measured.{Measured}
+use Rattle.psu_outputs.specs.declared.quantities.Measured.{Measured}
 
 abbrev pub place_of : Output → ℕ
 place_of First = 0
 place_of Second = 1
 place_of Third = 2
 place_of Fourth = 3
-
--- the output with a numeric suffix from 1 to 4
-abbrev pub output_of : ℕ → Option Output
-output_of suffix =
-    if suffix == 1 then Some First
-    else (if suffix == 2 then Some Second
-    else (if suffix == 3 then Some Third
-    else (if suffix == 4 then Some Fourth else None)))
 
 -- # Settings
 

@@ -1,4 +1,4 @@
-// Laws over the definitions, which no code needs to run.
+//! Laws over the definitions, which no code needs to run.
 ghost use Rattle.std.specs.Prelude.{◌≡◌, List};
 ghost use Rattle.psu_outputs.specs.Settings.{AreSettings, bytes_of};
 ghost use Rattle.psu_outputs.specs.declared.output_settings.OutputSettings.{OutputSettings as Each};

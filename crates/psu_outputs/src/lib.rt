@@ -4,7 +4,6 @@
 #![tactic(auto)]
 
 mod laws;
-mod measured;
 mod output;
 mod output_settings;
 mod outputs;
@@ -14,10 +13,9 @@ mod settings;
 mod supply;
 
 pub use laws::bytes_determine_settings;
-pub use measured::Measured;
 pub use output::Output;
 pub use output_settings::OutputSettings;
 pub use outputs::Outputs;
-pub use quantities::{Milliamperes, Milliohms, Millivolts};
+pub use quantities::{Measured, Milliamperes, Milliohms, Millivolts};
 pub use setting::Setting;
 pub use settings::Settings;

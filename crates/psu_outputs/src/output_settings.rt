@@ -1,4 +1,4 @@
-// The settings of one output.
+//! The settings of one output.
 ghost use Rattle.std.specs.Prelude.{◌≡◌, ◌≤◌, ◌<◌, ◌^◌, true, IfSome, IfNone};
 ghost use Rattle.psu_outputs.specs.declared.output_settings.OutputSettings.{OutputSettings as Each};
 ghost use Rattle.psu_outputs.specs.Settings.{with_setting, measured, is_allowed, rounded};

@@ -1,4 +1,4 @@
-// The four outputs, with their loads and trips.
+//! The four outputs, with their loads and trips.
 ghost use Rattle.std.specs.Prelude.{◌≡◌, ◌⊎◌, OnOk, OnErr, IfErr, false, true, replicate, if◌then◌else◌};
 ghost use Rattle.std.specs.List.{list_any};
 ghost use Rattle.psu_outputs.specs.declared.supply.Supply.{Supply as Each};

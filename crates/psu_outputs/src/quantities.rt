@@ -1,4 +1,4 @@
-// The quantities, each a type of its own.
+//! The quantities, each a type of its own, and what is measured at an output.
 
 /// A voltage in millivolts.
 #[derive(Clone, Copy, Debug, PartialEq, Eq)]
@@ -21,3 +21,12 @@ impl Milliamperes {
 /// A resistance in milliohms.
 #[derive(Clone, Copy, Debug, PartialEq, Eq)]
 pub struct Milliohms(pub u32);
+
+/// What is measured at an output.
+#[derive(Clone, Copy, Debug, PartialEq, Eq)]
+pub struct Measured {
+    pub voltage: Millivolts,
+    pub current: Milliamperes,
+    /// Whether the output is in current limit.
+    pub limited: bool,
+}

@@ -1,4 +1,4 @@
-// One setting of an output.
+//! One setting of an output.
 ghost use Rattle.std.specs.Prelude.{◌≡◌};
 ghost use Rattle.psu_outputs.specs.Settings.{is_in_range};
 

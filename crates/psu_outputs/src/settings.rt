@@ -1,4 +1,4 @@
-// The settings of the four outputs.
+//! The settings of the four outputs.
 ghost use Rattle.std.specs.Prelude.{◌≡◌, OnOk, IfErr, IfSome, true, false, List, IfNone};
 ghost use Rattle.psu_outputs.specs.Settings.{reset, is_reset, settings_of, is_in_range, after_set, AreSettings, bytes_of, is_allowed};
 ghost use Rattle.std.specs.List.{list_all};

@@ -1,4 +1,4 @@
-// One output with its load and its trip.
+//! One output with its load and its trip.
 ghost use Rattle.std.specs.Prelude.{◌≡◌, ◌≤◌};
 ghost use Rattle.psu_outputs.specs.Settings.{measured};
 ghost use Rattle.psu_outputs.specs.Outputs.{checked, conflicts, with_load, with_settings, without_trip};
@@ -7,7 +7,7 @@ use crate::{Measured, Milliohms, OutputSettings, Setting};
 
 /// One output: its settings, the load connected to it, and whether it is tripped.
 #[derive(Clone, Copy, Debug, PartialEq, Eq)]
-pub struct Supply {
+pub(crate) struct Supply {
     pub settings: OutputSettings,
     pub load: Milliohms,
     pub tripped: bool,
@@ -15,14 +15,14 @@ pub struct Supply {
 
 impl Supply {
     /// As at power-on: the settings of `*RST`, 10 ohms, not tripped.
-    pub const RESET: Supply = Supply {
+    pub(crate) const RESET: Supply = Supply {
         settings: OutputSettings::RESET,
         load: Milliohms(10000),
         tripped: false,
     };
 
     /// What is measured at the output.
-    pub fn measured(&self) -> Measured
+    pub(crate) fn measured(&self) -> Measured
         requires { 1 ≤ self.now.load.0 }
         ensures { result ≡ measured self.now.settings self.now.load.0 }
     {
@@ -48,7 +48,7 @@ impl Supply {
     }
 
     /// Returns the output with another load, which may trip it.
-    pub fn with_load(self, load: Milliohms) -> Supply
+    pub(crate) fn with_load(self, load: Milliohms) -> Supply
         requires { 1 ≤ load.0 }
         ensures { result ≡ with_load self load.0 }
     {
@@ -56,14 +56,14 @@ impl Supply {
     }
 
     /// Whether the output is tripped and the settings switch it on.
-    pub fn conflicts(&self, settings: OutputSettings) -> bool
+    pub(crate) fn conflicts(&self, settings: OutputSettings) -> bool
         ensures { result ≡ conflicts self.now settings }
     {
         self.tripped && settings.on
     }
 
     /// Returns the output with other settings and its trip cleared; the settings may trip it again.
-    pub fn restored(self, settings: OutputSettings) -> Supply
+    pub(crate) fn restored(self, settings: OutputSettings) -> Supply
         requires { 1 ≤ self.load.0 }
         ensures { result ≡ with_settings (without_trip self) settings }
     {
@@ -75,7 +75,7 @@ impl Supply {
     }
 
     /// Returns the output with other settings, which may trip it.
-    pub fn with_settings(self, settings: OutputSettings) -> Supply
+    pub(crate) fn with_settings(self, settings: OutputSettings) -> Supply
         requires { 1 ≤ self.load.0 }
         ensures { result ≡ with_settings self settings }
     {

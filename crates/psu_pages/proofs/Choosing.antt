@@ -9,8 +9,8 @@ use Rattle.psu_disk.specs.Ranges.{range_index}
 use Rattle.psu_pages.specs.declared.root.Root.{Root}
 use Rattle.psu_pages.specs.declared.root.Root.TheVariants.{First, Second}
 use Rattle.psu_pages.specs.declared.words.Words.{Words}
-use Rattle.psu_pages.specs.declared.bad_image.BadImage.{BadImage}
-use Rattle.psu_pages.specs.declared.bad_image.BadImage.TheVariants.{NoRoot, BadRoot, BadVersion}
+use Rattle.psu_pages.specs.declared.faults.BadImage.{BadImage}
+use Rattle.psu_pages.specs.declared.faults.BadImage.TheVariants.{NoRoot, BadRoot, BadVersion}
 use Rattle.psu_pages.specs.Image.{other, gate_at, gate, mark, mark_in, version_in, IsKnown, limit_in, number_in, count_in, IsCurrent, current_root}
 use Rattle.psu_pages.specs.Shown.{Shows}
 use Rattle.psu_pages.specs.Finding.{open_number, of_root, IsPickedIn, IsNonePicked, HasGoodWords, IsSound, IsUnsound, page_of, HasNoRoot, IsRefusal}

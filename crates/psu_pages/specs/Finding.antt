@@ -10,10 +10,10 @@ use Rattle.psu_pages.specs.declared.words.Words.{Words}
 use Rattle.psu_pages.specs.declared.choose.Roots.{Roots}
 use Rattle.psu_pages.specs.declared.choose.Chosen.{Chosen}
 use Rattle.psu_pages.specs.declared.root.Root.TheVariants.{First, Second}
-use Rattle.psu_pages.specs.declared.open_cause.OpenCause.{OpenCause}
-use Rattle.psu_pages.specs.declared.open_cause.OpenCause.TheVariants.{Device, Image, Memory}
-use Rattle.psu_pages.specs.declared.bad_image.BadImage.{BadImage}
-use Rattle.psu_pages.specs.declared.bad_image.BadImage.TheVariants.{NoRoot, BadRoot, BadVersion}
+use Rattle.psu_pages.specs.declared.faults.OpenCause.{OpenCause}
+use Rattle.psu_pages.specs.declared.faults.OpenCause.TheVariants.{Device, Image, Memory}
+use Rattle.psu_pages.specs.declared.faults.BadImage.{BadImage}
+use Rattle.psu_pages.specs.declared.faults.BadImage.TheVariants.{NoRoot, BadRoot, BadVersion}
 
 -- the number of a root whose gate is open
 abbrev pub open_number : Root → List ℕ → Option ℕ

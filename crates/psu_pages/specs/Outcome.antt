@@ -6,8 +6,8 @@ use Rattle.psu_pages.specs.Free.{is_free, AreClaimed, Marks, HandsOver}
 use Rattle.psu_pages.specs.Image.{other, Head, IsHead, IsInPool, AreApart, AreClear, taken, pages_of}
 use Rattle.psu_pages.specs.declared.pages.Pages.{Pages}
 use Rattle.psu_pages.specs.declared.root.Root.TheVariants.{First}
-use Rattle.psu_pages.specs.declared.format_fault.FormatFault.{FormatFault}
-use Rattle.psu_pages.specs.declared.refused.Refused.{Refused}
+use Rattle.psu_pages.specs.declared.faults.FormatFault.{FormatFault}
+use Rattle.psu_pages.specs.declared.faults.ImageError.{ImageError}
 use Rattle.psu_pages.specs.declared.standing.Standing.TheVariants.{One, Both}
 
 -- the head has pages that are claimed and that no root names
@@ -88,6 +88,6 @@ formatted_disk (Ok pages) = pages.disk
 formatted_disk (Err e) = e.disk
 
 -- the disk of opened pages, or the one returned with the error
-abbrev pub opened_disk : {D A : Type 0} {G : Ghosts D} → Result (Pages D A G) (Refused D) → D
+abbrev pub opened_disk : {D A : Type 0} {G : Ghosts D} → Result (Pages D A G) (ImageError D) → D
 opened_disk (Ok pages) = pages.disk
 opened_disk (Err e) = e.disk

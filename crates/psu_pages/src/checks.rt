@@ -7,7 +7,11 @@ use crate::version::key_most;
 use std::alloc::Allocator;
 
 /// Whether heads take no more pages than the limit, and no key occurs twice or is too long for the version.
-pub fn stand_together<A: Allocator + Copy>(heads: &[Head<A>], limit: u16, version: u16) -> bool
+pub(crate) fn stand_together<A: Allocator + Copy>(
+    heads: &[Head<A>],
+    limit: u16,
+    version: u16,
+) -> bool
     ensures short { result ≡ true → AreShort version heads.now }
     ensures within { result ≡ true → length (taken heads.now) ≤ limit }
     ensures distinct { result ≡ true → AreApart (keys heads.now) }

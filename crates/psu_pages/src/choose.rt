@@ -1,7 +1,7 @@
 //! The choice of the current root, and its contents.
 ghost use Rattle.std.specs.Prelude.{◌≡◌, ◌≢◌, ◌+◌, ◌*◌, ◌≤◌, List, ℕ, true, false, length, IfOk, IfErr, OnOk, ⊤};
 ghost use Rattle.psu_disk.specs.Disk.{IsCrashImage, Only};
-ghost use Rattle.psu_disk.specs.Steps.{Step, Leaves};
+ghost use Rattle.psu_disk.specs.Steps.{DiskStep, LeavesImages};
 ghost use Rattle.psu_pages.specs.declared.standing.Standing.TheVariants.{One, Both, Unsure};
 ghost use Rattle.psu_pages.specs.Finding.{AreRoots, IsChosen, IsRefusal, page_of};
 
@@ -14,14 +14,14 @@ use psu_disk::{Disk, DiskFault};
 
 /// The pages of the two roots.
 #[derive(Drop)]
-pub struct Roots {
+pub(crate) struct Roots {
     pub first: [u8; 512],
     pub second: [u8; 512],
 }
 
 impl Roots {
     /// Returns the page of a root.
-    pub fn page(&self, root: Root) -> &[u8]
+    pub(crate) fn page(&self, root: Root) -> &[u8]
         ensures whole { length result.now ≡ 512 }
         ensures value { (image : List ℕ) → AreRoots self.now image → result.now ≡ page_of root image }
     {
@@ -34,7 +34,7 @@ impl Roots {
 
 /// The current root, its version and number, whether the other gate is open too, the limit and the number of items.
 #[derive(Clone, Copy, Debug, Drop)]
-pub struct Chosen {
+pub(crate) struct Chosen {
     pub root: Root,
     pub version: u16,
     pub number: u64,
@@ -45,7 +45,7 @@ pub struct Chosen {
 
 impl Chosen {
     /// Returns the state of the gates.
-    pub fn standing(&self) -> Standing
+    pub(crate) fn standing(&self) -> Standing
         ensures one { result ≡ One → self.now.both ≡ false }
         ensures both { result ≡ Both → self.now.both ≡ true }
         ensures sure { result ≢ Unsure }
@@ -59,13 +59,13 @@ impl Chosen {
 }
 
 /// Syncs the disk, so that what it reads as is durable, and reads its two roots.
-pub fn read_roots<D: Disk>(disk: &mut D) -> Result<Roots, DiskFault>
+pub(crate) fn read_roots<D: Disk>(disk: &mut D) -> Result<Roots, DiskFault>
     requires { 1024 ≤ D.extent disk.old }
-    ensures step { Step D.Disk disk.old disk.new result (λ fault. ⊤) }
+    ensures step { DiskStep D.Disk disk.old disk.new result (λ fault. ⊤) }
     ensures found { D.honest → IfOk result (λ roots. AreRoots roots (D.state disk.old).bytes) }
     ensures synced { D.honest → OnOk result (Only (D.state disk.new)) }
     ensures seen { D.honest → (D.state disk.new).bytes ≡ (D.state disk.old).bytes }
-    ensures left { Leaves D.Disk disk.old disk.new (IsCrashImage (D.state disk.old)) }
+    ensures left { LeavesImages D.Disk disk.old disk.new (IsCrashImage (D.state disk.old)) }
 {
     let mut roots = Roots {
         first: [0; 512],
@@ -78,7 +78,7 @@ pub fn read_roots<D: Disk>(disk: &mut D) -> Result<Roots, DiskFault>
 }
 
 /// Returns the current root on a disk of this size, or why there is none.
-pub fn choose(roots: &Roots, size: u64) -> Result<Chosen, BadImage>
+pub(crate) fn choose(roots: &Roots, size: u64) -> Result<Chosen, BadImage>
     ensures limit { IfOk result (λ chosen. (4 ≤ chosen.limit) × (chosen.limit ≤ 480) × (512 * (2 + 2 * chosen.limit) ≤ size) × (chosen.count ≤ 240)) }
     ensures chosen { (image : List ℕ) → AreRoots roots.now image → length image ≡ size → IfOk result (IsChosen image) }
     ensures refused { (image : List ℕ) → AreRoots roots.now image → length image ≡ size → IfErr result (IsRefusal image) }

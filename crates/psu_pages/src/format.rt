@@ -1,15 +1,15 @@
 //! Formatting a disk.
 ghost use Rattle.std.specs.Prelude.{◌≡◌, ◌+◌, ◌*◌, ◌≤◌, [], ◌∷◌, ℕ, length, OnOk, IfOk, IfErr, ⊤};
-ghost use Rattle.psu_disk.specs.Steps.{Step};
+ghost use Rattle.psu_disk.specs.Steps.{DiskStep};
 ghost use Rattle.psu_pages.specs.Finding.{page_of};
 ghost use Rattle.psu_pages.specs.Image.{gate};
 ghost use Rattle.psu_pages.specs.Spelling.{AreRootContents, open_root};
 ghost use Rattle.psu_pages.specs.Shown.{items_in, EachEncodes, EachShut};
-ghost use Rattle.psu_pages.specs.declared.format_fault.FormatCause.TheVariants.{Device as NotWritten, Memory as NoMemory};
+ghost use Rattle.psu_pages.specs.declared.faults.FormatCause.TheVariants.{Device as NotWritten, Memory as NoMemory};
 ghost use Rattle.psu_pages.specs.declared.root.Root.TheVariants.{First, Second};
 ghost use Rattle.psu_pages.specs.declared.standing.Standing.TheVariants.{One};
 
-use crate::gates::{CLOSED, OPEN, set_gate, write_contents};
+use crate::gates::{GATE_CLOSED, GATE_OPEN, set_gate, write_contents};
 use crate::pool::pool;
 use crate::root_page::spell_root;
 use crate::version::VERSION;
@@ -31,7 +31,7 @@ impl<D: Disk, A: Allocator + Copy> Pages<D, A> {
         ensures spelled { D.honest → IfOk result (λ pages. page_of First (D.state pages.disk).bytes ≡ open_root limit 1 []) }
         ensures zero { D.honest → IfOk result (λ pages. gate Second (D.state pages.disk).bytes ≡ 0) }
         ensures empty { D.honest → IfOk result (λ pages. items_in pages.root (D.state pages.disk).bytes ≡ []) }
-        ensures step { Step D.Disk disk (formatted_disk result) result (λ e. e.cause ≡ NotWritten) }
+        ensures step { DiskStep D.Disk disk (formatted_disk result) result (λ e. e.cause ≡ NotWritten) }
         ensures no_call { IfErr result (λ e. e.cause ≡ NoMemory → e.disk ≡ disk) }
     {
         let Ok(free) = pool(alloc, limit) else {
@@ -66,16 +66,16 @@ impl<D: Disk, A: Allocator + Copy> Pages<D, A> {
 fn lay_out<D: Disk>(disk: &mut D, contents: &[u8]) -> Result<(), DiskFault>
     requires roots { 1024 ≤ D.extent disk.old }
     requires contents { length contents.now ≡ 511 }
-    ensures step { Step D.Disk disk.old disk.new result (λ fault. ⊤) }
+    ensures step { DiskStep D.Disk disk.old disk.new result (λ fault. ⊤) }
     ensures spelled { D.honest → OnOk result (page_of First (D.state disk.new).bytes ≡ 165 ∷ contents.now) }
     ensures zero { D.honest → OnOk result (gate Second (D.state disk.new).bytes ≡ 0) }
     ensures encoded { D.honest → (limit number : ℕ) → AreRootContents limit number [] contents.now (D.state disk.old).bytes → 4 ≤ limit → limit ≤ 480 → 512 * (2 + 2 * limit) ≤ D.extent disk.old
         → OnOk result (EachEncodes (D.state disk.new) First 2 limit number [] []) }
     ensures shut { D.honest → OnOk result (EachShut (D.state disk.new) Second) }
 {
-    set_gate(disk, Root::First, CLOSED)?;
-    set_gate(disk, Root::Second, CLOSED)?;
+    set_gate(disk, Root::First, GATE_CLOSED)?;
+    set_gate(disk, Root::Second, GATE_CLOSED)?;
     write_contents(disk, Root::First, contents)?;
-    set_gate(disk, Root::First, OPEN)?;
+    set_gate(disk, Root::First, GATE_OPEN)?;
     Ok(())
 }

@@ -3,7 +3,7 @@ ghost use Rattle.std.specs.Prelude.{◌≡◌, ◌<◌, ◌≤◌, ◌^◌, ◌�
 ghost use Rattle.std.specs.List.{AllByRecursion};
 ghost use Rattle.psu_pages.specs.Free.{is_free, free_pages, AreClaimed, Marks};
 ghost use Rattle.psu_pages.specs.Image.{AreApart, pages_of};
-ghost use Rattle.psu_pages.specs.declared.page_fault.PageFault.TheVariants.{NoPage, Device, Memory};
+ghost use Rattle.psu_pages.specs.declared.faults.PageFault.TheVariants.{NoPage, Device, Memory};
 
 use crate::{Head, PageFault};
 use std::alloc::{AllocError, Allocator};

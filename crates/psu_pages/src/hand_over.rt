@@ -8,7 +8,11 @@ use crate::{FreeMap, Head};
 use std::alloc::Allocator;
 
 /// Releases the pages of the older heads that aren't pages of the other heads.
-pub fn hand_over<A: Allocator + Copy>(free: &mut FreeMap<A>, older: &[Head<A>], heads: &[Head<A>])
+pub(crate) fn hand_over<A: Allocator + Copy>(
+    free: &mut FreeMap<A>,
+    older: &[Head<A>],
+    heads: &[Head<A>],
+)
     requires there { AllByRecursion (λ page. page < length free.old) (taken older.now) }
     requires heads_there { AllByRecursion (λ page. page < length free.old) (taken heads.now) }
     requires apart { AreApart (taken older.now) }

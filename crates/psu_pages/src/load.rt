@@ -2,9 +2,9 @@
 ghost use Rattle.std.specs.Prelude.{◌≡◌, ◌≢◌, ◌+◌, ◌*◌, ◌≤◌, IfOk, IfErr};
 ghost use Rattle.std.specs.List.{AllByRecursion};
 ghost use Rattle.psu_disk.specs.Disk.{IsCrashImage};
-ghost use Rattle.psu_disk.specs.Steps.{Step, Leaves};
+ghost use Rattle.psu_disk.specs.Steps.{DiskStep, LeavesImages};
 ghost use Rattle.psu_pages.specs.Image.{value_in, IsHead, IsInPool, Head as HeadOf};
-ghost use Rattle.psu_pages.specs.declared.page_fault.PageFault.TheVariants.{Device, NoPage};
+ghost use Rattle.psu_pages.specs.declared.faults.PageFault.TheVariants.{Device, NoPage};
 
 use crate::reading::read_page;
 use crate::{Head, PageFault, Pages};
@@ -12,19 +12,19 @@ use psu_disk::Disk;
 use std::alloc::Allocator;
 
 /// Reads the value of a head, each of its pages once.
-pub fn read_value<D: Disk, A: Allocator + Copy>(
+pub(crate) fn read_value<D: Disk, A: Allocator + Copy>(
     alloc: A,
     disk: &mut D,
     head: &Head<A>,
 ) -> Result<Vec<u8, A>, PageFault>
     requires is_head { IsHead head.now }
     requires room { AllByRecursion (λ page. 512 * page + 512 ≤ D.extent disk.old) head.now.pages }
-    ensures step { Step D.Disk disk.old disk.new result (λ cause. cause ≡ Device) }
+    ensures step { DiskStep D.Disk disk.old disk.new result (λ cause. cause ≡ Device) }
     ensures quiet { IfErr result (λ cause. cause ≢ Device → D.failures disk.new ≡ D.failures disk.old) }
     ensures pages { IfErr result (λ cause. cause ≢ NoPage) }
     ensures found { D.honest → IfOk result (λ value. value.items ≡ value_in (D.state disk.old).bytes head.now) }
     ensures seen { D.honest → (D.state disk.new).bytes ≡ (D.state disk.old).bytes }
-    ensures left { Leaves D.Disk disk.old disk.new (IsCrashImage (D.state disk.old)) }
+    ensures left { LeavesImages D.Disk disk.old disk.new (IsCrashImage (D.state disk.old)) }
 {
     let mut value = Vec::with_capacity(alloc, 512 * head.pages().len())?;
     for page in head.pages() {
@@ -43,7 +43,7 @@ impl<D: Disk, A: Allocator + Copy> Pages<D, A> {
     pub fn load(&mut self, alloc: A, head: &Head<A>) -> Result<Vec<u8, A>, PageFault>
         requires is_head { IsHead head.now }
         requires pool { AllByRecursion (IsInPool self.old.limit) head.now.pages }
-        ensures step { Step D.Disk self.old.disk self.new.disk result (λ cause. cause ≡ Device) }
+        ensures step { DiskStep D.Disk self.old.disk self.new.disk result (λ cause. cause ≡ Device) }
         ensures quiet { IfErr result (λ cause. cause ≢ Device → D.failures self.new.disk ≡ D.failures self.old.disk) }
         ensures pages { IfErr result (λ cause. cause ≢ NoPage) }
 
@@ -52,7 +52,7 @@ impl<D: Disk, A: Allocator + Copy> Pages<D, A> {
         ensures standing { self.new.standing ≡ self.old.standing }
         ensures planned { (other : HeadOf) → IsPlanned self.old other → IsPlanned self.new other }
         ensures seen { D.honest → (D.state self.new.disk).bytes ≡ (D.state self.old.disk).bytes }
-        ensures left { Leaves D.Disk self.old.disk self.new.disk (IsCrashImage (D.state self.old.disk)) }
+        ensures left { LeavesImages D.Disk self.old.disk self.new.disk (IsCrashImage (D.state self.old.disk)) }
     {
         read_value(alloc, &mut self.disk, head)
     }

@@ -1,18 +1,18 @@
 //! Opening a disk, after a power loss or without one.
 ghost use Rattle.std.specs.Prelude.{◌≡◌, ◌≢◌, ◌+◌, ◌*◌, ◌<◌, ◌≤◌, [], OnOk, IfOk, IfErr, IsErrOf};
 ghost use Rattle.psu_disk.specs.Disk.{IsCrashImage, Only};
-ghost use Rattle.psu_disk.specs.Steps.{Step, Leaves};
+ghost use Rattle.psu_disk.specs.Steps.{DiskStep, LeavesImages};
 ghost use Rattle.psu_pages.specs.Finding.{AreFit, IfImage, IsRefusal, HasReadableRoot, HasGates};
 ghost use Rattle.psu_pages.specs.Free.{IsRoster};
 ghost use Rattle.psu_pages.specs.Shown.{items_in, Encodes};
-ghost use Rattle.psu_pages.specs.declared.open_cause.OpenCause.TheVariants.{Device, Memory};
+ghost use Rattle.psu_pages.specs.declared.faults.OpenCause.TheVariants.{Device, Memory};
 ghost use Rattle.psu_pages.specs.declared.standing.Standing.TheVariants.{Unsure};
 
 use crate::checks::stand_together;
 use crate::choose::{Chosen, choose, read_roots};
 use crate::head::read_words;
 use crate::scan::scan;
-use crate::{BadImage, FreeMap, Head, OpenCause, Pages, Refused, Standing};
+use crate::{BadImage, FreeMap, Head, ImageError, OpenCause, Pages, Standing};
 use psu_disk::Disk;
 use std::alloc::Allocator;
 
@@ -29,21 +29,21 @@ impl<D: Disk, A: Allocator + Copy> Pages<D, A> {
 
     /// Opens the items that a disk represents. Begins with a sync, and reads the two roots and the pages of the heads,
     /// each once. The gate of an older root that is open is left open. Nothing is written.
-    pub fn open(alloc: A, mut disk: D) -> Result<Pages<D, A>, Refused<D>>
+    pub fn open(alloc: A, mut disk: D) -> Result<Pages<D, A>, ImageError<D>>
         ensures found { D.honest → IfOk result (λ pages. Encodes pages.root pages.version pages.limit pages.number pages.heads.items (items_in pages.root (D.state disk).bytes) (D.state disk).bytes) }
         ensures sure { IfOk result (λ pages. pages.standing ≢ Unsure) }
         ensures fit { IfOk result (λ pages. AreFit pages.limit pages.heads.items pages.free) }
         ensures none_older { IfOk result (λ pages. pages.older.items ≡ []) }
         ensures refused { D.honest → IfErr result (λ e. IfImage e.cause (IsRefusal (D.state disk).bytes)) }
-        ensures step { Step D.Disk disk (opened_disk result) result (λ e. e.cause ≡ Device) }
+        ensures step { DiskStep D.Disk disk (opened_disk result) result (λ e. e.cause ≡ Device) }
         ensures quiet { IfErr result (λ e. e.cause ≢ Device → D.failures e.disk ≡ D.failures disk) }
         ensures memory { D.honest → IfErr result (λ e. e.cause ≡ Memory → HasReadableRoot (D.state disk).bytes) }
         ensures synced { D.honest → IfOk result (λ pages. Only (D.state pages.disk)) }
         ensures seen { D.honest → (D.state (opened_disk result)).bytes ≡ (D.state disk).bytes }
-        ensures left { Leaves D.Disk disk (opened_disk result) (IsCrashImage (D.state disk)) }
+        ensures left { LeavesImages D.Disk disk (opened_disk result) (IsCrashImage (D.state disk)) }
     {
         if disk.size() < 1024 {
-            return Err(Refused {
+            return Err(ImageError {
                 cause: OpenCause::Image(BadImage::NoRoot),
                 disk,
             });
@@ -66,7 +66,7 @@ impl<D: Disk, A: Allocator + Copy> Pages<D, A> {
                 older: Vec::new(alloc),
                 free,
             }),
-            Err(cause) => Err(Refused { cause, disk }),
+            Err(cause) => Err(ImageError { cause, disk }),
         }
     }
 }
@@ -74,7 +74,7 @@ impl<D: Disk, A: Allocator + Copy> Pages<D, A> {
 // Finds the current root, and reads its heads.
 fn look<D: Disk, A: Allocator + Copy>(alloc: A, disk: &mut D) -> Result<Opened<A>, OpenCause>
     requires { 1024 ≤ D.extent disk.old }
-    ensures step { Step D.Disk disk.old disk.new result (λ cause. cause ≡ Device) }
+    ensures step { DiskStep D.Disk disk.old disk.new result (λ cause. cause ≡ Device) }
     ensures quiet { IfErr result (λ cause. cause ≢ Device → D.failures disk.new ≡ D.failures disk.old) }
     ensures memory { D.honest → IsErrOf result Memory → HasReadableRoot (D.state disk.old).bytes }
     ensures limit { IfOk result (λ o. (4 ≤ o.chosen.limit) × (o.chosen.limit ≤ 480) × (512 * (2 + 2 * o.chosen.limit) ≤ D.extent disk.old)) }
@@ -85,7 +85,7 @@ fn look<D: Disk, A: Allocator + Copy>(alloc: A, disk: &mut D) -> Result<Opened<A
     ensures refused { D.honest → IfErr result (λ cause. IfImage cause (IsRefusal (D.state disk.old).bytes)) }
     ensures synced { D.honest → OnOk result (Only (D.state disk.new)) }
     ensures seen { D.honest → (D.state disk.new).bytes ≡ (D.state disk.old).bytes }
-    ensures left { Leaves D.Disk disk.old disk.new (IsCrashImage (D.state disk.old)) }
+    ensures left { LeavesImages D.Disk disk.old disk.new (IsCrashImage (D.state disk.old)) }
 {
     let roots = read_roots(disk)?;
     let chosen = choose(&roots, disk.size())?;

@@ -6,7 +6,7 @@ use std::marker::Model;
 
 /// The first bytes of a page, and zeros after them. Contracts see only the first bytes.
 #[derive(Drop)]
-pub struct Page {
+pub(crate) struct Page {
     bytes: [u8; 512],
     used: usize,
 }
@@ -23,7 +23,7 @@ impl Model for Page {
 
 impl Page {
     /// Returns a page of zeros.
-    pub fn new() -> Page
+    pub(crate) fn new() -> Page
         ensures { result ≡ [] }
     {
         Page {
@@ -33,7 +33,7 @@ impl Page {
     }
 
     /// Returns a page that begins with these bytes.
-    pub fn of(bytes: &[u8]) -> Page
+    pub(crate) fn of(bytes: &[u8]) -> Page
         requires { length bytes.now ≤ 512 }
         ensures { result ≡ bytes.now }
     {
@@ -43,7 +43,7 @@ impl Page {
     }
 
     /// Appends bytes to those that there are.
-    pub fn add(&mut self, bytes: &[u8])
+    pub(crate) fn add(&mut self, bytes: &[u8])
         requires { length self.old + length bytes.now ≤ 512 }
         ensures { self.new ≡ self.old ++ bytes.now }
     {
@@ -53,7 +53,7 @@ impl Page {
     }
 
     /// Returns the whole page.
-    pub fn bytes(&self) -> &[u8]
+    pub(crate) fn bytes(&self) -> &[u8]
         ensures value { result.now ≡ filled 512 self.now }
         ensures whole { length result.now ≡ 512 }
     {
@@ -61,7 +61,7 @@ impl Page {
     }
 
     /// Returns the whole page except its first byte.
-    pub fn after_gate(&self) -> &[u8]
+    pub(crate) fn after_gate(&self) -> &[u8]
         ensures value { result.now ≡ drop 1 (filled 512 self.now) }
         ensures whole { length result.now ≡ 511 }
     {

@@ -6,14 +6,14 @@ use crate::{BadImage, Root};
 
 /// The current root, its number, and whether the other gate is open too.
 #[derive(Clone, Copy, Debug, Drop)]
-pub struct Picked {
+pub(crate) struct Picked {
     pub root: Root,
     pub number: u64,
     pub both: bool,
 }
 
 /// Picks the current root by the numbers of the roots whose gates are open.
-pub fn pick(first: Option<u64>, second: Option<u64>) -> Result<Picked, BadImage>
+pub(crate) fn pick(first: Option<u64>, second: Option<u64>) -> Result<Picked, BadImage>
     ensures picked { IfOk result (λ p. IsPicked first second p.root p.number p.both) }
     ensures none { IfErr result (IsNonePicked first second) }
 {

@@ -2,7 +2,7 @@
 ghost use Rattle.std.specs.Prelude.{◌≡◌, ◌≤◌, ◌<◌, true, ℕ, length, IfOk, OnOk, OnErr, IsErrOf};
 ghost use Rattle.psu_pages.specs.Free.{free_pages, Marks};
 ghost use Rattle.psu_pages.specs.Image.{AreClear, pages_of, Head as HeadOf};
-ghost use Rattle.psu_pages.specs.declared.page_fault.PageFault.TheVariants.{NoPage, Device, Memory};
+ghost use Rattle.psu_pages.specs.declared.faults.PageFault.TheVariants.{NoPage, Device, Memory};
 
 use crate::{Head, PageFault, Pages};
 use psu_disk::Disk;

@@ -6,7 +6,7 @@ use crate::FreeMap;
 use std::alloc::{AllocError, Allocator};
 
 /// Returns the map in which all pages of the pool are free, and those of the roots are not.
-pub fn pool<A: Allocator + Copy>(alloc: A, limit: u16) -> Result<FreeMap<A>, AllocError>
+pub(crate) fn pool<A: Allocator + Copy>(alloc: A, limit: u16) -> Result<FreeMap<A>, AllocError>
     requires { limit ≤ 480 }
     ensures { IfOk result (IsPool limit) }
 {

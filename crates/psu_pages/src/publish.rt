@@ -2,17 +2,17 @@
 ghost use Rattle.std.specs.Prelude.{◌≡◌, ◌≢◌, ◌+◌, ◌<◌, ◌^◌, List, ℕ, length, map, OnOk, IfErr, ⊤};
 ghost use Rattle.std.specs.List.{AllByRecursion};
 ghost use Rattle.psu_disk.specs.Disk.{IsCrashImage, SameBut};
-ghost use Rattle.psu_disk.specs.Steps.{Step, Leaves};
+ghost use Rattle.psu_disk.specs.Steps.{DiskStep, LeavesImages};
 ghost use Rattle.psu_pages.specs.Free.{AreClaimed, IsRoster};
 ghost use Rattle.psu_pages.specs.Finding.{page_of};
 ghost use Rattle.psu_pages.specs.Image.{AreClear, IsInPool, gate, gate_at, head_at, other, pages_of, taken, Head as HeadOf};
 ghost use Rattle.psu_pages.specs.Shown.{item_in, items_in, Encodes, EncodesEither};
 ghost use Rattle.psu_pages.specs.Spelling.{head_drafts, open_root};
 ghost use Rattle.psu_pages.specs.Writing.{Misses, Reaches, AreWritten, IsWritten};
-ghost use Rattle.psu_pages.specs.declared.page_fault.PageFault.TheVariants.{Device};
+ghost use Rattle.psu_pages.specs.declared.faults.PageFault.TheVariants.{Device};
 ghost use Rattle.psu_pages.specs.declared.standing.Standing.TheVariants.{One, Both, Unsure};
 
-use crate::gates::{CLOSED, set_gate};
+use crate::gates::{GATE_CLOSED, set_gate};
 use crate::hand_over::hand_over;
 use crate::root_page::spell_root;
 use crate::switch::switch;
@@ -31,7 +31,7 @@ impl<D: Disk, A: Allocator + Copy> Pages<D, A> {
         requires planned { IsPlanned self.old head.now }
         requires size { length value.now ≡ head.now.size }
         requires sure { self.old.standing ≢ Unsure }
-        ensures step { Step D.Disk self.old.disk self.new.disk result (λ cause. ⊤) }
+        ensures step { DiskStep D.Disk self.old.disk self.new.disk result (λ cause. ⊤) }
         ensures device { IfErr result (λ cause. cause ≡ Device) }
 
         ensures same { HasSameHeads self.old self.new }
@@ -44,8 +44,8 @@ impl<D: Disk, A: Allocator + Copy> Pages<D, A> {
 
         // At every moment the disk represents the same items, and no page but those of the head is written.
         ensures shown { D.honest → items_in self.new.root (D.state self.new.disk).bytes ≡ items_in self.old.root (D.state self.old.disk).bytes }
-        ensures left { Leaves D.Disk self.old.disk self.new.disk (Encodes self.old.root self.old.version self.old.limit self.old.number self.old.heads.items (items_in self.old.root (D.state self.old.disk).bytes)) }
-        ensures touched { Leaves D.Disk self.old.disk self.new.disk (Reaches (Misses (pages_of head.now)) (IsCrashImage (D.state self.old.disk))) }
+        ensures left { LeavesImages D.Disk self.old.disk self.new.disk (Encodes self.old.root self.old.version self.old.limit self.old.number self.old.heads.items (items_in self.old.root (D.state self.old.disk).bytes)) }
+        ensures touched { LeavesImages D.Disk self.old.disk self.new.disk (Reaches (Misses (pages_of head.now)) (IsCrashImage (D.state self.old.disk))) }
     {
         let standing = self.standing;
         self.standing = Standing::Unsure;
@@ -62,7 +62,7 @@ impl<D: Disk, A: Allocator + Copy> Pages<D, A> {
         requires roster { IsRoster self.old.limit heads.items }
         requires claimed { AreClaimed self.old.free (taken heads.items) }
         requires there { D.honest → AllByRecursion (λ head. head_at (D.state self.old.disk).bytes head.at ≡ head) heads.items }
-        ensures step { Step D.Disk self.old.disk self.new.disk result (λ cause. ⊤) }
+        ensures step { DiskStep D.Disk self.old.disk self.new.disk result (λ cause. ⊤) }
         ensures device { IfErr result (λ cause. cause ≡ Device) }
 
         ensures published { OnOk result (HasPublished self.old self.new heads.items) }
@@ -73,8 +73,8 @@ impl<D: Disk, A: Allocator + Copy> Pages<D, A> {
 
         // At every moment the disk represents the items from before, or those of the heads, and no page but the next
         // root's is written.
-        ensures left { Leaves D.Disk self.old.disk self.new.disk (EncodesEither (other self.old.root) self.old.version self.old.limit self.old.number self.old.heads.items (items_in self.old.root (D.state self.old.disk).bytes) heads.items (map (item_in (D.state self.old.disk).bytes) heads.items)) }
-        ensures touched { Leaves D.Disk self.old.disk self.new.disk (Reaches (SameBut (gate_at (other self.old.root)) 512) (IsCrashImage (D.state self.old.disk))) }
+        ensures left { LeavesImages D.Disk self.old.disk self.new.disk (EncodesEither (other self.old.root) self.old.version self.old.limit self.old.number self.old.heads.items (items_in self.old.root (D.state self.old.disk).bytes) heads.items (map (item_in (D.state self.old.disk).bytes) heads.items)) }
+        ensures touched { LeavesImages D.Disk self.old.disk self.new.disk (Reaches (SameBut (gate_at (other self.old.root)) 512) (IsCrashImage (D.state self.old.disk))) }
     {
         let next = self.root.other();
         let page = spell_root(self.limit, self.number + 1, &heads);
@@ -91,7 +91,7 @@ impl<D: Disk, A: Allocator + Copy> Pages<D, A> {
     /// Closes the gate of the older root if it is open, and releases the pages that only the older root names.
     pub fn close_old(&mut self) -> Result<(), PageFault>
         requires sure { self.old.standing ≢ Unsure }
-        ensures step { Step D.Disk self.old.disk self.new.disk result (λ cause. ⊤) }
+        ensures step { DiskStep D.Disk self.old.disk self.new.disk result (λ cause. ⊤) }
         ensures device { IfErr result (λ cause. cause ≡ Device) }
 
         ensures closed { OnOk result (HasClosed self.old self.new) }
@@ -102,14 +102,14 @@ impl<D: Disk, A: Allocator + Copy> Pages<D, A> {
 
         // At every moment the disk represents the same items, and nothing but the older gate is written.
         ensures shown { D.honest → OnOk result (items_in self.new.root (D.state self.new.disk).bytes ≡ items_in self.old.root (D.state self.old.disk).bytes) }
-        ensures left { Leaves D.Disk self.old.disk self.new.disk (Encodes self.old.root self.old.version self.old.limit self.old.number self.old.heads.items (items_in self.old.root (D.state self.old.disk).bytes)) }
-        ensures touched { Leaves D.Disk self.old.disk self.new.disk (Reaches (SameBut (gate_at (other self.old.root)) 1) (IsCrashImage (D.state self.old.disk))) }
+        ensures left { LeavesImages D.Disk self.old.disk self.new.disk (Encodes self.old.root self.old.version self.old.limit self.old.number self.old.heads.items (items_in self.old.root (D.state self.old.disk).bytes)) }
+        ensures touched { LeavesImages D.Disk self.old.disk self.new.disk (Reaches (SameBut (gate_at (other self.old.root)) 1) (IsCrashImage (D.state self.old.disk))) }
     {
         let Standing::Both = self.standing else {
             return Ok(());
         };
         self.standing = Standing::Unsure;
-        set_gate(&mut self.disk, self.root.other(), CLOSED)?;
+        set_gate(&mut self.disk, self.root.other(), GATE_CLOSED)?;
         hand_over(&mut self.free, &self.older, &self.heads);
         self.older.clear();
         self.standing = Standing::One;

@@ -3,17 +3,17 @@ ghost use Rattle.std.specs.Prelude.{◌≡◌, ◌+◌, ◌*◌, ◌≤◌, ◌�
 ghost use Rattle.psu_pages.specs.Spelling.{root_contents, names, spelled_words};
 
 use crate::Head;
-use crate::gates::CLOSED;
+use crate::gates::GATE_CLOSED;
 use crate::page::Page;
 use crate::version::VERSION;
 use std::alloc::Allocator;
 
 /// Returns the page of a root that names these heads, its gate closed.
-pub fn spell_root<A: Allocator + Copy>(limit: u16, number: u64, heads: &[Head<A>]) -> Page
+pub(crate) fn spell_root<A: Allocator + Copy>(limit: u16, number: u64, heads: &[Head<A>]) -> Page
     requires { length heads.now ≤ 240 }
     ensures { result ≡ 0 ∷ root_contents limit number (names heads.now) }
 {
-    let mut page = Page::of(&[CLOSED]);
+    let mut page = Page::of(&[GATE_CLOSED]);
     page.add(b"PSU");
     page.add(&VERSION.to_be_bytes());
     page.add(&limit.to_be_bytes());

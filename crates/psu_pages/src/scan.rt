@@ -1,7 +1,7 @@
 //! Reading the heads that a root names.
 ghost use Rattle.std.specs.Prelude.{◌≡◌, ◌≢◌, ◌⊎◌, ◌+◌, ◌*◌, ◌≤◌, ◌++◌, ◌∷◌, [], true, false, length, map, slice_set, OnOk, IfOk, IfErr, IfSome, IsNone, IsErrOf};
 ghost use Rattle.psu_disk.specs.Disk.{IsCrashImage};
-ghost use Rattle.psu_disk.specs.Steps.{Step, Leaves};
+ghost use Rattle.psu_disk.specs.Steps.{DiskStep, LeavesImages};
 ghost use Rattle.psu_pages.specs.Image.{head_at, pages_of, IsHead};
 ghost use Rattle.psu_pages.specs.Free.{is_free, Marks};
 ghost use Rattle.psu_pages.specs.Finding.{IsFit, AreFit, CanStand};
@@ -14,14 +14,14 @@ use std::alloc::{AllocError, Allocator};
 
 /// The heads that were read, and the pages that none of them has.
 #[derive(Drop)]
-pub struct Found<A: Allocator + Copy> {
+pub(crate) struct Found<A: Allocator + Copy> {
     pub heads: Vec<Head<A>, A>,
     pub free: FreeMap<A>,
 }
 
 /// Reads the heads on these pages, each page once. Returns `None` if one of them isn't a valid head, or a page is named
 /// twice or lies outside the pool.
-pub fn scan<D: Disk, A: Allocator + Copy>(
+pub(crate) fn scan<D: Disk, A: Allocator + Copy>(
     alloc: A,
     disk: &mut D,
     limit: u16,
@@ -29,7 +29,7 @@ pub fn scan<D: Disk, A: Allocator + Copy>(
 ) -> Result<Option<Found<A>>, OpenCause>
     requires limit { limit ≤ 480 }
     requires room { 512 * (2 + 2 * limit) ≤ D.extent disk.old }
-    ensures step { Step D.Disk disk.old disk.new result (λ cause. cause ≡ OpenCause.Device) }
+    ensures step { DiskStep D.Disk disk.old disk.new result (λ cause. cause ≡ OpenCause.Device) }
     ensures quiet { IfErr result (λ cause. cause ≢ OpenCause.Device → D.failures disk.new ≡ D.failures disk.old) }
     ensures cause { IfErr result (λ cause. (cause ≡ OpenCause.Device) ⊎ (cause ≡ OpenCause.Memory)) }
     ensures many { IfOk result (λ all. IfSome all (λ found. length found.heads.items ≡ length names.now)) }
@@ -37,7 +37,7 @@ pub fn scan<D: Disk, A: Allocator + Copy>(
     ensures found { D.honest → IfOk result (λ all. IfSome all (λ found. found.heads.items ≡ map (head_at (D.state disk.old).bytes) names.now)) }
     ensures none { D.honest → IfOk result (λ all. IsNone all → CanStand limit (map (head_at (D.state disk.old).bytes) names.now) → ⊥) }
     ensures seen { D.honest → (D.state disk.new).bytes ≡ (D.state disk.old).bytes }
-    ensures left { Leaves D.Disk disk.old disk.new (IsCrashImage (D.state disk.old)) }
+    ensures left { LeavesImages D.Disk disk.old disk.new (IsCrashImage (D.state disk.old)) }
 {
     let mut free = pool(alloc, limit)?;
     let mut heads = Vec::with_capacity(alloc, names.len())?;
@@ -61,7 +61,7 @@ fn read_head<D: Disk, A: Allocator + Copy>(
     name: u16,
 ) -> Result<Option<Head<A>>, OpenCause>
     requires { 512 * length free.old ≤ D.extent disk.old }
-    ensures step { Step D.Disk disk.old disk.new result (λ cause. cause ≡ OpenCause.Device) }
+    ensures step { DiskStep D.Disk disk.old disk.new result (λ cause. cause ≡ OpenCause.Device) }
     ensures quiet { IfErr result (λ cause. cause ≢ OpenCause.Device → D.failures disk.new ≡ D.failures disk.old) }
     ensures cause { IfErr result (λ cause. (cause ≡ OpenCause.Device) ⊎ (cause ≡ OpenCause.Memory)) }
     ensures fit { IfOk result (λ found. IfSome found (IsFit free.old)) }
@@ -71,7 +71,7 @@ fn read_head<D: Disk, A: Allocator + Copy>(
     ensures memory { D.honest → IsErrOf result OpenCause.Memory → IsHead (head_at (D.state disk.old).bytes name) }
     ensures unclaimed { IsErrOf result OpenCause.Memory → (is_free free.old name ≡ true) × (free.new ≡ slice_set free.old name false) }
     ensures seen { D.honest → (D.state disk.new).bytes ≡ (D.state disk.old).bytes }
-    ensures left { Leaves D.Disk disk.old disk.new (IsCrashImage (D.state disk.old)) }
+    ensures left { LeavesImages D.Disk disk.old disk.new (IsCrashImage (D.state disk.old)) }
 {
     if !free.take(name) {
         return Ok(None);

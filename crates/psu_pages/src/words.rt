@@ -5,12 +5,12 @@ ghost use Rattle.psu_disk.specs.Disk.{Range};
 ghost use Rattle.psu_pages.specs.Finding.{IsSound, IsUnsound};
 
 use crate::BadImage;
-use crate::gates::OPEN;
+use crate::gates::GATE_OPEN;
 use crate::version::is_known;
 
 /// The fields of a root after its gate, without its number and the pages of its heads.
 #[derive(Clone, Copy, Debug, Drop)]
-pub struct Words {
+pub(crate) struct Words {
     /// `PSU` in a root of this format.
     pub mark: [u8; 3],
     pub version: u16,
@@ -21,7 +21,7 @@ pub struct Words {
 }
 
 /// Decodes the fields of a root's page.
-pub fn words_on(page: &[u8]) -> Words
+pub(crate) fn words_on(page: &[u8]) -> Words
     requires { length page.now ≡ 512 }
     ensures mark { result.mark ≡ Range 1 3 page.now }
     ensures version { result.version ≡ from_be_bytes w16 (Range 4 2 page.now) }
@@ -37,11 +37,11 @@ pub fn words_on(page: &[u8]) -> Words
 }
 
 /// Returns the number of a root's page if its gate is open.
-pub fn open_number(page: &[u8]) -> Option<u64>
+pub(crate) fn open_number(page: &[u8]) -> Option<u64>
     requires { length page.now ≡ 512 }
     ensures { result ≡ (if slice_index page.now 0 == 165 then Some (from_be_bytes w64 (Range 8 8 page.now)) else None) }
 {
-    if page[0] != OPEN {
+    if page[0] != GATE_OPEN {
         return None;
     }
     let (_, rest) = page.split_at(8);
@@ -52,7 +52,7 @@ pub fn open_number(page: &[u8]) -> Option<u64>
 }
 
 /// Decodes the number of two bytes.
-pub fn word(bytes: &[u8]) -> u16
+pub(crate) fn word(bytes: &[u8]) -> u16
     requires { length bytes.now ≡ 2 }
     ensures { result ≡ from_be_bytes w16 bytes.now }
 {
@@ -60,7 +60,7 @@ pub fn word(bytes: &[u8]) -> u16
 }
 
 /// Decodes the number of four bytes.
-pub fn long(bytes: &[u8]) -> u32
+pub(crate) fn long(bytes: &[u8]) -> u32
     requires { length bytes.now ≡ 4 }
     ensures { result ≡ from_be_bytes w32 bytes.now }
 {
@@ -78,7 +78,7 @@ fn word_at(page: &[u8], at: usize) -> u16
 }
 
 /// Checks that the fields are those of a root of this format, of a supported version, on a disk of this size.
-pub fn check(words: &Words, size: u64) -> Result<(), BadImage>
+pub(crate) fn check(words: &Words, size: u64) -> Result<(), BadImage>
     ensures sound { OnOk result (IsSound words.now size) }
     ensures unsound { IfErr result (IsUnsound words.now size) }
 {

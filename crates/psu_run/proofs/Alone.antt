@@ -8,13 +8,13 @@ use Rattle.psu_items.specs.Image.{EachRepresents}
 use Rattle.psu_nv.specs.Contents.{Contents, IsContents, items_of}
 use Rattle.psu_lex.specs.declared.scpi_error.ScpiError.{ScpiError}
 use Rattle.psu_instrument.specs.Macros.{CallGives, ExpandsAt, written}
-use Rattle.psu_tree.specs.declared.unit_request.Request.{Request}
+use Rattle.psu_tree.specs.declared.command.Request.{Request}
 use Rattle.psu_exec.specs.declared.condition.Condition.TheVariants.{Whole}
 use Rattle.psu_exec.specs.Device.{Reply, Done, Answer, Error, Expand, Parked, Held, Later, State, Flush, AnswersCall, MayAnswer, LockedOut, TooEarly, Runs, Expands, Means, answer_call, after_unit, count_held, target, wait_of}
 use Rattle.psu_exec.specs.Calls.{JobData, JobEnd, JobKind, Commit, Stored, Unstarted, Failed, Reopened, Job, Executed, Settled, Took, GaveBack, HasNone, HasWork, ends_wait, job_out, kind_for, stored, with_stored, settle_answer, after_settle, settled, unparked, wait_less}
 use Rattle.psu_exec.specs.World.{World}
 use Rattle.psu_exec.proofs.Denied.{later_leaves}
-use Rattle.psu_run.specs.Lives.{Calls}
+use Rattle.psu_run.specs.Lives.{CallsOnWorld}
 use Rattle.psu_run.specs.Script as script
 use Rattle.psu_run.specs.Script.{Rest, UnitOutcome, Replies, Early, ByMacro, ByMeaning, HasOutcome, HasOutcomeFrom, flushed_by, flushed, waited, after_reply}
 use Rattle.psu_run.specs.Runs.{none, JobDone, Jobs, Flushes, IsMeant, IsSound, EndsJob, is_later, Acts, UnitRuns, is_final}
@@ -49,7 +49,7 @@ target_of : State → List Item
 target_of s = target s.flush
 
 -- the state after a job that is stored
-stored_is : (r : Rest) (w taken new : World) (job : JobData) (limit : ℕ) (map : List Item) (over : List ℕ) → Still r w → Calls w (Took (Job job)) taken → Calls taken (GaveBack (Stored limit map) (Some over)) new
+stored_is : (r : Rest) (w taken new : World) (job : JobData) (limit : ℕ) (map : List Item) (over : List ℕ) → Still r w → CallsOnWorld w (Took (Job job)) taken → CallsOnWorld taken (GaveBack (Stored limit map) (Some over)) new
     → Still (committed r) new
 unfolding target_of
 stored_is r w taken new job limit map over q take give =
@@ -85,7 +85,7 @@ job_alone r w new q j = (some (subst (λ (s : State). HasWork s.flush) q.state j
   kind_is : j.job.kind ≡ kind_for r.state.flush.store
   kind_is = ap (λ (d : JobData). d.kind) j.take.1.2.0.2 ∙ ap (λ (s : State). kind_for (job_out s.flush).store) q.state ∙ ap (λ (f : Flush). kind_for f.store) (committing r.state.flush q.whole)
 
-  by : (end : JobEnd) → EndsJob j.job.kind end → IsSound none new.disk.bytes end → Calls j.taken (GaveBack end (Some j.over)) new → Still (committed r) new
+  by : (end : JobEnd) → EndsJob j.job.kind end → IsSound none new.disk.bytes end → CallsOnWorld j.taken (GaveBack end (Some j.over)) new → Still (committed r) new
   by (Stored limit map) own sound give = stored_is r w j.taken new j.job limit map j.over q j.take give
   by (Unstarted limit before edits cause) own sound give = let worn = sound.0 in cc
   by (Failed limit before edits cause) own sound give = cc
@@ -172,7 +172,7 @@ calm_reply r s c o same holds h free m = subst (λ (z : State). Replies z c o) s
 
 -- a call that leaves the disk unchanged, stated on the script's state
 abbrev Answers : World → Request → Reply → World → Type 0
-Answers w c o new = Calls w (Executed 1 c o) new
+Answers w c o new = CallsOnWorld w (Executed 1 c o) new
 
 after_call : (r : Rest) (w new : World) (c : Request) (o : Reply) → w.state ≡ r.state → Answers w c o new → new.state ≡ after_unit r.state 1 c o
 after_call r w new c o same call = ap (λ (z : World). z.state) call.1.4 ∙ call.1.2.1.is ∙ ap (λ (s : State). after_unit s 1 c o) same
@@ -228,7 +228,7 @@ settle_keeps f o = by (ends_wait o) where
   by true = (refl, refl, refl)
   by false = (refl, refl, refl)
 
-settle_at : (r : Rest) (w new : World) (o : Reply) → Still r w → Calls w (Settled 1 o) new → is_final o ≡ true → Same (waited r) o new
+settle_at : (r : Rest) (w new : World) (o : Reply) → Still r w → CallsOnWorld w (Settled 1 o) new → is_final o ≡ true → Same (waited r) o new
 settle_at r w new o q call final =
     let reply : o ≡ settle_answer (wait_of r.state.flush 1) = call.1.2.1 ∙ ap (λ (s : State). settle_answer (wait_of s.flush 1)) q.state in
     let there : new.disk ≡ w.disk = ap (λ (z : World). z.disk) call.1.4 ∙ call.1.3 in

@@ -6,10 +6,10 @@ use Rattle.psu_lex.specs.Message.{Part, IsMessage}
 use Rattle.psu_lex.specs.declared.scpi_error.ScpiError.{ScpiError}
 use Rattle.psu_tree.specs.Reading.{Moves}
 use Rattle.psu_tree.specs.declared.command.Command.{Command}
-use Rattle.psu_tree.specs.declared.unit_request.Request.{Request}
+use Rattle.psu_tree.specs.declared.command.Request.{Request}
 use Rattle.psu_messages.specs.Units as units
-use Rattle.psu_messages.specs.Units.{Asks, Fault, HasNone, IsBehind, IsRequest, IsUnit, Leads, Source, faulty, path_at}
-use Rattle.psu_messages.specs.Units.Leads.{Root, Behind}
+use Rattle.psu_messages.specs.Units.{Asks, Fault, HasNone, IsBehind, IsRequest, IsUnit, LeadsToPath, Source, faulty, path_at}
+use Rattle.psu_messages.specs.Units.LeadsToPath.{Root, Behind}
 use Rattle.psu_run.specs.Lines.{AreAsked, AreRequests}
 use Rattle.psu_run.proofs.Readings.{SomeReading}
 use Rattle.psu_run.proofs.Scripts.{Ones, some_requests}
@@ -37,7 +37,7 @@ reads_then inside [] path requests end rest more (none, here) asks =
 reads_then inside (p ∷ parts) path requests end rest more (first, others, mid, reads, on, same) asks =
     (first, others ++ more, mid, reads, reads_then inside parts mid others end rest more on asks, ap (λ (l : List Request). l ++ more) same)
 
-leads_on : (inside : Bool) (parts : List Part) (path : List (List ℕ)) → Leads inside parts path → (requests : List Request) × ReadsOn inside [] parts requests path
+leads_on : (inside : Bool) (parts : List Part) (path : List (List ℕ)) → LeadsToPath inside parts path → (requests : List Request) × ReadsOn inside [] parts requests path
 leads_on inside parts path Root = ([], (refl, refl))
 leads_on inside parts path (Behind {parts = before} {path = from} l part request next is) =
     let a = leads_on inside before from l in (a.0 ++ request ∷ [], reads_more inside before [] a.0 from part request next a.1 is)

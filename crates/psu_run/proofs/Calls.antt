@@ -12,20 +12,20 @@ use Rattle.psu_exec.specs.Calls.{Entry, Executed, Settled, Took, GaveBack, Opene
 use Rattle.psu_exec.specs.World.{World, Running, Event, Call, Happens, Run, DiskAfter, after, without_power}
 use Rattle.psu_exec.specs.declared.exec.Exec.{Exec}
 use Rattle.psu_exec.specs.declared.idle_store.IdleStore.{IdleStore}
-use Rattle.psu_tree.specs.declared.unit_request.Request.{Request}
+use Rattle.psu_tree.specs.declared.command.Request.{Request}
 use Rattle.psu_nv.specs.Commands.{Command as Change, applied}
 use Rattle.psu_exec.proofs.Events.{other_disk, prefix_is_left, run_keeps, while_running}
 use Rattle.psu_exec.proofs.Invariant.{kept_at_start, left_in_life, only_left}
 use Rattle.psu_run.specs.Lines.{Message}
-use Rattle.psu_run.specs.Lives.{Life, disk_at, world_of, lived, Calls, CallsAll, unit_in, units_in, PowersOn, IsLeftBy, LeavesPrefix, Reached, StandsForPrefix}
-use Rattle.psu_run.specs.Moments.{Leads}
+use Rattle.psu_run.specs.Lives.{Life, disk_at, world_of, lived, CallsOnWorld, CallsAll, unit_in, units_in, PowersOn, IsLeftBy, LeavesPrefix, Reached, StandsForPrefix}
+use Rattle.psu_run.specs.Moments.{CallsLead}
 use Rattle.psu_run.specs.Runs.{Mishaps, JobDone, Jobs, Flushes, Acts, Begins, UnitRuns, UnitsBegin, UnitsRun, ReplyBegins, ReplyRuns, LineBegins, LineRuns, NextBegins, is_final}
 
 -- ---- one call of the code
 
 -- a call that leaves the disk unchanged
 pub called : {D A : Type 0} {G : Ghosts D} (old new : Exec D A G) (life : Life) (entry : Entry) → Allows old.device entry new.device → new.idle_store ≡ old.idle_store
-    → ((d : DiskState) → d ≡ disk_at old.idle_store → DiskAfter (world_of life old) entry d) → Calls (world_of life old) entry (world_of (lived life old.device entry) new)
+    → ((d : DiskState) → d ≡ disk_at old.idle_store → DiskAfter (world_of life old) entry d) → CallsOnWorld (world_of life old) entry (world_of (lived life old.device entry) new)
 called {D} {A} {G} old new life entry allows idle_store stays = (disk_at new.idle_store, (new.device, refl, allows, stays (disk_at new.idle_store) (ap (λ (z : Option (IdleStore D A G)). disk_at z) idle_store), refl))
 
 -- ---- lists of calls
@@ -47,7 +47,7 @@ pub record Executes (w : World) (requests : List Request) (new : World) : Type 0
 pub executes_none : (w : World) → Executes w [] w
 executes_none w = record { entries = []; calls = refl; are = refl }
 
-pub executes_one : (w : World) (entry : Entry) (new : World) → Calls w entry new → Executes w (unit_in entry) new
+pub executes_one : (w : World) (entry : Entry) (new : World) → CallsOnWorld w entry new → Executes w (unit_in entry) new
 executes_one w entry new c = record { entries = entry ∷ []; calls = (new, c, refl); are = append-nil (unit_in entry) }
 
 pub executes_join : (w mid new : World) (xs ys : List Request) → Executes w xs mid → Executes mid ys new → Executes w (xs ++ ys) new
@@ -101,24 +101,24 @@ unit_calls can w new request reply (inr (late, over, c, f, a)) =
 
 -- ---- calls of any kind
 
-made_none : (w new : World) → new ≡ w → Leads w new
+made_none : (w new : World) → new ≡ w → CallsLead w new
 made_none w new same = ([], same)
 
-pub leads_join : (w mid new : World) → Leads w mid → Leads mid new → Leads w new
+pub leads_join : (w mid new : World) → CallsLead w mid → CallsLead mid new → CallsLead w new
 leads_join w mid new m n = (m.0 ++ n.0, calls_join m.0 n.0 w mid new m.1 n.1)
 
-pub leads_one : (w new : World) (entry : Entry) → Calls w entry new → Leads w new
+pub leads_one : (w new : World) (entry : Entry) → CallsOnWorld w entry new → CallsLead w new
 leads_one w new entry c = (entry ∷ [], (new, c, refl))
 
-made_then : (w mid new : World) (requests : List Request) → Executes w requests mid → Leads mid new → Leads w new
+made_then : (w mid new : World) (requests : List Request) → Executes w requests mid → CallsLead mid new → CallsLead w new
 made_then w mid new requests e m = leads_join w mid new (e.entries, e.calls) m
 
-units_made : (requests : List Request) (can : Mishaps) (w new : World) (answers all : List (List ℕ)) → UnitsRun can w answers requests all new → Leads w new
+units_made : (requests : List Request) (can : Mishaps) (w new : World) (answers all : List (List ℕ)) → UnitsRun can w answers requests all new → CallsLead w new
 units_made [] can w new answers all u = made_none w new u.0
 units_made (request ∷ requests) can w new answers all (reply, mid, u, more) =
     made_then w mid new (request ∷ []) (unit_calls can w mid request reply u) (units_made requests can mid new _ all more)
 
-reply_made : (reply : Reply) (can : Mishaps) (w new : World) (answers all : List (List ℕ)) → ReplyRuns can w answers reply all new → Leads w new
+reply_made : (reply : Reply) (can : Mishaps) (w new : World) (answers all : List (List ℕ)) → ReplyRuns can w answers reply all new → CallsLead w new
 reply_made (Expand bytes) can w new answers all (requests, asks, u) = units_made requests can w new answers all u
 reply_made Done can w new answers all u = made_none w new u.0
 reply_made (Answer a) can w new answers all u = made_none w new u.0
@@ -127,24 +127,24 @@ reply_made Parked can w new answers all u = made_none w new u.0
 reply_made Held can w new answers all u = made_none w new u.0
 reply_made Later can w new answers all u = made_none w new u.0
 
-pub line_made : (requests : List Request) (can : Mishaps) (w new : World) (answers all : List (List ℕ)) → LineRuns can w answers requests all new → Leads w new
+pub line_made : (requests : List Request) (can : Mishaps) (w new : World) (answers all : List (List ℕ)) → LineRuns can w answers requests all new → CallsLead w new
 line_made [] can w new answers all u = made_none w new u.0
-line_made (request ∷ requests) can w new answers all (reply, mid, some, after, u, told, more) =
+line_made (request ∷ requests) can w new answers all (reply, mid, some, after, u, reported, more) =
     made_then w mid new (request ∷ []) (unit_calls can w mid request reply u)
-    (leads_join mid after new (reply_made reply can mid after answers some told) (line_made requests can after new some all more))
+    (leads_join mid after new (reply_made reply can mid after answers some reported) (line_made requests can after new some all more))
 
 -- ---- what has begun, as calls
 
-begins_made : (requests : List Request) (w new : World) → Begins w requests new → Leads w new
+begins_made : (requests : List Request) (w new : World) → Begins w requests new → CallsLead w new
 begins_made requests w new b = (b.0, b.1)
 
-units_begun : (requests : List Request) (can : Mishaps) (w new : World) (answers all : List (List ℕ)) → UnitsBegin can w answers requests all new → Leads w new
+units_begun : (requests : List Request) (can : Mishaps) (w new : World) (answers all : List (List ℕ)) → UnitsBegin can w answers requests all new → CallsLead w new
 units_begun [] can w new answers all u = made_none w new u.0
 units_begun (request ∷ requests) can w new answers all (inl (b, is)) = begins_made (request ∷ []) w new b
 units_begun (request ∷ requests) can w new answers all (inr (reply, mid, u, more)) =
     made_then w mid new (request ∷ []) (unit_calls can w mid request reply u) (units_begun requests can mid new _ all more)
 
-reply_begun : (reply : Reply) (can : Mishaps) (w new : World) (answers all : List (List ℕ)) → ReplyBegins can w answers reply all new → Leads w new
+reply_begun : (reply : Reply) (can : Mishaps) (w new : World) (answers all : List (List ℕ)) → ReplyBegins can w answers reply all new → CallsLead w new
 reply_begun (Expand bytes) can w new answers all (requests, asks, u) = units_begun requests can w new answers all u
 reply_begun Done can w new answers all u = made_none w new u.0
 reply_begun (Answer a) can w new answers all u = made_none w new u.0
@@ -153,16 +153,16 @@ reply_begun Parked can w new answers all u = made_none w new u.0
 reply_begun Held can w new answers all u = made_none w new u.0
 reply_begun Later can w new answers all u = made_none w new u.0
 
-line_begun : (requests : List Request) (can : Mishaps) (w new : World) (answers all : List (List ℕ)) → LineBegins can w answers requests all new → Leads w new
+line_begun : (requests : List Request) (can : Mishaps) (w new : World) (answers all : List (List ℕ)) → LineBegins can w answers requests all new → CallsLead w new
 line_begun [] can w new answers all u = made_none w new u.0
 line_begun (request ∷ requests) can w new answers all (inl (b, is)) = begins_made (request ∷ []) w new b
 line_begun (request ∷ requests) can w new answers all (inr (inl (reply, mid, u, r))) =
     made_then w mid new (request ∷ []) (unit_calls can w mid request reply u) (reply_begun reply can mid new answers all r)
-line_begun (request ∷ requests) can w new answers all (inr (inr (reply, mid, some, after, u, told, more))) =
+line_begun (request ∷ requests) can w new answers all (inr (inr (reply, mid, some, after, u, reported, more))) =
     made_then w mid new (request ∷ []) (unit_calls can w mid request reply u)
-    (leads_join mid after new (reply_made reply can mid after answers some told) (line_begun requests can after new some all more))
+    (leads_join mid after new (reply_made reply can mid after answers some reported) (line_begun requests can after new some all more))
 
-pub next_begun : (ms : List Message) (can : Mishaps) (w new : World) (text : List ℕ) → NextBegins can w ms text new → Leads w new
+pub next_begun : (ms : List Message) (can : Mishaps) (w new : World) (text : List ℕ) → NextBegins can w ms text new → CallsLead w new
 next_begun [] can w new text n = begins_made [] w new n.0
 next_begun (m ∷ ms) can w new text (inl n) = begins_made [] w new n.0
 next_begun (m ∷ ms) can w new text (inr n) = line_begun n.0 can w new [] n.2 n.3
@@ -185,7 +185,7 @@ begins_then w mid new done rest e b = (
 )
 
 -- one more call that executes no unit
-pub begins_idle : (w mid new : World) (entry : Entry) (requests : List Request) → Begins w requests mid → Calls mid entry new → unit_in entry ≡ [] → Begins w requests new
+pub begins_idle : (w mid new : World) (entry : Entry) (requests : List Request) → Begins w requests mid → CallsOnWorld mid entry new → unit_in entry ≡ [] → Begins w requests new
 begins_idle w mid new entry requests b c idle = (
   b.0 ++ entry ∷ [],
   calls_join b.0 (entry ∷ []) w mid new b.1 (new, c, refl),
@@ -202,14 +202,14 @@ run_more : (events : List Event) (first w new : World) (event : Event) → Run f
 run_more [] first w new event r h = (new, subst (λ (z : World). Happens z event new) r h, refl)
 run_more (e ∷ events) first w new event r h = (r.0, r.1, run_more events r.0 w new event r.2 h)
 
-pub reached_call : (w new : World) (entry : Entry) → Calls w entry new → Reached w → Reached new
+pub reached_call : (w new : World) (entry : Entry) → CallsOnWorld w entry new → Reached w → Reached new
 reached_call w new entry c r = record { first = r.first; events = r.events ++ Call entry c.0 ∷ []; start = r.start; run = run_more r.events r.first w new (Call entry c.0) r.run c.1 }
 
 pub reached_calls : (entries : List Entry) (w new : World) → CallsAll w entries new → Reached w → Reached new
 reached_calls [] w new c r = subst Reached (sym c) r
 reached_calls (entry ∷ entries) w new c r = reached_calls entries c.0 new c.2 (reached_call w c.0 entry c.1 r)
 
-pub reached_made : (w new : World) → Leads w new → Reached w → Reached new
+pub reached_made : (w new : World) → CallsLead w new → Reached w → Reached new
 reached_made w new m r = reached_calls m.0 w new m.1 r
 
 pub reached_on : (image : List ℕ) (new : World) → PowersOn image new → Reached new
@@ -246,7 +246,7 @@ leaves_prefix w disk r (inr (limit, map, was, is, size)) = same_prefix w disk li
 
 -- ---- the disk once all is flushed
 
-pub call_running : (w new : World) (entry : Entry) → Calls w entry new → new.mode ≡ Running
+pub call_running : (w new : World) (entry : Entry) → CallsOnWorld w entry new → new.mode ≡ Running
 call_running w new entry c = ap (λ (z : World). z.mode) c.1.4 ∙ c.1.1
 
 pub flush_running : (can : Mishaps) (w new : World) → Flushes can w new → new.mode ≡ Running

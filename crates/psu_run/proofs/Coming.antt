@@ -2,7 +2,7 @@
 use Rattle.std.proofs.Common.{◌≡◌, ◌⊎◌, ℕ, ◌+◌, ◌<◌, ◌≤◌, Bool, true, false, Option, Some, None, List, [], ◌∷◌, ◌++◌, length, drop, length-drop, zero, suc, refl, sym, ap, ◌∙◌, subst, inl, inr, arith, append_assoc, append-nil}
 use Rattle.psu_disk.specs.declared.disk.Disk.{Ghosts}
 use Rattle.psu_lex.specs.Message.{Part}
-use Rattle.psu_tree.specs.declared.unit_request.Request.{Request}
+use Rattle.psu_tree.specs.declared.command.Request.{Request}
 use Rattle.psu_messages.specs.ResponseBuffer.{Text, addition, emptied, nothing}
 use Rattle.psu_messages.specs.Response.{are_some, end_of, joined, response}
 use Rattle.psu_messages.proofs.Joining.{joined_more, some_more}
@@ -19,7 +19,7 @@ use Rattle.psu_messages.proofs.Messaging.{end_first}
 use Rattle.psu_messages.proofs.Turning.{no_ask}
 use Rattle.psu_run.specs.Effects.{IsDone}
 use Rattle.psu_run.specs.Output.{Says, OutputState}
-use Rattle.psu_run.specs.Progress.{Continues}
+use Rattle.psu_run.specs.Progress.{DeviceContinues}
 use Rattle.psu_run.specs.Runs.{Mishaps, LineRuns, UnitRuns, UnitsRun, is_expansion, is_final}
 use Rattle.psu_run.specs.Script.{with_answer}
 use Rattle.psu_run.proofs.Asking.{FirstAsked, FirstOf, asked_next, first_all, first_next}
@@ -39,10 +39,10 @@ LineExpands can w done request body inner all v =
 -- Outside of an expansion: these units of the line are done, and their answers are output or in the response buffer.
 pub record Outside {D A : Type 0} {G : Ghosts D} (source : Source) (old : Exec D A G) (output : OutputState) (new : Exec D A G) (now : OutputState) (place : ℕ) (text : Text) : Type 0 where
   pub done : List Request
-  pub asked : FirstAsked source place done
+  pub requested : FirstAsked source place done
   pub all : List (List ℕ)
   pub none : place ≡ 0 → all ≡ []
-  pub goes : Continues old new (λ can w v. LineRuns can w [] done all v)
+  pub goes : DeviceContinues old new (λ can w v. LineRuns can w [] done all v)
   pub sent : List ℕ
   pub says : Says output now sent
   pub joins : sent ++ text.rest ≡ joined all
@@ -51,9 +51,9 @@ pub record Outside {D A : Type 0} {G : Ghosts D} (source : Source) (old : Exec D
 -- All units of the line are done, and their answers are output with the end of the response.
 pub record Over {D A : Type 0} {G : Ghosts D} (source : Source) (old : Exec D A G) (output : OutputState) (new : Exec D A G) (now : OutputState) (place : ℕ) (text : Text) : Type 0 where
   pub done : List Request
-  pub asked : FirstAsked source place done
+  pub requested : FirstAsked source place done
   pub all : List (List ℕ)
-  pub goes : Continues old new (λ can w v. LineRuns can w [] done all v)
+  pub goes : DeviceContinues old new (λ can w v. LineRuns can w [] done all v)
   pub says : Says output now (response all)
   pub none : text ≡ nothing
   pub over : HasNone source place
@@ -62,7 +62,7 @@ pub record Over {D A : Type 0} {G : Ghosts D} (source : Source) (old : Exec D A 
 -- one.
 pub record Inside {D A : Type 0} {G : Ghosts D} (source : Source) (old : Exec D A G) (output : OutputState) (new : Exec D A G) (now : OutputState) (place : ℕ) (expansion : Option (List ℕ)) (next : ℕ) (text : Text) : Type 0 where
   pub done : List Request
-  pub asked : FirstAsked source place done
+  pub requested : FirstAsked source place done
   pub request : Request
   pub first : Bool
   pub here : Asks source place request first
@@ -71,7 +71,7 @@ pub record Inside {D A : Type 0} {G : Ghosts D} (source : Source) (old : Exec D 
   pub inner : List Request
   pub within : FirstOf true body next inner
   pub all : List (List ℕ)
-  pub goes : Continues old new (λ can w v. LineExpands can w done request body inner all v)
+  pub goes : DeviceContinues old new (λ can w v. LineExpands can w done request body inner all v)
   pub sent : List ℕ
   pub says : Says output now sent
   pub joins : sent ++ text.rest ≡ joined all
@@ -103,7 +103,7 @@ asked_none some (Fault error) = refl
 pub at_start : {D A : Type 0} {G : Ghosts D} (some : SomeUnits) (source : Source) (old : Exec D A G) (output : OutputState) → Outside source old output old output 0 nothing
 at_start some source old output = record {
   done = [];
-  asked = asked_none some source;
+  requested = asked_none some source;
   all = [];
   none = λ e. refl;
   goes = goes_none old (λ can w v. LineRuns can w [] [] [] v) (λ can w. (refl, refl));
@@ -125,13 +125,13 @@ ended sent rest all joins some = sym (append_assoc sent rest (10 ∷ [])) ∙ ap
 module _ {D A : Type 0} {G : Ghosts D} {source : Source} {old mid new : Exec D A G} {output now : OutputState} where
   -- a unit that is not replaced
   pub passes : Ones → {place : ℕ} {text : Text} (request : Request) (first : Bool) (reply : Reply) → Outside source old output mid now place text → Asks source place request first → is_expansion reply ≡ false
-      → Continues mid new (λ can w v. UnitRuns can w request reply v) → Outside source old output new now (place + 1) (text_after text reply)
+      → DeviceContinues mid new (λ can w v. UnitRuns can w request reply v) → Outside source old output new now (place + 1) (text_after text reply)
   passes ones {place} {text} request first reply o asks plain runs =
       let all = with_answer o.all reply in
       let given = replied o.sent text o.all reply o.joins o.begun in
       record {
         done = o.done ++ request ∷ [];
-        asked = asked_next ones source place o.done request first o.asked asks;
+        requested = asked_next ones source place o.done request first o.requested asks;
         all = all;
         none = λ e. absurd (omega (arith, e));
         goes = goes_then old mid new (λ can w v. LineRuns can w [] o.done o.all v) (λ can w v. UnitRuns can w request reply v) (λ can w v. LineRuns can w [] (o.done ++ request ∷ []) all v) o.goes runs
@@ -144,12 +144,12 @@ module _ {D A : Type 0} {G : Ghosts D} {source : Source} {old mid new : Exec D A
 
   -- one that an expansion replaces
   pub expands : SomeUnits → {place : ℕ} {text : Text} (request : Request) (first : Bool) (body : List ℕ) → Outside source old output mid now place text → Asks source place request first
-      → Continues mid new (λ can w v. UnitRuns can w request (Expand body) v) → Inside source old output new now place (Some body) 0 text
+      → DeviceContinues mid new (λ can w v. UnitRuns can w request (Expand body) v) → Inside source old output new now place (Some body) 0 text
   expands some {place} {text} request first body o asks runs =
       let list = some body in
       record {
         done = o.done;
-        asked = o.asked;
+        requested = o.requested;
         request = request;
         first = first;
         here = asks;
@@ -168,13 +168,13 @@ module _ {D A : Type 0} {G : Ghosts D} {source : Source} {old mid new : Exec D A
 
   -- one of an expansion
   pub passes_inside : Ones → {place next : ℕ} {expansion : Option (List ℕ)} {text : Text} (part : Part) (request : Request) (reply : Reply) → (i : Inside source old output mid now place expansion next text) → IsUnit true i.body next part request
-      → Continues mid new (λ can w v. UnitRuns can w request reply v) → Inside source old output new now place expansion (next + 1) (text_after text reply)
+      → DeviceContinues mid new (λ can w v. UnitRuns can w request reply v) → Inside source old output new now place expansion (next + 1) (text_after text reply)
   passes_inside ones {place} {next} {expansion} {text} part request reply i unit runs =
       let all = with_answer i.all reply in
       let given = replied i.sent text i.all reply i.joins i.begun in
       record {
         done = i.done;
-        asked = i.asked;
+        requested = i.requested;
         request = i.request;
         first = i.first;
         here = i.here;
@@ -210,7 +210,7 @@ module _ {D A : Type 0} {G : Ghosts D} {source : Source} {old new : Exec D A G} 
       let asks = first_all ones true i.body next i.inner i.within (subst (λ (z : List ℕ). IsBehind z next) same over) in
       record {
         done = i.done ++ i.request ∷ [];
-        asked = asked_next ones source place i.done i.request i.first i.asked i.here;
+        requested = asked_next ones source place i.done i.request i.first i.requested i.here;
         all = i.all;
         none = λ e. absurd (omega (arith, e));
         goes = goes_as old new (λ can w v. LineExpands can w i.done i.request i.body i.inner i.all v) (λ can w v. LineRuns can w [] (i.done ++ i.request ∷ []) i.all v) i.goes
@@ -225,7 +225,7 @@ module _ {D A : Type 0} {G : Ghosts D} {source : Source} {old new : Exec D A G} 
   pub sends : {place : ℕ} {text : Text} (later : OutputState) → Outside source old output new now place text → Says now later text.rest → Outside source old output new later place (emptied text)
   sends {place} {text} later o says = record {
     done = o.done;
-    asked = o.asked;
+    requested = o.requested;
     all = o.all;
     none = o.none;
     goes = o.goes;
@@ -239,7 +239,7 @@ module _ {D A : Type 0} {G : Ghosts D} {source : Source} {old new : Exec D A G} 
       → Inside source old output new later place expansion next (emptied text)
   sends_inside {place} {next} {expansion} {text} later i says = record {
     done = i.done;
-    asked = i.asked;
+    requested = i.requested;
     request = i.request;
     first = i.first;
     here = i.here;
@@ -259,7 +259,7 @@ module _ {D A : Type 0} {G : Ghosts D} {source : Source} {old new : Exec D A G} 
   pub ends : {place : ℕ} {text : Text} (later : OutputState) → Outside source old output new now place text → HasNone source place → text.answered ≡ true → Says now later (text.rest ++ 10 ∷ []) → Over source old output new later place nothing
   ends {place} {text} later o over answered says = record {
     done = o.done;
-    asked = o.asked;
+    requested = o.requested;
     all = o.all;
     goes = o.goes;
     says = subst (λ (z : List ℕ). Says output later z) (ended o.sent text.rest o.all o.joins (sym answered ∙ o.begun)) (says_join output now later o.sent (text.rest ++ 10 ∷ []) o.says says);
@@ -302,7 +302,7 @@ not_final reply e f = let bad = sym e ∙ f in cc
 
 module _ {D A : Type 0} {G : Ghosts D} {source : Source} {old mid new : Exec D A G} {output now : OutputState} (ones : Ones) (some : SomeUnits) where
   try_outside : (place : ℕ) (expansion : Option (List ℕ)) (text : Text) (request : Request) (first : Bool) (reply : Reply) → Outside source old output mid now place text → Asks source place request first → is_final reply ≡ true
-      → Continues mid new (λ can w v. UnitRuns can w request reply v)
+      → DeviceContinues mid new (λ can w v. UnitRuns can w request reply v)
       → (let s : Standing = standing_after (record { units = place; inside = None; parked = false }) reply in (s.parked ≡ false) × At source old output new now s.units (expansion_after None expansion reply) (text_after text reply) s.inside)
   try_outside place expansion text request first Done o asks final runs = (refl, inl (passes ones request first Done o asks refl runs))
   try_outside place expansion text request first (Answer answer) o asks final runs = (refl, inl (passes ones request first (Answer answer) o asks refl runs))
@@ -313,7 +313,7 @@ module _ {D A : Type 0} {G : Ghosts D} {source : Source} {old mid new : Exec D A
   try_outside place expansion text request first Later o asks final runs = absurd (cc (final))
 
   try_inside : (place next : ℕ) (expansion : Option (List ℕ)) (text : Text) (part : Part) (request : Request) (reply : Reply) → (i : Inside source old output mid now place expansion next text) → IsUnit true i.body next part request → is_final reply ≡ true
-      → Continues mid new (λ can w v. UnitRuns can w request reply v)
+      → DeviceContinues mid new (λ can w v. UnitRuns can w request reply v)
       → (let s : Standing = standing_after (record { units = place; inside = Some next; parked = false }) reply in (s.parked ≡ false) × At source old output new now s.units (expansion_after (Some next) expansion reply) (text_after text reply) s.inside)
   try_inside place next expansion text part request Done i unit final runs = (refl, passes_inside ones part request Done i unit runs)
   try_inside place next expansion text part request (Answer answer) i unit final runs = (refl, passes_inside ones part request (Answer answer) i unit runs)
@@ -324,7 +324,7 @@ module _ {D A : Type 0} {G : Ghosts D} {source : Source} {old mid new : Exec D A
   try_inside place next expansion text part request Later i unit final runs = absurd (cc (final))
 
 try_at : {D A : Type 0} {G : Ghosts D} (ones : Ones) (some : SomeUnits) (source : Source) (old mid new : Exec D A G) (output now : OutputState) (place : ℕ) (inside : Option ℕ) (parked : Bool) (expansion : Option (List ℕ)) (text : Text) (request : Request) (reply : Reply) → parked ≡ false → At source old output mid now place expansion text inside
-    → NextAt source (record { standing = record { units = place; inside = inside; parked = parked }; expansion = expansion; text = text }) inside request → is_final reply ≡ true → Continues mid new (λ can w v. UnitRuns can w request reply v)
+    → NextAt source (record { standing = record { units = place; inside = inside; parked = parked }; expansion = expansion; text = text }) inside request → is_final reply ≡ true → DeviceContinues mid new (λ can w v. UnitRuns can w request reply v)
     → (let s : Standing = standing_after (record { units = place; inside = inside; parked = parked }) reply in (s.parked ≡ false) × At source old output new now s.units (expansion_after inside expansion reply) (text_after text reply) s.inside)
 try_at ones some source old mid new output now place inside true expansion text request reply e at next final runs = absurd (cc (e))
 try_at ones some source old mid new output now place None false expansion text request reply e (inl o) (first, asks, clear) final runs = try_outside ones some place expansion text request first reply o asks final runs

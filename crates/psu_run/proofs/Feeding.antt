@@ -15,7 +15,7 @@ use Rattle.psu_exec.specs.Consistent.{IsConsistent}
 use Rattle.psu_exec.specs.World.{World}
 use Rattle.psu_exec.specs.declared.condition.Condition.TheVariants.{Worn}
 use Rattle.psu_exec.specs.declared.exec.Exec.{Exec}
-use Rattle.psu_tree.specs.declared.unit_request.Request.{Request}
+use Rattle.psu_tree.specs.declared.command.Request.{Request}
 use Rattle.psu_run.specs.Causes.{IsWornOut, NotStarted}
 use Rattle.psu_run.specs.Failures.{extent_of, failures_of}
 use Rattle.psu_run.specs.Jobs.{IsWornAtLast}
@@ -23,7 +23,7 @@ use Rattle.psu_run.specs.Lines.{Message, Asks, message_now, message_of, coming, 
 use Rattle.psu_run.specs.Lives.{Life, born, disk_at, world_of, IsLeftBy, PowersOn}
 use Rattle.psu_run.specs.Output.{Says, SaysUntil, OutputState}
 use Rattle.psu_run.specs.Moments.{IsBetween, IsWhile, Since, disk_in}
-use Rattle.psu_run.specs.Progress.{Breaks, EachMoment, Fed, Continues, DeviceStops, RunsOn, Spans, Stopped, RunEnds, RunEndsHere}
+use Rattle.psu_run.specs.Progress.{Breaks, EachMoment, Fed, DeviceContinues, DeviceStops, RunsOn, Spans, Stopped, RunEnds, RunEndsHere}
 use Rattle.psu_run.specs.Reasons.{IsAtPower, IsHaltedBy, StopsFor, never}
 use Rattle.psu_run.specs.Runs.{Mishaps, any, none, Flushes, LineBegins, LineRuns, MessageBegins, MessageRuns, NextBegins, Reopens, Runs}
 use Rattle.psu_run.specs.declared.run_cause.RunCause.{RunCause}
@@ -49,7 +49,7 @@ abbrev pub OutputsLine : {D A : Type 0} {G : Ghosts D} → Message → Exec D A 
 OutputsLine m old new output now = (text : List ℕ) × Says output now text × RunsOn old new (m ∷ []) text
 
 -- the result of a message whose units gave these answers
-pub outputs_line : {D A : Type 0} {G : Ghosts D} (m : Message) (requests : List Request) (answers : List (List ℕ)) (old new : Exec D A G) (a b : OutputState) → Asks m requests → is_power m ≡ false → Continues old new (λ can w v. LineRuns can w [] requests answers v)
+pub outputs_line : {D A : Type 0} {G : Ghosts D} (m : Message) (requests : List Request) (answers : List (List ℕ)) (old new : Exec D A G) (a b : OutputState) → Asks m requests → is_power m ≡ false → DeviceContinues old new (λ can w v. LineRuns can w [] requests answers v)
     → Says a b (response answers) → OutputsLine m old new a b
 outputs_line m requests answers old new a b asks plain runs says = (
   response answers,
@@ -120,7 +120,7 @@ restart_moments {D} {A} {G} old mid disk to life next rest e spans at same was o
       prefix_of_map over f.limit f.before x (reached_made w over spans.leads r) (subst (λ (d : DiskState). EachRepresents d f.limit f.before) at was) (still_represents (Ghosts.state G disk) f.limit f.before was x kept),
     ))
 
-pub restart_runs : {D A : Type 0} {G : Ghosts D} (old mid new : Exec D A G) (disk : D) → Continues old mid Reopens → Ghosts.state G disk ≡ disk_at mid.idle_store → ForSome mid.idle_store (λ h. disk ≡ idle_disk h)
+pub restart_runs : {D A : Type 0} {G : Ghosts D} (old mid new : Exec D A G) (disk : D) → DeviceContinues old mid Reopens → Ghosts.state G disk ≡ disk_at mid.idle_store → ForSome mid.idle_store (λ h. disk ≡ idle_disk h)
     → (Ghosts.honest G → EachRepresents (Ghosts.state G disk) mid.device.flush.limit mid.device.flush.before)
     → (Ghosts.honest G → PowersOn (Ghosts.state G disk).bytes (world_of (born new) new)) → failures_of new ≡ Ghosts.failures G disk → Ghosts.failures G disk ≡ failures_of mid
     → extent_of new ≡ Ghosts.extent G disk → Ghosts.extent G disk ≡ extent_of mid → IsWornAtLast new
@@ -146,7 +146,7 @@ restart_runs {D} {A} {G} old mid new disk r at same_disk was starts works same s
 
 -- a restart that fails after the device was reopened
 pub restart_stops_here : {D A : Type 0} {G : Ghosts D} (old mid : Exec D A G) (disk : D) (fault : RunFault D) (rest : List Message)
-    → Continues old mid Reopens → Ghosts.state G disk ≡ disk_at mid.idle_store → ForSome mid.idle_store (λ h. disk ≡ idle_disk h) → Ghosts.failures G disk ≡ failures_of mid → Ghosts.extent G disk ≡ extent_of mid
+    → DeviceContinues old mid Reopens → Ghosts.state G disk ≡ disk_at mid.idle_store → ForSome mid.idle_store (λ h. disk ≡ idle_disk h) → Ghosts.failures G disk ≡ failures_of mid → Ghosts.extent G disk ≡ extent_of mid
     → Ghosts.failures G disk ≤ Ghosts.failures G fault.disk → Ghosts.extent G fault.disk ≡ Ghosts.extent G disk
     → (Ghosts.honest G → EachRepresents (Ghosts.state G disk) mid.device.flush.limit mid.device.flush.before)
     → (Ghosts.honest G → (limit : ℕ) (map : List Item) → EachRepresents (Ghosts.state G disk) limit map → EachRepresents (Ghosts.state G fault.disk) limit map)
@@ -277,12 +277,12 @@ fed_none before exec t = ([], [], says_none t, (λ input. refl), runs_none exec)
 fed_line : {D A : Type 0} {G : Ghosts D} (before mid : List ℕ → List Message) (front part : List ℕ) (over : Bool) (line : List ℕ) (s s1 s2 : Exec D A G) (t0 t1 t2 : OutputState)
     → Fed before front mid s s1 t0 t1 → ((input : List ℕ) → mid (part ++ input) ≡ coming over line input) → has 10 line ≡ false
     → OutputsLine (message_now over line) s1 s2 t1 t2 → Fed before (front ++ (part ++ 10 ∷ [])) (coming false []) s s2 t0 t2
-fed_line before mid front part over line s s1 s2 t0 t1 t2 f moved free output = (
+fed_line before mid front part over line s s1 s2 t0 t1 t2 f shifted free output = (
   f.0 ++ message_now over line ∷ [],
   f.1 ++ output.0,
   says_join t0 t1 t2 f.1 output.0 f.2 output.1,
   λ input. ap before (append_assoc front (part ++ 10 ∷ []) input ∙ ap (λ (z : List ℕ). front ++ z) (append_assoc part (10 ∷ []) input))
-      ∙ f.3 (part ++ 10 ∷ input) ∙ ap (λ (z : List Message). f.0 ++ z) (moved (10 ∷ input) ∙ coming_end over line input free)
+      ∙ f.3 (part ++ 10 ∷ input) ∙ ap (λ (z : List Message). f.0 ++ z) (shifted (10 ∷ input) ∙ coming_end over line input free)
       ∙ sym (append_assoc f.0 (message_now over line ∷ []) (coming false [] input)),
   runs_all s s1 s2 f.1 output.0 f.0 (message_now over line ∷ []) f.4 output.2,
 )
@@ -297,13 +297,13 @@ pub feed_step : {D A : Type 0} {G : Ghosts D} (before mid : List ℕ → List Me
     → ((input : List ℕ) → mid (take at rest ++ input) ≡ coming over line input) → has 10 line ≡ false
     → OutputsLine (message_now over line) s1 s2 t1 t2 → next_over ≡ false → next ≡ []
     → FedSo before piece (take (length rest - (at + 1)) (drop (at + 1) rest)) (coming next_over next) s s2 t0 t2
-feed_step before mid piece rest at over next_over line next s s1 s2 t0 t1 t2 found f moved free output shut none = (
+feed_step before mid piece rest at over next_over line next s s1 s2 t0 t1 t2 found f shifted free output shut none = (
   f.0 ++ (take at rest ++ 10 ∷ []),
   f.1 ∙ ap (λ (z : List ℕ). f.0 ++ z) (found_parts 10 rest at found ∙ ap (λ (z : List ℕ). take at rest ++ 10 ∷ z) (sym (whole_tail rest (at + 1))) ∙ sym (append_assoc (take at rest) (10 ∷ []) _))
       ∙ sym (append_assoc f.0 (take at rest ++ 10 ∷ []) _),
   subst (λ (o : Bool). Fed before (f.0 ++ (take at rest ++ 10 ∷ [])) (coming o next) s s2 t0 t2) (sym shut)
       (subst (λ (l : List ℕ). Fed before (f.0 ++ (take at rest ++ 10 ∷ [])) (coming false l) s s2 t0 t2) (sym none)
-      (fed_line before mid f.0 (take at rest) over line s s1 s2 t0 t1 t2 f.2 moved free output)),
+      (fed_line before mid f.0 (take at rest) over line s s1 s2 t0 t1 t2 f.2 shifted free output)),
 )
 
 pub is_power_line : (m : Message) → is_power m ≡ true → m ≡ Message.Power
@@ -318,10 +318,10 @@ outputs_power m old new t p goes = subst (λ (z : Message). OutputsLine z old ne
 -- the rest of the piece has no line feed
 pub feed_end : {D A : Type 0} {G : Ghosts D} (before mid after : List ℕ → List Message) (piece rest : List ℕ) (s s1 : Exec D A G) (t0 t1 : OutputState)
     → FedSo before piece rest mid s s1 t0 t1 → ((input : List ℕ) → mid (rest ++ input) ≡ after input) → Fed before piece after s s1 t0 t1
-feed_end before mid after piece rest s s1 t0 t1 f moved =
+feed_end before mid after piece rest s s1 t0 t1 f shifted =
     let g = f.2 in
     subst (λ (z : List ℕ). Fed before z after s s1 t0 t1) (sym f.1)
-    (g.0, g.1, g.2, (λ input. ap before (append_assoc f.0 rest input) ∙ g.3 (rest ++ input) ∙ ap (λ (z : List Message). g.0 ++ z) (moved input)), g.4)
+    (g.0, g.1, g.2, (λ input. ap before (append_assoc f.0 rest input) ∙ g.3 (rest ++ input) ∙ ap (λ (z : List Message). g.0 ++ z) (shifted input)), g.4)
 
 -- a fault after these lines
 pub feed_stops : {D A : Type 0} {G : Ghosts D} (before mid : List ℕ → List Message) (piece rest : List ℕ) (s s1 : Exec D A G) (fault : RunFault D) (t0 t1 t2 : OutputState) (part : List ℕ)
@@ -343,9 +343,9 @@ feed_stops before mid piece rest s s1 fault t0 t1 t2 part f until stop =
 pub line_first : (mid : List ℕ → List Message) (rest : List ℕ) (at : ℕ) (over : Bool) (line : List ℕ) (input : List ℕ) → IsFirstByte (is_byte 10) rest (Some at)
     → ((more : List ℕ) → mid (take at rest ++ more) ≡ coming over line more) → has 10 line ≡ false
     → mid (rest ++ input) ≡ message_now over line ∷ coming false [] (drop (at + 1) rest ++ input)
-line_first mid rest at over line input found moved free =
+line_first mid rest at over line input found shifted free =
     ap (λ (z : List ℕ). mid (z ++ input)) (found_parts 10 rest at found) ∙ ap mid (append_assoc (take at rest) (10 ∷ drop (at + 1) rest) input)
-    ∙ moved (10 ∷ (drop (at + 1) rest ++ input)) ∙ coming_end over line (drop (at + 1) rest ++ input) free
+    ∙ shifted (10 ∷ (drop (at + 1) rest ++ input)) ∙ coming_end over line (drop (at + 1) rest ++ input) free
 
 -- a flush that stops
 pub flush_stops : {D A : Type 0} {G : Ghosts D} (old new : Exec D A G) (fault : RunFault D) (cause : RunCause) → DeviceStops old new [] cause → FaultOf new fault cause → RunEndsHere never old fault [] []
@@ -354,7 +354,7 @@ flush_stops {D} {A} {G} old new fault cause s f =
     (λ h worn life. halted_stops never old new (Ghosts.failures G fault.disk) [] life (Ghosts.state G fault.disk).bytes cause fault.cause f.cause_is f.failures (λ at. at) (s.why h) (f.reason h (s.lasts.worn worn)))
 
 -- every moment of a flush
-pub flush_moments : {D A : Type 0} {G : Ghosts D} (old new : Exec D A G) (due : List Message) → Continues old new Flushes → (h : Ghosts.honest G) (life : Life) → EachMoment life old (disk_in new.idle_store) due
+pub flush_moments : {D A : Type 0} {G : Ghosts D} (old new : Exec D A G) (due : List Message) → DeviceContinues old new Flushes → (h : Ghosts.honest G) (life : Life) → EachMoment life old (disk_in new.idle_store) due
 flush_moments {D} {A} {G} old new due g h life t now r =
     let k = g.runs h life in
     let w = world_of life old in
@@ -363,7 +363,7 @@ flush_moments {D} {A} {G} old new due g h life t now r =
     (λ x between. while_idle w v due x (begins_all w v [] (flush_calls any w v (within_any _ _ (λ can. Flushes can w v) k.1))) between)
 
 -- a stop after a flush
-pub flushed_stops : {D A : Type 0} {G : Ghosts D} (old new : Exec D A G) (fault : RunFault D) → Continues old new Flushes → FaultOf new fault Device → (Ghosts.honest G → IsHaltedBy old new Device)
+pub flushed_stops : {D A : Type 0} {G : Ghosts D} (old new : Exec D A G) (fault : RunFault D) → DeviceContinues old new Flushes → FaultOf new fault Device → (Ghosts.honest G → IsHaltedBy old new Device)
     → RunEndsHere never old fault [] []
 flushed_stops {D} {A} {G} old new fault g f why = record {
   hands = hands_now old new fault.disk g.lasts f.extent f.failures;

@@ -19,11 +19,11 @@ use Rattle.psu_exec.specs.declared.job.Job.{Job as AnyJob}
 use Rattle.psu_exec.specs.declared.job.Job.TheVariants as job
 use Rattle.psu_run.specs.Failures.{failures_at, failures_of}
 use Rattle.psu_run.specs.Jobs.{Counts, HasRun}
-use Rattle.psu_run.specs.Lives.{Life, disk_at, world_of, Calls}
+use Rattle.psu_run.specs.Lives.{Life, disk_at, world_of, CallsOnWorld}
 use Rattle.psu_run.specs.Runs.{is_short, EndsJob, JobDone, Jobs, Flushes, Reopens}
 use Rattle.psu_run.specs.Within.{Within}
-use Rattle.psu_run.specs.Moments.{IsBetween, Leads, Since, disk_in}
-use Rattle.psu_run.specs.Progress.{Continues, DeviceStops, Lasts, Spans}
+use Rattle.psu_run.specs.Moments.{IsBetween, CallsLead, Since, disk_in}
+use Rattle.psu_run.specs.Progress.{DeviceContinues, DeviceStops, Lasts, Spans}
 use Rattle.psu_run.specs.declared.run_cause.RunCause.TheVariants.{Memory as RunMemory, Device as RunDevice}
 use Rattle.psu_run.proofs.Calls.{Executes, executes_one, executes_join, jobs_calls, begins_none, leads_join, leads_one, prefix_of_either, reached_made}
 use Rattle.psu_run.proofs.Moments.{since_as, spans_none, spans_same}
@@ -55,7 +55,7 @@ flush_ends {D} {A} {G} first old new life i low w took same there =
       subst (λ (z : World). Jobs i can (world_of life first) z) (sym world) jobs,
       inr (
         low,
-        subst (λ (z : World). Calls z (Took Nothing) (world_of life new)) (sym world)
+        subst (λ (z : World). CallsOnWorld z (Took Nothing) (world_of life new)) (sym world)
             (disk_at new.idle_store, (new.device, refl, took, ap (λ (z : Option (IdleStore D A G)). disk_at z) there, refl)),
       ),
     )))
@@ -154,8 +154,8 @@ pub job_spans : {D A : Type 0} {G : Ghosts D} (old taken new : Exec D A G) (j : 
 job_spans {D} {A} {G} old taken new j life short h took there run =
     let w = world_of life old in
     let mid : World = record w { state = taken.device } in
-    let takes : Leads w mid = leads_one w mid (Took (Job (job_data j))) (disk_at old.idle_store, (taken.device, refl, took, refl, refl)) in
-    let gives : Leads mid (world_of life new) = leads_one mid (world_of life new) (GaveBack run.finished (Some run.over)) (disk_at new.idle_store, (new.device, refl, run.give, run.stands h, refl)) in
+    let takes : CallsLead w mid = leads_one w mid (Took (Job (job_data j))) (disk_at old.idle_store, (taken.device, refl, took, refl, refl)) in
+    let gives : CallsLead mid (world_of life new) = leads_one mid (world_of life new) (GaveBack run.finished (Some run.over)) (disk_at new.idle_store, (new.device, refl, run.give, run.stands h, refl)) in
     let own : job_data j ≡ job_of taken.device.flush = took.0.2 ∙ ap job_of (sym (ap (λ (s : State). s.flush) took.1)) in
     record {
       leads = leads_join w mid (world_of life new) takes gives;
@@ -199,7 +199,7 @@ out_free s taken d took free = ap (λ (z : State). wait_of z.flush 1) took.1 ∙
 
 -- ---- a reopening
 
-pub reopens_none : {D A : Type 0} {G : Ghosts D} (exec : Exec D A G) → is_broken exec.device.flush.store ≡ false → Continues exec exec Reopens
+pub reopens_none : {D A : Type 0} {G : Ghosts D} (exec : Exec D A G) → is_broken exec.device.flush.store ≡ false → DeviceContinues exec exec Reopens
 reopens_none exec shut = record {
   runs = λ h life. (life, within_here _ (λ can. Reopens can (world_of life exec) (world_of life exec)) (λ can. inl (shut, refl)), spans_none exec life);
   lasts = lasts_none exec;
@@ -207,7 +207,7 @@ reopens_none exec shut = record {
 
 pub reopens_done : {D A : Type 0} {G : Ghosts D} (old taken new : Exec D A G) (j : AnyJob D A G) (short : Bool) → is_broken old.device.flush.store ≡ true
     → Allows old.device (Took (Job (job_data j))) taken.device → old.idle_store ≡ Some (job_store j) → HasRun taken j new short → short ≡ false
-    → is_broken new.device.flush.store ≡ false → Continues old new Reopens
+    → is_broken new.device.flush.store ≡ false → DeviceContinues old new Reopens
 reopens_done old taken new j short broke took there run long mended = record {
   runs = λ h life. (
     life,

@@ -39,6 +39,6 @@ if_err (Ok x) P p = tt
 if_err (Err e) P p = p e
 
 -- a fault that is propagated
-pub passed : {A E : Type 0} (r : Result A E) (e : E) (P : E → Type 0) → IsErrAnd r (λ told. told ≡ e) → P e → IfErr r P
+pub passed : {A E : Type 0} (r : Result A E) (e : E) (P : E → Type 0) → IsErrAnd r (λ reported. reported ≡ e) → P e → IfErr r P
 passed (Ok x) e P is p = tt
-passed (Err told) e P is p = subst P (sym is) p
+passed (Err reported) e P is p = subst P (sym is) p

@@ -132,8 +132,8 @@ wears_of (job.Commit planned) (finished.Stored store) runs stands long = tt
 wears_of (job.Commit planned) (finished.Unstarted store back unstarted.Memory) runs stands long = cc
 wears_of {D} {A} {G} (job.Commit planned) (finished.Unstarted store back unstarted.Worn) runs stands long =
     let disk = Ghosts.state G store.disk in
-    let told = stands.numbered disk.bytes (reads_left disk) in
-    subst (λ (n : ℕ). 2 ^ 64 ≤ n + 1) (ap (λ s. s.number) (sym runs.store) ∙ sym told) (runs.worn refl)
+    let reported = stands.numbered disk.bytes (reads_left disk) in
+    subst (λ (n : ℕ). 2 ^ 64 ≤ n + 1) (ap (λ s. s.number) (sym runs.store) ∙ sym reported) (runs.worn refl)
 wears_of (job.Commit planned) (finished.Broken broken) runs stands long = tt
 wears_of (job.Commit planned) (finished.Reopened store) runs stands long = tt
 wears_of (job.Reopen old) (finished.Stored store) runs stands long = tt

@@ -6,8 +6,8 @@ use Rattle.psu_disk.specs.declared.disk.Disk.{Ghosts}
 use Rattle.psu_exec.specs.Calls.{Executed, Allows}
 use Rattle.psu_exec.specs.Device.{Reply, Error, Parked, Later, State, Flush, MayAnswer, MayMean, TooEarly, Runs, Expands, Means, answer_call, is_full, is_late, is_later as comes_later, is_whole, wait_of, answer_complete, answer_done, answer_meant, here, kept_unless, meant as meaning_of, parks, reads_nonvolatile}
 use Rattle.psu_instrument.specs.Meaning.{Meaning, Refuses, Does, Keeps, Completes}
-use Rattle.psu_instrument.specs.declared.completion.Completion.{Completion}
-use Rattle.psu_instrument.specs.declared.completion.Completion.TheVariants as completion
+use Rattle.psu_instrument.specs.declared.act.Completion.{Completion}
+use Rattle.psu_instrument.specs.declared.act.Completion.TheVariants as completion
 use Rattle.psu_exec.specs.Shown.{outcome_of}
 use Rattle.psu_nv.specs.Commands as nv
 use Rattle.psu_nv.specs.Contents.{fits}
@@ -15,13 +15,13 @@ use Rattle.psu_exec.specs.declared.condition.Condition.TheVariants.{Worn}
 use Rattle.psu_exec.specs.declared.exec.Exec.{Exec}
 use Rattle.psu_exec.specs.declared.outcome.Outcome.{Outcome}
 use Rattle.psu_exec.specs.declared.outcome.Outcome.TheVariants as outcome
-use Rattle.psu_tree.specs.declared.unit_request.Request.{Request}
+use Rattle.psu_tree.specs.declared.command.Request.{Request}
 use Rattle.psu_exec.specs.declared.wait.Wait.{Wait}
 use Rattle.psu_lex.specs.declared.scpi_error.ScpiError.{ScpiError}
 use Rattle.psu_lex.specs.declared.scpi_error.ScpiError.TheVariants.{StorageFault}
 use Rattle.psu_run.specs.Failures.{failures_of}
 use Rattle.psu_run.specs.Lives.{Life, world_of}
-use Rattle.psu_run.specs.Progress.{Acted, Continues, DeviceStops}
+use Rattle.psu_run.specs.Progress.{Acted, DeviceContinues, DeviceStops}
 use Rattle.psu_run.specs.Reasons.{IsHaltedBy}
 use Rattle.psu_run.specs.Runs.{Flushes, is_later}
 use Rattle.psu_run.specs.declared.run_cause.RunCause.TheVariants.{Device}
@@ -89,7 +89,7 @@ later_for s request (Runs run (Means none may)) = absurd (never_means s.flush (m
 late_full : (s new : State) (request : Request) → Allows s (Executed 1 request Later) new → wait_of s.flush 1 ≡ None → is_full s.flush ≡ true
 late_full s new request t free = full_tail s.flush (reads_nonvolatile request.reading (is_none s.flush.contents.enables)) free (later_for s request t.1.may)
 
-late_halted : {D A : Type 0} {G : Ghosts D} (old mid new : Exec D A G) (request : Request) (reply : Reply) → Ghosts.honest G → Continues mid new (Acted request reply) → is_later reply ≡ true
+late_halted : {D A : Type 0} {G : Ghosts D} (old mid new : Exec D A G) (request : Request) (reply : Reply) → Ghosts.honest G → DeviceContinues mid new (Acted request reply) → is_later reply ≡ true
     → wait_of mid.device.flush 1 ≡ None → HasFailed (failures_of old) (failures_of mid) ⊎ (mid.device.flush.store ≡ Worn) ⊎ (mid.device.flush.unflushed ≡ 0) → IsHaltedBy old new Device
 late_halted old mid new request reply h a late free clean =
     let life : Life = record { limit = 0; start = mid.device.flush.contents; history = [] } in
@@ -100,8 +100,8 @@ late_halted old mid new request reply h a late free clean =
     ⊎_elim (λ failed. inl (failed_on _ _ _ a.lasts.later failed))
     (λ rest. ⊎_elim (λ worn. absurd (not_worn mid.device.flush full worn)) (λ none. absurd (omega (arith, some, none))) rest) clean
 
-pub still_late_halts : {D A : Type 0} {G : Ghosts D} (old mid over new : Exec D A G) (request : Request) (first reply : Reply) → Continues old mid (Acted request first) → is_later first ≡ true
-    → Continues mid over Flushes → Continues over new (Acted request reply) → is_later reply ≡ true → wait_of over.device.flush 1 ≡ None
+pub still_late_halts : {D A : Type 0} {G : Ghosts D} (old mid over new : Exec D A G) (request : Request) (first reply : Reply) → DeviceContinues old mid (Acted request first) → is_later first ≡ true
+    → DeviceContinues mid over Flushes → DeviceContinues over new (Acted request reply) → is_later reply ≡ true → wait_of over.device.flush 1 ≡ None
     → (Ghosts.honest G → HasFailed (failures_of mid) (failures_of over) ⊎ (over.device.flush.store ≡ Worn) ⊎ (over.device.flush.unflushed ≡ 0))
     → DeviceStops old new (request ∷ []) Device
 still_late_halts old mid over new request first reply a late f b still free clean =

@@ -4,9 +4,9 @@ use Rattle.psu_disk.specs.declared.disk.Disk.{Ghosts}
 use Rattle.psu_exec.specs.Device.{Reply, Done, Answer, Error, Expand, Parked, Held, Later}
 use Rattle.psu_exec.specs.World.{World}
 use Rattle.psu_exec.specs.declared.exec.Exec.{Exec}
-use Rattle.psu_tree.specs.declared.unit_request.Request.{Request}
+use Rattle.psu_tree.specs.declared.command.Request.{Request}
 use Rattle.psu_run.specs.Lives.{world_of}
-use Rattle.psu_run.specs.Progress.{Continues}
+use Rattle.psu_run.specs.Progress.{DeviceContinues}
 use Rattle.psu_run.specs.Runs.{Mishaps, LineBegins, LineRuns, ReplyRuns, UnitsBegin, UnitsRun, is_expansion}
 use Rattle.psu_run.specs.Script.{with_answer}
 use Rattle.psu_run.proofs.Calls.{begins_none, executes_none}
@@ -15,7 +15,7 @@ use Rattle.psu_run.proofs.Moments.{spans_none}
 use Rattle.psu_run.proofs.Within.{within_here}
 
 -- nothing is executed
-pub goes_none : {D A : Type 0} {G : Ghosts D} (exec : Exec D A G) (P : Mishaps → World → World → Type 0) → ((can : Mishaps) (w : World) → P can w w) → Continues exec exec P
+pub goes_none : {D A : Type 0} {G : Ghosts D} (exec : Exec D A G) (P : Mishaps → World → World → Type 0) → ((can : Mishaps) (w : World) → P can w w) → DeviceContinues exec exec P
 goes_none exec P here = record {
   runs = λ h life. (life, within_here _ (λ can. P can (world_of life exec) (world_of life exec)) (λ can. here can (world_of life exec)), spans_none exec life);
   lasts = lasts_none exec;
@@ -58,8 +58,8 @@ pub line_join : (can : Mishaps) (w mid new : World) (answers some all : List (Li
     → LineRuns can w answers (xs ++ ys) all new
 line_join can w mid new answers some all [] ys p q =
     subst (λ (z : World). LineRuns can z answers ys all new) p.0 (subst (λ (z : List (List ℕ)). LineRuns can mid z ys all new) p.1 q)
-line_join can w mid new answers some all (x ∷ xs) ys (reply, there, told, after, u, r, more) q =
-    (reply, there, told, after, u, r, line_join can after mid new told some all xs ys more q)
+line_join can w mid new answers some all (x ∷ xs) ys (reply, there, reported, after, u, r, more) q =
+    (reply, there, reported, after, u, r, line_join can after mid new reported some all xs ys more q)
 
 -- a reply that is not an expansion is added to the answers
 pub told_reply : (reply : Reply) (can : Mishaps) (w : World) (answers all : List (List ℕ)) → is_expansion reply ≡ false → all ≡ with_answer answers reply → ReplyRuns can w answers reply all w
@@ -87,8 +87,8 @@ pub line_begun : (can : Mishaps) (w mid new : World) (answers some all : List (L
     → LineBegins can w answers (xs ++ ys) all new
 line_begun can w mid new answers some all [] ys p q =
     subst (λ (z : World). LineBegins can z answers ys all new) p.0 (subst (λ (z : List (List ℕ)). LineBegins can mid z ys all new) p.1 q)
-line_begun can w mid new answers some all (x ∷ xs) ys (reply, there, told, after, u, r, more) q =
-    inr (inr (reply, there, told, after, u, r, line_begun can after mid new told some all xs ys more q))
+line_begun can w mid new answers some all (x ∷ xs) ys (reply, there, reported, after, u, r, more) q =
+    inr (inr (reply, there, reported, after, u, r, line_begun can after mid new reported some all xs ys more q))
 
 -- all units of the line are finished
 pub line_over : (can : Mishaps) (w new : World) (answers all : List (List ℕ)) (requests : List Request) → LineRuns can w answers requests all new → LineBegins can w answers requests all new

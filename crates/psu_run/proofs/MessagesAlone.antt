@@ -6,7 +6,7 @@ use Rattle.psu_items.specs.Image.{EachRepresents}
 use Rattle.psu_items.proofs.Standing.{represents_one}
 use Rattle.psu_nv.specs.Contents.{Contents, items_of}
 use Rattle.psu_nv.proofs.Determining.{same_contents}
-use Rattle.psu_tree.specs.declared.unit_request.Request.{Request}
+use Rattle.psu_tree.specs.declared.command.Request.{Request}
 use Rattle.psu_messages.specs.Response.{response}
 use Rattle.psu_exec.specs.Device.{Reply, Done, Answer, Error, Expand, Parked, Held, Later, State, is_broken}
 use Rattle.psu_exec.specs.Calls.{opened}

@@ -9,7 +9,7 @@ use Rattle.psu_exec.specs.declared.exec.Exec.{Exec}
 use Rattle.psu_exec.specs.declared.idle_store.IdleStore.{IdleStore}
 use Rattle.std.specs.Option.{ForSome}
 use Rattle.psu_run.specs.Lives.{Life, StandsForPrefix, disk_at, world_of}
-use Rattle.psu_run.specs.Moments.{IsBetween, IsNow, Leads, Since, disk_in}
+use Rattle.psu_run.specs.Moments.{IsBetween, IsNow, CallsLead, Since, disk_in}
 use Rattle.psu_run.specs.Progress.{Spans}
 use Rattle.psu_run.proofs.Calls.{leads_join, prefix_of_reached, reached_made}
 
@@ -54,11 +54,11 @@ since_back {D} {A} {G} (Some a) (Some h) disk P same p = subst (λ (d : D). Sinc
 
 -- ---- calls
 
-pub leads_none : (w : World) → Leads w w
+pub leads_none : (w : World) → CallsLead w w
 leads_none w = ([], refl)
 
 -- the present moment
-pub here : (w v : World) (image : List ℕ) → Leads w v → StandsForPrefix w image → IsBetween w v image
+pub here : (w v : World) (image : List ℕ) → CallsLead w v → StandsForPrefix w image → IsBetween w v image
 here w v image leads p = (w, leads_none w, leads, p)
 
 pub spans_then : {D A : Type 0} {G : Ghosts D} (old mid new : Exec D A G) (w u v : World) → Spans old mid w u → Spans mid new u v → Spans old new w v
@@ -69,7 +69,7 @@ spans_then {D} {A} {G} old mid new w u v p q = record {
 }
 
 -- calls that leave the store idle
-pub spans_same : {D A : Type 0} {G : Ghosts D} (old new : Exec D A G) (life : Life) (v : World) → new.idle_store ≡ old.idle_store → Leads (world_of life old) v → Spans old new (world_of life old) v
+pub spans_same : {D A : Type 0} {G : Ghosts D} (old new : Exec D A G) (life : Life) (v : World) → new.idle_store ≡ old.idle_store → CallsLead (world_of life old) v → Spans old new (world_of life old) v
 spans_same {D} {A} {G} old new life v there leads = record {
   leads = leads;
   time = λ t now r. subst (λ (z : Option (IdleStore D A G)). Since G (disk_in old.idle_store) (disk_in z) (IsBetween (world_of life old) v)) (sym there)

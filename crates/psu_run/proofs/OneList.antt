@@ -14,7 +14,7 @@ use Rattle.psu_exec.specs.World.{World, Mode, Running, Stopped, Restarting, Past
 use Rattle.psu_exec.proofs.Invariant.{only_left}
 use Rattle.psu_run.specs.Lines.{Message}
 use Rattle.psu_run.specs.Lives.{CallsAll, EventsLead, IsLeftBy, PowersOn, Reached}
-use Rattle.psu_run.specs.Moments.{Leads}
+use Rattle.psu_run.specs.Moments.{CallsLead}
 use Rattle.psu_run.specs.Runs.{Mishaps, Flushes, MessageRuns, NextBegins, Reopens, Runs}
 use Rattle.psu_run.proofs.Calls.{Executes, flush_calls, job_calls, line_made, next_begun}
 
@@ -34,7 +34,7 @@ calls_lead : (entries : List Entry) (w new : World) → CallsAll w entries new �
 calls_lead [] w new c = ([], c)
 calls_lead (entry ∷ entries) w new (mid, c, more) = leads_behind w mid new (Call entry c.0) c.1 (calls_lead entries mid new more)
 
-made_leads : (w new : World) → Leads w new → EventsLead w new
+made_leads : (w new : World) → CallsLead w new → EventsLead w new
 made_leads w new m = calls_lead m.0 w new m.1
 
 executed_leads : (w new : World) → Executes w [] new → EventsLead w new

@@ -34,9 +34,9 @@ use Rattle.psu_run.proofs.Starting.{stops_since}
 use Rattle.psu_run.proofs.Within.{covers_itself, within_itself}
 
 -- the disk of a fault that is propagated
-pub passed_disk : {D : Type 0} (r : Result D (RunFault D)) (fault : RunFault D) (P : D → Type 0) → IsErrAnd r (λ told. told ≡ fault) → P fault.disk → P (disk_of r)
+pub passed_disk : {D : Type 0} (r : Result D (RunFault D)) (fault : RunFault D) (P : D → Type 0) → IsErrAnd r (λ reported. reported ≡ fault) → P fault.disk → P (disk_of r)
 passed_disk (Ok disk) fault P is p = absurd is
-passed_disk {D} (Err told) fault P is p = subst (λ (z : RunFault D). P z.disk) (sym is) p
+passed_disk {D} (Err reported) fault P is p = subst (λ (z : RunFault D). P z.disk) (sym is) p
 
 -- the run ended early
 pub run_early : {D A : Type 0} {G : Ghosts D} (by_input : RunCause → Type 0) (from u v : Option (List ℕ)) (image : List ℕ) (s : Exec D A G) (fault : RunFault D) (before : ℕ) → Ghosts.honest G → PowersOn image (world_of (born s) s)

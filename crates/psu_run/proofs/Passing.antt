@@ -8,7 +8,7 @@ use Rattle.psu_exec.specs.declared.exec.Exec.{Exec}
 use Rattle.psu_run.specs.Lines.{Message, is_power}
 use Rattle.psu_run.specs.Lives.{Life, StandsForPrefix, world_of}
 use Rattle.psu_run.specs.Moments.{IsBetween, IsWhile, disk_in}
-use Rattle.psu_run.specs.Progress.{EachMoment, Continues, RunsOn}
+use Rattle.psu_run.specs.Progress.{EachMoment, DeviceContinues, RunsOn}
 use Rattle.psu_run.specs.Runs.{Mishaps, any, Begins, MessageBegins, MessageRuns, NextBegins, Runs}
 use Rattle.psu_run.proofs.Calls.{begins_all, executes_none, prefix_of_reached}
 use Rattle.psu_run.proofs.OneList.{reached_runs}
@@ -87,7 +87,7 @@ message_begun can w v Message.Overlong text plain r = (joined r.2, (r.0, r.1, r.
 message_begun can w v (Message.Units bytes) text plain r = (joined r.2, (r.0, r.1, r.2, line_over can w v [] r.2 r.0 r.3, refl))
 
 -- each moment of one message
-pub run_one : {D A : Type 0} {G : Ghosts D} (old new : Exec D A G) (m : Message) (text : List ℕ) → is_power m ≡ false → Continues old new (λ can w v. MessageRuns can w m text v) → RunsOn old new (m ∷ []) text
+pub run_one : {D A : Type 0} {G : Ghosts D} (old new : Exec D A G) (m : Message) (text : List ℕ) → is_power m ≡ false → DeviceContinues old new (λ can w v. MessageRuns can w m text v) → RunsOn old new (m ∷ []) text
 run_one {D} {A} {G} old new m text plain goes = record {
   runs = λ h life. let g = goes.runs h life in
       let w = world_of life old in

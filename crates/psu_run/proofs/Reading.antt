@@ -19,7 +19,7 @@ use Rattle.psu_run.specs.declared.run_cause.RunCause.TheVariants.{Write}
 use Rattle.psu_run.specs.declared.run_fault.RunFault.{RunFault}
 use Rattle.psu_run.specs.Runs.{Flushes, Runs}
 use Rattle.psu_run.specs.Moments.{IsWhile, Since, disk_in}
-use Rattle.psu_run.specs.Progress.{Answered, Answers, EndsEarly, Fed, Continues, RanAll, RunsOn, Stopped, RunEnds, RunEndsHere}
+use Rattle.psu_run.specs.Progress.{Answered, Answers, EndsEarly, Fed, DeviceContinues, RanAll, RunsOn, Stopped, RunEnds, RunEndsHere}
 use Rattle.psu_run.proofs.Causes.{is_write, never_long}
 use Rattle.psu_run.proofs.Feeding.{FaultOf, flush_moments, stops_now, stops_then}
 use Rattle.psu_run.proofs.Passing.{runs_all, runs_join, runs_none, then_moments}
@@ -358,7 +358,7 @@ answers_early due s s1 fault u v p other stop = record {
 }
 
 -- responses that are complete, and then a flush that leaves nothing unflushed
-pub answers_flushed : {D A : Type 0} {G : Ghosts D} (due : List Message) (s s1 s2 : Exec D A G) (disk : D) (u v : Option (List ℕ)) → Answers due s s1 u v → Continues s1 s2 Flushes
+pub answers_flushed : {D A : Type 0} {G : Ghosts D} (due : List Message) (s s1 s2 : Exec D A G) (disk : D) (u v : Option (List ℕ)) → Answers due s s1 u v → DeviceContinues s1 s2 Flushes
     → s2.device.flush.unflushed ≡ 0 → Ghosts.failures G disk ≡ failures_of s2 → Ghosts.extent G disk ≡ extent_of s2 → Ghosts.state G disk ≡ disk_at s2.idle_store → ForSome s2.idle_store (λ h. disk ≡ idle_disk h) → RanAll s due disk u v
 answers_flushed {D} {A} {G} due s s1 s2 disk u v p f clean same size at there = record {
   hands = hands_then s s1 disk p.2.lasts (hands_now s1 s2 disk f.lasts size same);

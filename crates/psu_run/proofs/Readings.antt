@@ -3,14 +3,14 @@ use Rattle.std.proofs.Common.{◌≡◌, ℕ, Bool, true, false, List, [], ◌�
 use Rattle.psu_lex.specs.Message.{Part}
 use Rattle.psu_lex.specs.Names.{is_label}
 use Rattle.psu_lex.specs.Shown.{HoldsData, TailLists}
-use Rattle.psu_lex.specs.Syntax.{Datum, Header, IsBefore, IsHeader, Lists, Syntax, SyntaxGives, FaultGives, TextGives, UnitReads, has_high, header_text}
+use Rattle.psu_lex.specs.Syntax.{Datum, HeaderParts, IsBefore, IsHeader, Lists, Syntax, SyntaxGives, FaultGives, TextGives, UnitReads, has_high, header_text}
 use Rattle.psu_lex.specs.declared.data.Data.{Data}
 use Rattle.psu_lex.specs.declared.unit.UnitFault.{UnitFault}
 use Rattle.psu_lex.specs.declared.scpi_error.ScpiError.{ScpiError}
 use Rattle.psu_tree.specs.Path.{path_after}
-use Rattle.psu_tree.specs.Reading.{Reads, Moves, Calls, SyntaxReads, SyntaxMoves, SyntaxCalls}
+use Rattle.psu_tree.specs.Reading.{Reads, Moves, CallsMacro, SyntaxReads, SyntaxMoves, SyntaxCalls}
 use Rattle.psu_tree.specs.declared.command.Command.{Command}
-use Rattle.psu_tree.specs.declared.unit_request.MacroCall.{MacroCall}
+use Rattle.psu_tree.specs.declared.command.MacroCall.{MacroCall}
 
 -- every unit reads in some way at a path, and in one way
 abbrev pub SomeReading : Type 0
@@ -24,7 +24,7 @@ abbrev pub OneSyntax : Type 0
 OneSyntax = (unit : Part) (result other : Result Syntax ScpiError) → SyntaxGives unit result → SyntaxGives unit other → result ≡ other
 
 abbrev pub OneHeader : Type 0
-OneHeader = (header other : Header) → IsHeader header → IsHeader other → header_text header ≡ header_text other → header ≡ other
+OneHeader = (header other : HeaderParts) → IsHeader header → IsHeader other → header_text header ≡ header_text other → header ≡ other
 
 -- ---- the path
 
@@ -35,7 +35,7 @@ one_moved : OneHeader → (path : List (List ℕ)) (given : Result Syntax ScpiEr
     → SyntaxMoves path given reading next → SyntaxMoves path given reading other → next ≡ other
 one_moved header path (Err e) reading next other a b = a ∙ sym b
 one_moved header path (Ok syntax) reading next other (h, is, text, moves) (k, is_too, text_too, moves_too) =
-    moves ∙ ap (λ (z : Header). path_after (is_ok reading) path z) (header h k is is_too (sym text ∙ text_too)) ∙ sym moves_too
+    moves ∙ ap (λ (z : HeaderParts). path_after (is_ok reading) path z) (header h k is is_too (sym text ∙ text_too)) ∙ sym moves_too
 
 -- the path moves in one way
 pub one_move : OneSyntax → OneHeader → OneMove
@@ -87,5 +87,5 @@ some_called unit (Ok s) gives =
     let u = fault_reads unit.fault unit.text s gives in
     some_label s u.1 (is_label s.header) refl u.6
 
-pub some_call : (path : List (List ℕ)) (unit : Part) (reading : Result Command ScpiError) → Reads path unit reading → (call : Option MacroCall) × Calls unit call
+pub some_call : (path : List (List ℕ)) (unit : Part) (reading : Result Command ScpiError) → Reads path unit reading → (call : Option MacroCall) × CallsMacro unit call
 some_call path unit reading (given, gives, reads) = let c = some_called unit given gives in (c.0, (given, gives, c.1))

@@ -10,8 +10,8 @@ use Rattle.psu_lex.specs.declared.scpi_error.ScpiError.{ScpiError}
 use Rattle.psu_lex.proofs.DataLists.{one_list}
 use Rattle.psu_tree.specs.Reading.{Moves, SyntaxCalls}
 use Rattle.psu_tree.specs.declared.command.Command.{Command}
-use Rattle.psu_tree.specs.declared.unit_request.MacroCall.{MacroCall}
-use Rattle.psu_tree.specs.declared.unit_request.Request.{Request}
+use Rattle.psu_tree.specs.declared.command.MacroCall.{MacroCall}
+use Rattle.psu_tree.specs.declared.command.Request.{Request}
 use Rattle.psu_instrument.specs.Macros.{HoldsParameters, label_in}
 use Rattle.psu_messages.specs.Units.{path_at}
 use Rattle.psu_run.specs.Lines.{Message, AreAsked, AreRequests, Asks, too_much}

@@ -3,16 +3,16 @@ use Rattle.std.proofs.Common.{◌≡◌, ℕ, ◌==◌, if◌then◌else◌, not
 use Rattle.psu_disk.specs.declared.disk.Disk.{Ghosts}
 use Rattle.psu_locks.specs.Locks.{Locks, may_command}
 use Rattle.psu_exec.specs.Calls.{Executed, Settled, Cleared, Allows, settle_answer, settled}
-use Rattle.psu_instrument.specs.declared.completion.Completion.{Completion}
-use Rattle.psu_instrument.specs.declared.completion.Completion.TheVariants as completion
+use Rattle.psu_instrument.specs.declared.act.Completion.{Completion}
+use Rattle.psu_instrument.specs.declared.act.Completion.TheVariants as completion
 use Rattle.psu_exec.specs.Device.{Reply, Parked, State, Flush, answer_complete, is_denied, wait_of}
 use Rattle.psu_exec.specs.declared.exec.Exec.{Exec}
 use Rattle.psu_exec.specs.declared.idle_store.IdleStore.{IdleStore}
-use Rattle.psu_tree.specs.declared.unit_request.Request.{Request}
+use Rattle.psu_tree.specs.declared.command.Request.{Request}
 use Rattle.psu_exec.specs.declared.wait.Wait.{Wait}
 use Rattle.psu_exec.specs.declared.wait.Wait.TheVariants.{Until, CutOff}
 use Rattle.psu_run.specs.Failures.{failures_at, failures_of}
-use Rattle.psu_run.specs.Lives.{Life, lived, world_of, Calls}
+use Rattle.psu_run.specs.Lives.{Life, lived, world_of, CallsOnWorld}
 use Rattle.psu_run.specs.Runs.{is_final}
 use Rattle.psu_run.proofs.Calls.{called}
 
@@ -88,15 +88,15 @@ settle_store s new reply (opened, may, is) =
 
 -- the session is settled or cleared, or a unit of it is executed: the disk does not change
 pub settled_calls : {D A : Type 0} {G : Ghosts D} (old new : Exec D A G) (life : Life) (reply : Reply) → Allows old.device (Settled 1 reply) new.device → new.idle_store ≡ old.idle_store
-    → Calls (world_of life old) (Settled 1 reply) (world_of (lived life old.device (Settled 1 reply)) new)
+    → CallsOnWorld (world_of life old) (Settled 1 reply) (world_of (lived life old.device (Settled 1 reply)) new)
 settled_calls old new life reply t there = called old new life (Settled 1 reply) t there (λ d e. e)
 
 pub executed_calls : {D A : Type 0} {G : Ghosts D} (old new : Exec D A G) (life : Life) (request : Request) (reply : Reply) → Allows old.device (Executed 1 request reply) new.device → new.idle_store ≡ old.idle_store
-    → Calls (world_of life old) (Executed 1 request reply) (world_of (lived life old.device (Executed 1 request reply)) new)
+    → CallsOnWorld (world_of life old) (Executed 1 request reply) (world_of (lived life old.device (Executed 1 request reply)) new)
 executed_calls old new life request reply t there = called old new life (Executed 1 request reply) t there (λ d e. e)
 
 pub cleared_calls : {D A : Type 0} {G : Ghosts D} (old new : Exec D A G) (life : Life) → Allows old.device (Cleared 1) new.device → new.idle_store ≡ old.idle_store
-    → Calls (world_of life old) (Cleared 1) (world_of (lived life old.device (Cleared 1)) new)
+    → CallsOnWorld (world_of life old) (Cleared 1) (world_of (lived life old.device (Cleared 1)) new)
 cleared_calls old new life t there = called old new life (Cleared 1) t there (λ d e. e)
 
 pub count_same : {D A : Type 0} {G : Ghosts D} (old new : Exec D A G) → new.idle_store ≡ old.idle_store → failures_of new ≡ failures_of old

@@ -3,7 +3,7 @@ use Rattle.std.proofs.Common.{◌≡◌, ℕ, Bool, true, false, List, [], ◌�
 use Rattle.psu_lex.specs.Macros.{ExpandsTo}
 use Rattle.psu_lex.specs.declared.scpi_error.ScpiError.{ScpiError}
 use Rattle.psu_lex.specs.declared.scpi_error.ScpiError.TheVariants.{MacroRecursionError}
-use Rattle.psu_tree.specs.declared.unit_request.Request.{Request}
+use Rattle.psu_tree.specs.declared.command.Request.{Request}
 use Rattle.psu_instrument.specs.Macros.{ExpandsAt, written}
 use Rattle.psu_messages.specs.Response.{response}
 use Rattle.psu_exec.specs.Device.{Reply, Done, Answer, Error, Expand, Parked, Held, Later, State, answer_call, answer_meant, called, here, is_later, meant}
@@ -63,9 +63,9 @@ some_inside some (request ∷ requests) r answers (holds, hold) =
 
 some_told : Somes → (reply : Reply) (r : Rest) (answers : List (List ℕ)) → (spoken : Spoken) × SpeaksReply r answers reply spoken
 some_told some (Expand bytes) r answers =
-    let asked = some_asked some.units some.reading true bytes in
-    let outcome = some_inside some asked.0 r answers (asked_hold true bytes asked.0 asked.1) in
-    (outcome.0, (asked.0, asked.1, outcome.1))
+    let requested = some_asked some.units some.reading true bytes in
+    let outcome = some_inside some requested.0 r answers (asked_hold true bytes requested.0 requested.1) in
+    (outcome.0, (requested.0, requested.1, outcome.1))
 some_told some Done r answers = (record { rest = r; answers = with_answer answers Done }, refl)
 some_told some (Answer a) r answers = (record { rest = r; answers = with_answer answers (Answer a) }, refl)
 some_told some (Error e) r answers = (record { rest = r; answers = with_answer answers (Error e) }, refl)

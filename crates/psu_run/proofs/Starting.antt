@@ -9,9 +9,9 @@ use Rattle.psu_disk.specs.declared.disk.Disk.{Ghosts}
 use Rattle.psu_map.specs.Map.{Item}
 use Rattle.psu_items.specs.Image.{HasReadableRoot, Represents, EachRepresents, IsRefusal}
 use Rattle.psu_pages.specs.Finding.{IfImage}
-use Rattle.psu_pages.specs.declared.bad_image.BadImage.TheVariants as BadImage
-use Rattle.psu_pages.specs.declared.open_cause.OpenCause.{OpenCause}
-use Rattle.psu_pages.specs.declared.open_cause.OpenCause.TheVariants as refused
+use Rattle.psu_pages.specs.declared.faults.BadImage.TheVariants as BadImage
+use Rattle.psu_pages.specs.declared.faults.OpenCause.{OpenCause}
+use Rattle.psu_pages.specs.declared.faults.OpenCause.TheVariants as refused
 use Rattle.psu_items.specs.Standing.{MapOn}
 use Rattle.psu_items.proofs.Fitting.{represents_readable, represents_unrefused, represents_within}
 use Rattle.psu_items.proofs.Standing.{represents_one}
@@ -115,9 +115,9 @@ opened_not (refused.Image BadImage.BadRoot) image before now is failed quiet mem
 opened_not (refused.Image BadImage.BadVersion) image before now is failed quiet memory = is
 opened_not refused.Memory image before now is failed quiet memory = (quiet (λ e. cc), memory refl)
 
-pub not_opened : (cause : OpenCause) (told : RunCause) (image : List ℕ) (before now : ℕ) → IfImage cause (IsRefusal image) → (cause ≡ refused.Device → HasFailed before now)
-    → (cause ≢ refused.Device → now ≡ before) → (cause ≡ refused.Memory → HasReadableRoot image) → told ≡ cause_of_open cause → NotStarted image before now told
-not_opened cause told image before now why failed quiet memory is =
+pub not_opened : (cause : OpenCause) (reported : RunCause) (image : List ℕ) (before now : ℕ) → IfImage cause (IsRefusal image) → (cause ≡ refused.Device → HasFailed before now)
+    → (cause ≢ refused.Device → now ≡ before) → (cause ≡ refused.Memory → HasReadableRoot image) → reported ≡ cause_of_open cause → NotStarted image before now reported
+not_opened cause reported image before now why failed quiet memory is =
     subst (λ (t : RunCause). NotStarted image before now t) (sym is) (opened_not cause image before now why failed quiet memory)
 
 powered_not : (cause : PowerCause) (image : List ℕ) (before now limit : ℕ) (map : List Item) → Represents image limit map → now ≡ before
@@ -125,9 +125,9 @@ powered_not : (cause : PowerCause) (image : List ℕ) (before now limit : ℕ) (
 powered_not power.BadItems image before now limit map stands quiet bad = record { limit = limit; map = map; stands = stands; none = bad refl }
 powered_not power.Memory image before now limit map stands quiet bad = (quiet, represents_readable image limit map stands)
 
-pub not_powered : (cause : PowerCause) (told : RunCause) (image : List ℕ) (before now limit : ℕ) (map : List Item) → Represents image limit map → now ≡ before
-    → (cause ≡ power.BadItems → (c : Contents) → IsContents c → fits limit c ≡ true → items_of c ≡ map → ⊥) → told ≡ cause_of_power cause → NotStarted image before now told
-not_powered cause told image before now limit map stands quiet bad is =
+pub not_powered : (cause : PowerCause) (reported : RunCause) (image : List ℕ) (before now limit : ℕ) (map : List Item) → Represents image limit map → now ≡ before
+    → (cause ≡ power.BadItems → (c : Contents) → IsContents c → fits limit c ≡ true → items_of c ≡ map → ⊥) → reported ≡ cause_of_power cause → NotStarted image before now reported
+not_powered cause reported image before now limit map stands quiet bad is =
     subst (λ (t : RunCause). NotStarted image before now t) (sym is) (powered_not cause image before now limit map stands quiet bad)
 
 -- contents that an image represents fit
@@ -177,9 +177,9 @@ restart_stops by_input since before now rest last disk left cause f later c stan
 
 -- ---- a fault of the device, according to its disk
 
-pub halted_stops : {D A : Type 0} {G : Ghosts D} (by_input : RunCause → Type 0) (old new : Exec D A G) (now : ℕ) (rest : List Message) (life : Life) (left : List ℕ) (cause told : RunCause) → told ≡ cause → now ≡ failures_of new
-    → (IsAtPower rest → ⊥) → IsHaltedBy old new cause → (new.device.flush.store ≡ Worn → IsWornOut left) → StopsFor by_input (failures_of old) now rest (world_of life new) left told
-halted_stops by_input old new now rest life left cause told is same plain why worn = subst (StopsFor by_input (failures_of old) now rest (world_of life new) left) (sym is) (by cause why) where
+pub halted_stops : {D A : Type 0} {G : Ghosts D} (by_input : RunCause → Type 0) (old new : Exec D A G) (now : ℕ) (rest : List Message) (life : Life) (left : List ℕ) (cause reported : RunCause) → reported ≡ cause → now ≡ failures_of new
+    → (IsAtPower rest → ⊥) → IsHaltedBy old new cause → (new.device.flush.store ≡ Worn → IsWornOut left) → StopsFor by_input (failures_of old) now rest (world_of life new) left reported
+halted_stops by_input old new now rest life left cause reported is same plain why worn = subst (StopsFor by_input (failures_of old) now rest (world_of life new) left) (sym is) (by cause why) where
   by : (cause : RunCause) → IsHaltedBy old new cause → StopsFor by_input (failures_of old) now rest (world_of life new) left cause
   by Device w = ⊎_elim (λ f. inl (subst (λ (n : ℕ). HasFailed (failures_of old) n) (sym same) f)) (λ w. inr (plain, w.1, worn w.0)) w
   by Memory w = tt

@@ -2,7 +2,7 @@
 use Rattle.std.proofs.Common.{◌≡◌, ◌⊎◌, ℕ, ◌+◌, Bool, true, false, Option, Some, None, List, [], ◌∷◌, ◌++◌, refl, sym, ap, ◌∙◌, subst, inl, inr, ⊎_elim}
 use Rattle.psu_disk.specs.declared.disk.Disk.{Ghosts}
 use Rattle.psu_lex.specs.Message.{Part}
-use Rattle.psu_tree.specs.declared.unit_request.Request.{Request}
+use Rattle.psu_tree.specs.declared.command.Request.{Request}
 use Rattle.psu_messages.specs.ResponseBuffer.{Text}
 use Rattle.psu_messages.specs.Response.{are_some, joined, response}
 use Rattle.psu_exec.specs.Device.{Reply, Answer, Expand}
@@ -16,7 +16,7 @@ use Rattle.psu_messages.specs.Executions.Interruption.{Failed, Stopped, NotBuffe
 use Rattle.psu_messages.proofs.Turning.{no_ask}
 use Rattle.psu_run.specs.Effects.{IsDone, IsFailed, IsStopped}
 use Rattle.psu_run.specs.Output.{Says, SaysUntil, OutputState, held}
-use Rattle.psu_run.specs.Progress.{Breaks, Continues, DeviceStops}
+use Rattle.psu_run.specs.Progress.{Breaks, DeviceContinues, DeviceStops}
 use Rattle.psu_run.specs.Reasons.{IsHaltedBy}
 use Rattle.psu_run.specs.Runs.{none, Begins, LineBegins, LineRuns, UnitRuns}
 use Rattle.psu_run.specs.declared.run_cause.RunCause.{RunCause}
@@ -33,7 +33,7 @@ use Rattle.psu_run.proofs.UnitEnds.{goes_as, goes_then, halted_since}
 -- ---- a complete line
 
 abbrev pub Whole : {D A : Type 0} {G : Ghosts D} → Source → Exec D A G → OutputState → Exec D A G → OutputState → Type 0
-Whole source old output new now = (requests : List Request) × AskedBy source requests × (answers : List (List ℕ)) × Continues old new (λ can w v. LineRuns can w [] requests answers v) × Says output now (response answers)
+Whole source old output new now = (requests : List Request) × AskedBy source requests × (answers : List (List ℕ)) × DeviceContinues old new (λ can w v. LineRuns can w [] requests answers v) × Says output now (response answers)
 
 none_of : (all : List (List ℕ)) → are_some all ≡ false → all ≡ []
 none_of [] e = refl
@@ -49,8 +49,8 @@ whole_at ones source old new output now place None expansion text (inl o) over =
     let silent : o.all ≡ [] = none_of o.all (sym o.begun ∙ over.sent) in
     let nothing_sent : o.sent ≡ [] = no_front o.sent text.rest (o.joins ∙ ap joined silent) in
     let same : o.sent ≡ response o.all = nothing_sent ∙ sym (ap response silent) in
-    (o.done, asked_all ones source place o.done o.asked over.units, o.all, o.goes, subst (λ (z : List ℕ). Says output now z) same o.says)
-whole_at ones source old new output now place None expansion text (inr o) over = (o.done, asked_all ones source place o.done o.asked over.units, o.all, o.goes, o.says)
+    (o.done, asked_all ones source place o.done o.requested over.units, o.all, o.goes, subst (λ (z : List ℕ). Says output now z) same o.says)
+whole_at ones source old new output now place None expansion text (inr o) over = (o.done, asked_all ones source place o.done o.requested over.units, o.all, o.goes, o.says)
 whole_at ones source old new output now place (Some next) expansion text i over = absurd (no_ask ones.units source place i.request over.units (i.first, i.here))
 
 -- ---- a line that stopped early
@@ -61,10 +61,10 @@ Broken source old output new now cause =
 
 module _ {D A : Type 0} {G : Ghosts D} {source : Source} {old mid new : Exec D A G} {output now later : OutputState} {cause : RunCause} (ones : Ones) (reading : SomeReading) where
   -- a stop in a unit
-  stop_outside : {place : ℕ} {text : Text} (request : Request) (first : Bool) → (o : Outside source old output mid now place text) → Asks source place request first → Continues mid new (λ can w v. Begins w (request ∷ []) v)
+  stop_outside : {place : ℕ} {text : Text} (request : Request) (first : Bool) → (o : Outside source old output mid now place text) → Asks source place request first → DeviceContinues mid new (λ can w v. Begins w (request ∷ []) v)
       → (Ghosts.honest G → IsHaltedBy mid new cause) → SaysUntil cause output later (joined o.all) → Broken source old output new later cause
   stop_outside {place} {text} request first o asks begun why until =
-      let next = asked_next ones source place o.done request first o.asked asks in
+      let next = asked_next ones source place o.done request first o.requested asks in
       let rest = asked_some reading source (place + 1) (o.done ++ request ∷ []) next in (
         (o.done ++ request ∷ []) ++ rest.0,
         rest.1,
@@ -78,10 +78,10 @@ module _ {D A : Type 0} {G : Ghosts D} {source : Source} {old mid new : Exec D A
       )
 
   stop_inside : {place next : ℕ} {expansion : Option (List ℕ)} {text : Text} (part : Part) (request : Request) → (i : Inside source old output mid now place expansion next text) → IsUnit true i.body next part request
-      → Continues mid new (λ can w v. Begins w (request ∷ []) v) → (Ghosts.honest G → IsHaltedBy mid new cause) → SaysUntil cause output later (joined i.all) → Broken source old output new later cause
+      → DeviceContinues mid new (λ can w v. Begins w (request ∷ []) v) → (Ghosts.honest G → IsHaltedBy mid new cause) → SaysUntil cause output later (joined i.all) → Broken source old output new later cause
   stop_inside {place} {next} {expansion} {text} part request i unit begun why until =
       let inner = first_some reading true i.body (next + 1) (i.inner ++ request ∷ []) (first_next ones true i.body next i.inner part request i.within unit) in
-      let rest = asked_some reading source (place + 1) (i.done ++ i.request ∷ []) (asked_next ones source place i.done i.request i.first i.asked i.here) in (
+      let rest = asked_some reading source (place + 1) (i.done ++ i.request ∷ []) (asked_next ones source place i.done i.request i.first i.requested i.here) in (
         (i.done ++ i.request ∷ []) ++ rest.0,
         rest.1,
         i.all,
@@ -102,7 +102,7 @@ module _ {D A : Type 0} {G : Ghosts D} {source : Source} {old new : Exec D A G} 
   -- a stop between units
   rest_outside : {place : ℕ} {text : Text} → (o : Outside source old output new now place text) → (Ghosts.honest G → IsHaltedBy old new cause) → SaysUntil cause output later (joined o.all) → Broken source old output new later cause
   rest_outside {place} {text} o why until =
-      let rest = asked_some reading source place o.done o.asked in (
+      let rest = asked_some reading source place o.done o.requested in (
         o.done ++ rest.0,
         rest.1,
         o.all,
@@ -117,7 +117,7 @@ module _ {D A : Type 0} {G : Ghosts D} {source : Source} {old new : Exec D A G} 
       → Broken source old output new later cause
   rest_inside {place} {next} {expansion} {text} i why until =
       let inner = first_some reading true i.body next i.inner i.within in
-      let rest = asked_some reading source (place + 1) (i.done ++ i.request ∷ []) (asked_next ones source place i.done i.request i.first i.asked i.here) in (
+      let rest = asked_some reading source (place + 1) (i.done ++ i.request ∷ []) (asked_next ones source place i.done i.request i.first i.requested i.here) in (
         (i.done ++ i.request ∷ []) ++ rest.0,
         rest.1,
         i.all,
@@ -137,7 +137,7 @@ module _ {D A : Type 0} {G : Ghosts D} {source : Source} {old new : Exec D A G} 
 -- ---- the text, and the reason
 
 -- the device stopped in a unit
-begun_by : {D A : Type 0} {G : Ghosts D} (mid new : Exec D A G) (request : Request) (cause : RunCause) → DeviceStops mid new (request ∷ []) cause → Continues mid new (λ can w v. Begins w (request ∷ []) v)
+begun_by : {D A : Type 0} {G : Ghosts D} (mid new : Exec D A G) (request : Request) (cause : RunCause) → DeviceStops mid new (request ∷ []) cause → DeviceContinues mid new (λ can w v. Begins w (request ∷ []) v)
 begun_by mid new request cause s = record { runs = λ h life. let k = s.begun h life in (k.0, (none, s.lasts.later, (λ e. cc), λ can cov. k.1), k.2); lasts = s.lasts }
 
 halted_by : {D A : Type 0} {G : Ghosts D} (old new : Exec D A G) (cause : RunCause) → (cause ≡ Memory) ⊎ (cause ≡ Write) → IsHaltedBy old new cause
@@ -205,7 +205,7 @@ module _ {D A : Type 0} {G : Ghosts D} {X : Type 0} (exec : X → Exec D A G) (o
       (by inside at next begun (λ h. halted_by (exec mid) (exec here) cause d.2) until)
     where
       by : (inside : Option ℕ) → At source (exec x) (output x) (exec mid) (output mid) place expansion text inside
-          → NextAt source (record { standing = record { units = place; inside = inside; parked = false }; expansion = expansion; text = text }) inside request → Continues (exec mid) (exec here) (λ can w v. Begins w (request ∷ []) v)
+          → NextAt source (record { standing = record { units = place; inside = inside; parked = false }; expansion = expansion; text = text }) inside request → DeviceContinues (exec mid) (exec here) (λ can w v. Begins w (request ∷ []) v)
           → (Ghosts.honest G → IsHaltedBy (exec mid) (exec here) cause) → SaysUntil cause (output mid) (output y) []
           → Broken source (exec x) (output x) (exec here) (held (output y).written ((output y).gathered ++ text.rest)) cause
       by None (inl o) (first, asks, clear) begun why until =

@@ -3,7 +3,7 @@ use Rattle.std.specs.Prelude.{◌≡◌, ℕ, ◌+◌, ◌≤◌, ◌^◌, List,
 use Rattle.psu_disk.specs.Disk.{HasFailed}
 use Rattle.psu_map.specs.Map.{Item}
 use Rattle.psu_items.specs.Image.{current_root, number_in, Represents, HasNoRoot, HasBadRoot, HasOtherVersion, HasReadableRoot}
-use Rattle.psu_pages.specs.declared.open_cause.OpenCause.{OpenCause}
+use Rattle.psu_pages.specs.declared.faults.OpenCause.{OpenCause}
 use Rattle.psu_exec.specs.Headline.{AreBad}
 use Rattle.psu_exec.specs.Starts.{start_of_opening, start_of_power_on}
 use Rattle.psu_exec.specs.declared.power_fault.PowerCause.{PowerCause}

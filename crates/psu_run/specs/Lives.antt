@@ -13,7 +13,7 @@ use Rattle.psu_exec.specs.Headline.{IsPrefix}
 use Rattle.psu_exec.specs.World.{World, Running, Call, PastUnit, Event, Happens, IsStart, Run, after, is_executed, recorded}
 use Rattle.psu_exec.specs.declared.exec.Exec.{Exec}
 use Rattle.psu_exec.specs.declared.idle_store.IdleStore.{IdleStore}
-use Rattle.psu_tree.specs.declared.unit_request.Request.{Request}
+use Rattle.psu_tree.specs.declared.command.Request.{Request}
 
 -- What a device at rest does not store: the limit and the contents found at its power-on, and the units executed since.
 pub record Life : Type 0 where
@@ -38,13 +38,13 @@ abbrev pub lived : Life → State → Entry → Life
 lived life s entry = record life { history = recorded s entry life.history }
 
 -- A call on the device, which is an event of the theorem on power loss.
-abbrev pub Calls : World → Entry → World → Type 0
-Calls w entry new = (disk : DiskState) × Happens w (Call entry disk) new
+abbrev pub CallsOnWorld : World → Entry → World → Type 0
+CallsOnWorld w entry new = (disk : DiskState) × Happens w (Call entry disk) new
 
 -- calls, one after another
 abbrev pub CallsAll : World → List Entry → World → Type 0
 CallsAll w [] new = new ≡ w
-CallsAll w (entry ∷ entries) new = (mid : World) × Calls w entry mid × CallsAll mid entries new
+CallsAll w (entry ∷ entries) new = (mid : World) × CallsOnWorld w entry mid × CallsAll mid entries new
 
 -- the request of a call that executes a unit; a unit whose reply is `Later` or `Held` isn't executed
 abbrev pub unit_in : Entry → List Request
@@ -63,7 +63,7 @@ pub record PowersOn (image : List ℕ) (new : World) : Type 0 where
   pub start : IsStart on
   pub found : Represents image on.limit (items_of on.start)
   pub size : length on.disk.bytes ≡ length image
-  pub opens : Calls on (Opened (Some 1)) new
+  pub opens : CallsOnWorld on (Opened (Some 1)) new
 
 -- A disk after the last call, or after a restart that failed after that call: each of its possible crash images is one
 -- of the last world, or each possible crash image of either disk represents one map, the same for both, and the disks

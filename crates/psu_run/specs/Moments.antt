@@ -15,12 +15,12 @@ use Rattle.psu_run.specs.Runs.{any, NextBegins, Runs}
 -- ---- a device
 
 -- calls lead from one world to another
-abbrev pub Leads : World → World → Type 0
-Leads w new = (entries : List Entry) × CallsAll w entries new
+abbrev pub CallsLead : World → World → Type 0
+CallsLead w new = (entries : List Entry) × CallsAll w entries new
 
 -- the image represents a prefix of what was executed up to some world between the two
 abbrev pub IsBetween : World → World → List ℕ → Type 0
-IsBetween w new image = (mid : World) × Leads w mid × Leads mid new × StandsForPrefix mid image
+IsBetween w new image = (mid : World) × CallsLead w mid × CallsLead mid new × StandsForPrefix mid image
 
 -- ---- messages
 

@@ -3,7 +3,7 @@ use Rattle.std.specs.Prelude.{◌≡◌, ◌≢◌, ◌⊎◌, ℕ, ◌<◌, ◌
 use Rattle.std.specs.Io.KnownBytes.{Appends}
 use Rattle.std.specs.Io.{StartsWith}
 use Rattle.psu_disk.specs.declared.disk.Disk.{Ghosts}
-use Rattle.psu_tree.specs.declared.unit_request.Request.{Request}
+use Rattle.psu_tree.specs.declared.command.Request.{Request}
 use Rattle.psu_exec.specs.Device.{Reply, Later}
 use Rattle.psu_exec.specs.Calls.{Executed, Settled}
 use Rattle.psu_exec.specs.World.{World}
@@ -11,8 +11,8 @@ use Rattle.psu_exec.specs.declared.exec.Exec.{Exec}
 use Rattle.psu_run.specs.Failures.{extent_of, failures_of}
 use Rattle.psu_run.specs.Jobs.{IsWornAtLast}
 use Rattle.psu_run.specs.Lines.{Message}
-use Rattle.psu_run.specs.Lives.{Life, world_of, Calls, IsLeftBy, Reached}
-use Rattle.psu_run.specs.Moments.{IsBetween, IsNow, IsWhile, Leads, Since, disk_in}
+use Rattle.psu_run.specs.Lives.{Life, world_of, CallsOnWorld, IsLeftBy, Reached}
+use Rattle.psu_run.specs.Moments.{IsBetween, IsNow, IsWhile, CallsLead, Since, disk_in}
 use Rattle.psu_run.specs.Output.{OutputState, Says, SaysUntil}
 use Rattle.psu_run.specs.Reasons.{IsHaltedBy, StopsFor, never}
 use Rattle.psu_run.specs.Runs.{Mishaps, Acts, Begins, Flushes, NextBegins, Runs}
@@ -40,11 +40,11 @@ pub record HandsBack {D A : Type 0} {G : Ghosts D} (old : Exec D A G) (disk : D)
 -- Calls lead from one world to the other, and each possible crash image at any moment represents a prefix of what was
 -- executed up to some world between.
 pub record Spans {D A : Type 0} {G : Ghosts D} (old new : Exec D A G) (w v : World) : Type 0 where
-  pub leads : Leads w v
+  pub leads : CallsLead w v
   pub time : Ghosts.records G → IsNow G → Reached w → Since G (disk_in old.idle_store) (disk_in new.idle_store) (IsBetween w v)
 
 -- The device continued within its life, and P may have happened with what went wrong.
-pub record Continues {D A : Type 0} {G : Ghosts D} (old new : Exec D A G) (P : Mishaps → World → World → Type 0) : Type 0 where
+pub record DeviceContinues {D A : Type 0} {G : Ghosts D} (old new : Exec D A G) (P : Mishaps → World → World → Type 0) : Type 0 where
   pub runs : Ghosts.honest G → (life : Life) → (next : Life) × Within (failures_of old) (failures_of new) (λ can. P can (world_of life old) (world_of next new))
       × Spans old new (world_of life old) (world_of next new)
   pub lasts : Lasts old new
@@ -58,15 +58,15 @@ pub record DeviceStops {D A : Type 0} {G : Ghosts D} (old new : Exec D A G) (req
 
 -- a parked unit's wait is over
 abbrev pub WaitEnds : Reply → Mishaps → World → World → Type 0
-WaitEnds reply can w new = (over : World) × Flushes can w over × Calls over (Settled 1 reply) new
+WaitEnds reply can w new = (over : World) × Flushes can w over × CallsOnWorld over (Settled 1 reply) new
 
 -- a unit that was executed, or whose reply is `Later`
 abbrev pub Acted : Request → Reply → Mishaps → World → World → Type 0
-Acted request reply can w new = ((reply ≡ Later) × Calls w (Executed 1 request Later) new) ⊎ Acts can w request reply new
+Acted request reply can w new = ((reply ≡ Later) × CallsOnWorld w (Executed 1 request Later) new) ⊎ Acts can w request reply new
 
 -- The device continued until a fault.
 pub record Breaks {D A : Type 0} {G : Ghosts D} (old new : Exec D A G) (P : Mishaps → World → World → Type 0) (cause : RunCause) : Type 0 where
-  pub goes : Continues old new P
+  pub goes : DeviceContinues old new P
   pub why : Ghosts.honest G → IsHaltedBy old new cause
 
 -- ---- messages

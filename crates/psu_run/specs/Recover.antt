@@ -1,33 +1,34 @@
 -- What `recover` reports of an image.
-use Rattle.std.specs.Prelude.{◌≡◌, ℕ, ◌==◌, true, if◌then◌else◌, List, [], ◌∷◌, length, map, ⊤}
+use Rattle.std.specs.Prelude.{◌≡◌, ℕ, ◌==◌, true, if◌then◌else◌, List, [], ◌∷◌, Option, Some, None, length, map, ⊤}
 use Rattle.psu_map.specs.Map.{Item, cost}
 use Rattle.psu_items.specs.Image.{current_root, number_in, version_in, HasReadableRoot, Represents, IsRefusal}
-use Rattle.psu_pages.specs.declared.bad_image.BadImage.TheVariants as BadImage
-use Rattle.psu_pages.specs.declared.open_cause.OpenCause.{OpenCause}
-use Rattle.psu_pages.specs.declared.open_cause.OpenCause.TheVariants as opening
+use Rattle.psu_pages.specs.declared.faults.BadImage.TheVariants as BadImage
+use Rattle.psu_pages.specs.declared.faults.OpenCause.{OpenCause}
 use Rattle.psu_nv.specs.Contents.{items_of, fits, IsContents, Contents}
-use Rattle.psu_nv.specs.declared.file_kind.FileKind.{FileKind}
-use Rattle.psu_nv.specs.declared.file_kind.FileKind.TheVariants as kind
+use Rattle.psu_nv.specs.declared.file.FileKind.{FileKind}
+use Rattle.psu_nv.specs.declared.file.FileKind.TheVariants as kind
 use Rattle.psu_status.specs.Status.{first_request, prescribed}
 use Rattle.psu_exec.specs.Device.{State}
+use Rattle.psu_exec.specs.Starts.{start_of_opening, start_of_power_on}
 use Rattle.psu_exec.specs.declared.power_fault.PowerCause.{PowerCause}
-use Rattle.psu_exec.specs.declared.power_fault.PowerCause.TheVariants as power
+use Rattle.psu_exec.specs.declared.start_cause.StartCause.{StartCause}
+use Rattle.psu_exec.specs.declared.start_cause.StartCause.TheVariants as start
 use Rattle.psu_run.specs.Causes.{HasBadItems}
-use Rattle.psu_run.specs.declared.report.Report.{Report}
-use Rattle.psu_run.specs.declared.reported_file.ReportedFile.{ReportedFile}
-use Rattle.psu_run.specs.declared.recover_fault.RecoverFault.{RecoverFault}
-use Rattle.psu_run.specs.declared.recover_fault.RecoverFault.TheVariants.{Device, NoRoot, BadRoot, BadVersion, Memory, BadItems}
+use Rattle.psu_run.specs.declared.recovery.report.Report.{Report}
+use Rattle.psu_run.specs.declared.recovery.report.ReportedFile.{ReportedFile}
+use Rattle.psu_run.specs.declared.recovery.RecoverFault.{RecoverFault}
+use Rattle.psu_run.specs.declared.recovery.RecoverFault.TheVariants.{Start, Memory}
+
+-- Why an image isn't reported: the cause of the start, or out of memory where it has none.
+abbrev pub recover_start : Option StartCause → RecoverFault
+recover_start (Some cause) = Start cause
+recover_start None = Memory
 
 abbrev pub recover_open : OpenCause → RecoverFault
-recover_open opening.Device = Device
-recover_open (opening.Image BadImage.NoRoot) = NoRoot
-recover_open (opening.Image BadImage.BadRoot) = BadRoot
-recover_open (opening.Image BadImage.BadVersion) = BadVersion
-recover_open opening.Memory = Memory
+recover_open cause = recover_start (start_of_opening cause)
 
 abbrev pub recover_power : PowerCause → RecoverFault
-recover_power power.BadItems = BadItems
-recover_power power.Memory = Memory
+recover_power cause = recover_start (start_of_power_on cause)
 
 -- ---- files
 
@@ -93,9 +94,9 @@ pub record Reports {A : Type 0} (s : State) (version root limit pages : ℕ) (re
 -- Why an image isn't reported. A failed disk call says nothing about the image. Out of memory is possible only where a
 -- root can be read.
 abbrev pub IsRecoverRefusal : List ℕ → RecoverFault → Type 0
-IsRecoverRefusal image Device = ⊤
-IsRecoverRefusal image NoRoot = IsRefusal image BadImage.NoRoot
-IsRecoverRefusal image BadRoot = IsRefusal image BadImage.BadRoot
-IsRecoverRefusal image BadVersion = IsRefusal image BadImage.BadVersion
+IsRecoverRefusal image (Start start.Device) = ⊤
+IsRecoverRefusal image (Start start.NoRoot) = IsRefusal image BadImage.NoRoot
+IsRecoverRefusal image (Start start.BadRoot) = IsRefusal image BadImage.BadRoot
+IsRecoverRefusal image (Start start.BadVersion) = IsRefusal image BadImage.BadVersion
+IsRecoverRefusal image (Start start.BadItems) = HasBadItems image
 IsRecoverRefusal image Memory = HasReadableRoot image
-IsRecoverRefusal image BadItems = HasBadItems image

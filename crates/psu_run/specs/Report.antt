@@ -1,10 +1,10 @@
 -- The text of a report: a line for each fact. The texts are this project's own.
 use Rattle.std.specs.Prelude.{ℕ, Bool, true, false, Option, Some, None, List, [], ◌∷◌, ◌++◌, codes, decimal}
-use Rattle.psu_nv.specs.declared.file_kind.FileKind.{FileKind}
-use Rattle.psu_nv.specs.declared.file_kind.FileKind.TheVariants.{Binary, State, Macro}
-use Rattle.psu_status.specs.declared.enables.Enables.{Enables}
-use Rattle.psu_run.specs.declared.report.Report.{Report}
-use Rattle.psu_run.specs.declared.reported_file.ReportedFile.{ReportedFile}
+use Rattle.psu_nv.specs.declared.file.FileKind.{FileKind}
+use Rattle.psu_nv.specs.declared.file.FileKind.TheVariants.{Binary, State, Macro}
+use Rattle.psu_status.specs.declared.groups.Enables.{Enables}
+use Rattle.psu_run.specs.declared.recovery.report.Report.{Report}
+use Rattle.psu_run.specs.declared.recovery.report.ReportedFile.{ReportedFile}
 
 abbrev pub image_line : ℕ → ℕ → List ℕ
 image_line version root = codes "image version " ++ decimal version ++ codes " root " ++ decimal root ++ codes "\n"

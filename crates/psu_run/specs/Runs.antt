@@ -2,7 +2,7 @@
 use Rattle.std.specs.Prelude.{◌≡◌, ◌⊎◌, ℕ, zero, suc, ◌≤◌, Bool, true, false, Some, List, [], ◌∷◌, ◌++◌, ⊤}
 use Rattle.psu_items.specs.declared.commit.UnstartedCause.TheVariants.{Memory}
 use Rattle.psu_items.specs.declared.broken.BrokenCause.TheVariants as broken_cause
-use Rattle.psu_tree.specs.declared.unit_request.Request.{Request}
+use Rattle.psu_tree.specs.declared.command.Request.{Request}
 use Rattle.psu_lex.specs.declared.scpi_error.ScpiError.TheVariants.{OutOfMemory}
 use Rattle.psu_messages.specs.Response.{joined, response}
 use Rattle.psu_exec.specs.Device.{Reply, Error, Expand, Parked, Held, Later, is_broken}
@@ -10,7 +10,7 @@ use Rattle.psu_exec.specs.Calls.{Entry, JobKind, Commit, Reopen, JobData, JobEnd
 use Rattle.psu_exec.specs.World.{World}
 use Rattle.psu_run.specs.Lines.{Message, Asks, AsksInside, messages}
 use Rattle.psu_run.specs.Causes.{IsWornOut}
-use Rattle.psu_run.specs.Lives.{Calls, CallsAll, PowersOn, units_in}
+use Rattle.psu_run.specs.Lives.{CallsOnWorld, CallsAll, PowersOn, units_in}
 use Rattle.psu_run.specs.Script.{with_answer, IsScript}
 
 -- what may go wrong: memory refused inside a unit, a failed disk call, a store whose root number is the last
@@ -57,8 +57,8 @@ pub record JobDone (can : Mishaps) (w new : World) : Type 0 where
   pub taken : World
   pub finished : JobEnd
   pub over : List ℕ
-  pub take : Calls w (Took (Job job)) taken
-  pub give : Calls taken (GaveBack finished (Some over)) new
+  pub take : CallsOnWorld w (Took (Job job)) taken
+  pub give : CallsOnWorld taken (GaveBack finished (Some over)) new
   pub own : EndsJob job.kind finished
   pub sound : IsSound can new.disk.bytes finished
   pub long : is_short finished ≡ false
@@ -70,7 +70,7 @@ Jobs (suc n) can w new = (mid : World) × Jobs n can w mid × JobDone can mid ne
 
 -- jobs until there is none, at most 4
 abbrev pub Flushes : Mishaps → World → World → Type 0
-Flushes can w new = (n : ℕ) × Jobs n can w new × ((n ≡ 4) ⊎ ((n ≤ 4) × Calls new (Took Nothing) new))
+Flushes can w new = (n : ℕ) × Jobs n can w new × ((n ≡ 4) ⊎ ((n ≤ 4) × CallsOnWorld new (Took Nothing) new))
 
 abbrev pub is_parked : Reply → Bool
 is_parked Parked = true
@@ -94,15 +94,15 @@ is_final reply = true
 -- A unit that is answered at once, or once a flush has ended its wait.
 abbrev pub Acts : Mishaps → World → Request → Reply → World → Type 0
 Acts can w request reply new = (is_final reply ≡ true)
-    × ((IsMeant can reply × Calls w (Executed 1 request reply) new)
+    × ((IsMeant can reply × CallsOnWorld w (Executed 1 request reply) new)
     ⊎ ((parked : World) × (over : World)
-    × Calls w (Executed 1 request Parked) parked × Flushes can parked over × Calls over (Settled 1 reply) new))
+    × CallsOnWorld w (Executed 1 request Parked) parked × Flushes can parked over × CallsOnWorld over (Settled 1 reply) new))
 
 -- a unit; where its reply is `Later`, it is executed again after a flush
 abbrev pub UnitRuns : Mishaps → World → Request → Reply → World → Type 0
 UnitRuns can w request reply new =
     Acts can w request reply new
-    ⊎ ((late : World) × (over : World) × Calls w (Executed 1 request Later) late × Flushes can late over × Acts can over request reply new)
+    ⊎ ((late : World) × (over : World) × CallsOnWorld w (Executed 1 request Later) late × Flushes can late over × Acts can over request reply new)
 
 -- the units of an expansion, from the answers so far to all of them; none of them is replaced by another expansion
 abbrev pub UnitsRun : Mishaps → World → List (List ℕ) → List Request → List (List ℕ) → World → Type 0

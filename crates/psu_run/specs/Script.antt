@@ -3,7 +3,7 @@ use Rattle.std.specs.Prelude.{◌≡◌, ℕ, ◌==◌, Bool, true, false, Some,
 use Rattle.psu_lex.specs.Syntax.{Datum}
 use Rattle.psu_lex.specs.declared.scpi_error.ScpiError.{ScpiError}
 use Rattle.psu_nv.specs.Contents.{Contents}
-use Rattle.psu_tree.specs.declared.unit_request.Request.{Request}
+use Rattle.psu_tree.specs.declared.command.Request.{Request}
 use Rattle.psu_instrument.specs.Macros.{ExpandsAt, HoldsParameters, written}
 use Rattle.psu_exec.specs.Device.{Reply, Answer, Expand, Parked, Later, State, after_unit, answer_call, answer_meant, called, here, is_later, meant, power_on, wait_of}
 use Rattle.psu_messages.specs.Response.{response}

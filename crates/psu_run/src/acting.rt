@@ -1,8 +1,8 @@
-// The execution of one unit, with the flushes that it waits for.
+//! The execution of one unit, with the flushes that it waits for.
 ghost use Rattle.std.specs.Prelude.{◌≡◌, ◌∷◌, [], IfOk, IfErr, true, false};
 ghost use Rattle.psu_exec.specs.Device.{is_open, wait_of};
 ghost use Rattle.psu_exec.specs.Shown.{outcome_of};
-ghost use Rattle.psu_run.specs.Progress.{Acted, Continues, DeviceStops, WaitEnds};
+ghost use Rattle.psu_run.specs.Progress.{Acted, DeviceContinues, DeviceStops, WaitEnds};
 ghost use Rattle.psu_run.specs.Runs.{is_final, is_later, is_parked, UnitRuns};
 
 use crate::RunCause;
@@ -38,7 +38,7 @@ fn wait_end<D: Disk, A: Allocator + Copy>(
     requires first { session ≡ 1 }
     requires idle { exec.old.device.flush.out ≡ false }
     requires open { is_open exec.old.device 1 ≡ true }
-    ensures ends { IfOk result (λ o. Continues exec.old exec.new (WaitEnds (outcome_of o))) }
+    ensures ends { IfOk result (λ o. DeviceContinues exec.old exec.new (WaitEnds (outcome_of o))) }
     ensures ended { IfOk result (λ o. is_final (outcome_of o) ≡ true) }
     ensures free { IfOk result (λ o. wait_of exec.new.device.flush 1 ≡ None) }
     ensures device_stops { IfErr result (DeviceStops exec.old exec.new []) }
@@ -62,7 +62,7 @@ fn wait<D: Disk, A: Allocator + Copy>(
     requires first { session ≡ 1 }
     requires idle { exec.old.device.flush.out ≡ false }
     requires open { is_open exec.old.device 1 ≡ true }
-    ensures ends { IfOk result (λ o. Continues exec.old exec.new (WaitEnds (outcome_of o))) }
+    ensures ends { IfOk result (λ o. DeviceContinues exec.old exec.new (WaitEnds (outcome_of o))) }
     ensures ended { IfOk result (λ o. is_final (outcome_of o) ≡ true) }
     ensures free { wait_of exec.new.device.flush 1 ≡ None }
     ensures device_stops { IfErr result (DeviceStops exec.old exec.new []) }
@@ -81,11 +81,11 @@ fn wait<D: Disk, A: Allocator + Copy>(
 
 /// Executes a unit. A parked unit waits for a flush and is settled. The outcome may still be `Later`.
 #[inline(always)]
-pub fn act<D: Disk, A: Allocator + Copy>(
+pub(crate) fn act<D: Disk, A: Allocator + Copy>(
     powered: &mut PoweredDevice<D, A>,
     request: &Request<'_>,
 ) -> Result<Outcome<A>, RunCause>
-    ensures acted { IfOk result (λ o. Continues powered.old.exec powered.new.exec (Acted request.now (outcome_of o))) }
+    ensures acted { IfOk result (λ o. DeviceContinues powered.old.exec powered.new.exec (Acted request.now (outcome_of o))) }
     ensures ended { IfOk result (λ o. is_later (outcome_of o) ≡ false → is_final (outcome_of o) ≡ true) }
     ensures device_stops { IfErr result (DeviceStops powered.old.exec powered.new.exec (request.now ∷ [])) }
 {
@@ -99,11 +99,11 @@ pub fn act<D: Disk, A: Allocator + Copy>(
 
 /// Executes a unit; where its outcome is `Later`, flushes and executes it again.
 #[inline(always)]
-pub fn unit<D: Disk, A: Allocator + Copy>(
+pub(crate) fn unit<D: Disk, A: Allocator + Copy>(
     powered: &mut PoweredDevice<D, A>,
     request: &Request<'_>,
 ) -> Result<Outcome<A>, RunCause>
-    ensures runs { IfOk result (λ o. Continues powered.old.exec powered.new.exec (λ can w v. UnitRuns can w request.now (outcome_of o) v)) }
+    ensures runs { IfOk result (λ o. DeviceContinues powered.old.exec powered.new.exec (λ can w v. UnitRuns can w request.now (outcome_of o) v)) }
     ensures ended { IfOk result (λ o. is_final (outcome_of o) ≡ true) }
     ensures device_stops { IfErr result (DeviceStops powered.old.exec powered.new.exec (request.now ∷ [])) }
 {

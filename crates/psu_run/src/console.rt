@@ -1,15 +1,15 @@
-// The executor of a run: it executes units on the device and outputs their answers.
+//! The executor of a run: it executes units on the device and outputs their answers.
 ghost use Rattle.std.specs.Prelude.{◌≡◌, [], List, ℕ, IfErr, IfOk, IfSome, OnOk, None, false};
 ghost use Rattle.psu_messages.specs.ResponseBuffer.{nothing};
 ghost use Rattle.psu_messages.specs.Response.{joined, response};
 ghost use Rattle.psu_messages.specs.Executions.{Advances, IsOver, StopsAt};
 ghost use Rattle.psu_messages.specs.Relations.{IsAwaited};
 ghost use Rattle.psu_messages.specs.Shown.{progress_of};
-ghost use Rattle.psu_tree.specs.declared.unit_request.Request.{Request as RequestData};
+ghost use Rattle.psu_tree.specs.declared.command.Request.{Request as RequestData};
 ghost use Rattle.psu_run.specs.Effects.{IsDone, IsFailed, IsStopped, line_source};
 ghost use Rattle.psu_run.specs.Lines.{Asks, is_power, message_now};
 ghost use Rattle.psu_run.specs.Output.{Says, SaysUntil, held, output_state};
-ghost use Rattle.psu_run.specs.Progress.{Breaks, Continues};
+ghost use Rattle.psu_run.specs.Progress.{Breaks, DeviceContinues};
 ghost use Rattle.psu_run.specs.Runs.{LineBegins, LineRuns};
 
 use crate::RunCause;
@@ -19,13 +19,13 @@ use crate::run_state::RunState;
 use crate::writing::append_output;
 use psu_disk::Disk;
 use psu_exec::{Outcome, Request, ScpiError};
-use psu_lex::laws::{
+use psu_lex::{
     every_list_has_units, one_header_of_a_text, one_list_of_units, one_syntax_of_a_unit,
 };
 use psu_messages::{
-    Executor, Need, Progress, Refused, ResponseBuffer, execute_fault, execute_text,
+    Executor, MemoryRefused, Need, Progress, ResponseBuffer, execute_fault, execute_text,
 };
-use psu_tree::laws::{every_unit_reads, one_reading_of_a_unit};
+use psu_tree::{every_unit_reads, one_reading_of_a_unit};
 use std::alloc::Allocator;
 use std::io::Write;
 use std::mem;
@@ -54,7 +54,7 @@ fn proceed<A: Allocator + Copy, F: Executor<A>>(
 
 /// The executor of a run: a powered-on device with its answers that are not yet written, and the writer.
 #[derive(Drop)]
-pub struct Console<'p, 'w, W: Write, D: Disk, A: Allocator + Copy> {
+pub(crate) struct Console<'p, 'w, W: Write, D: Disk, A: Allocator + Copy> {
     pub run_state: &'p mut RunState<D, A>,
     pub writer: &'w mut W,
 }
@@ -93,7 +93,7 @@ impl<'p, 'w, W: Write, D: Disk, A: Allocator + Copy> Executor<A> for Console<'p,
         append_output(&mut self.run_state.unwritten.output, text, self.writer)
     }
 
-    fn out_of_memory(&self, _: Refused) -> RunCause {
+    fn out_of_memory(&self, _: MemoryRefused) -> RunCause {
         RunCause::Memory
     }
 }
@@ -105,7 +105,7 @@ impl<'p, 'w, W: Write, D: Disk, A: Allocator + Copy> Console<'p, 'w, W, D, A> {
         requires power { is_power (message_now lines.now.is_too_long lines.now.line.items) ≡ false }
         requires fresh { self.old.run_state.now.unwritten.gathered ≡ nothing }
         ensures runs { OnOk result ((requests : List RequestData) × Asks (message_now lines.now.is_too_long lines.now.line.items) requests × (answers : List (List ℕ))
-            × Continues self.old.run_state.now.powered.exec self.new.run_state.now.powered.exec (λ can w v. LineRuns can w [] requests answers v)
+            × DeviceContinues self.old.run_state.now.powered.exec self.new.run_state.now.powered.exec (λ can w v. LineRuns can w [] requests answers v)
             × Says (held (W.contents self.old.writer.now) self.old.run_state.now.unwritten.output.items) (held (W.contents self.new.writer.now) self.new.run_state.now.unwritten.output.items) (response answers)) }
         ensures breaks { IfErr result (λ cause. (requests : List RequestData) × Asks (message_now lines.now.is_too_long lines.now.line.items) requests × (answers : List (List ℕ))
             × Breaks self.old.run_state.now.powered.exec self.new.run_state.now.powered.exec (λ can w v. LineBegins can w [] requests answers v) cause

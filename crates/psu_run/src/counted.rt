@@ -1,4 +1,4 @@
-// A reader whose reads are counted.
+//! A reader whose reads are counted: a witness that `Source` can be met by one. The program does not count.
 ghost use Rattle.std.specs.Prelude.{Some};
 
 use crate::Source;

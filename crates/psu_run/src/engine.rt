@@ -1,4 +1,4 @@
-// The run over a reader and a writer.
+//! The run over a reader and a writer.
 ghost use Rattle.std.specs.Prelude.{◌≡◌, ◌⊎◌, ◌↔◌, ◌+◌, ◌<◌, ◌≤◌, ◌++◌, length, [], ℕ, List, IsTrue, OnOk, IfOk, IfErr, IfSome, true, false};
 ghost use Rattle.psu_disk.specs.Disk.{LeavesOnly};
 ghost use Rattle.psu_run.specs.Input.{IsReadToEnd, ReadsNoFurther};
@@ -17,10 +17,9 @@ use crate::powered_device::PoweredDevice;
 use crate::run_state::RunState;
 use crate::{RunCause, RunFault, Source};
 use psu_disk::Disk;
+use psu_messages::READ_SIZE;
 use std::alloc::Allocator;
 use std::io::Write;
-
-const PIECE: usize = 65_536;
 
 fn is_write(cause: RunCause) -> bool
     ensures { IsTrue result ↔ (cause ≡ RunCause.Write) }
@@ -30,7 +29,7 @@ fn is_write(cause: RunCause) -> bool
 
 /// Executes the lines that end in a piece of the input, and writes their responses. On a fault in the piece, the output
 /// before the fault is written.
-pub fn answer<W: Write, D: Disk, A: Allocator + Copy>(
+pub(crate) fn answer<W: Write, D: Disk, A: Allocator + Copy>(
     alloc: A,
     powered: PoweredDevice<D, A>,
     lines: &mut Lines<A>,
@@ -72,7 +71,7 @@ pub fn answer<W: Write, D: Disk, A: Allocator + Copy>(
 }
 
 /// Executes the last line of the input, which has no line feed, and writes its response.
-pub fn last_line<W: Write, D: Disk, A: Allocator + Copy>(
+pub(crate) fn last_line<W: Write, D: Disk, A: Allocator + Copy>(
     alloc: A,
     powered: PoweredDevice<D, A>,
     lines: &mut Lines<A>,
@@ -90,7 +89,7 @@ pub fn last_line<W: Write, D: Disk, A: Allocator + Copy>(
 }
 
 /// Executes the last line of the input, which has no line feed, writes its response, and flushes.
-pub fn finish<W: Write, D: Disk, A: Allocator + Copy>(
+pub(crate) fn finish<W: Write, D: Disk, A: Allocator + Copy>(
     alloc: A,
     powered: PoweredDevice<D, A>,
     lines: &mut Lines<A>,
@@ -113,7 +112,7 @@ pub fn finish<W: Write, D: Disk, A: Allocator + Copy>(
 }
 
 /// Executes the lines of the reader on a device, and writes their responses.
-pub fn execute_all<R: Source, W: Write, D: Disk, A: Allocator + Copy>(
+pub(crate) fn execute_all<R: Source, W: Write, D: Disk, A: Allocator + Copy>(
     alloc: A,
     powered: PoweredDevice<D, A>,
     piece: &mut [u8],
@@ -195,7 +194,7 @@ pub fn run<R: Source, W: Write, D: Disk, A: Allocator + Copy>(
         Ok(powered) => powered,
         Err(fault) => return Err(fault),
     };
-    let Ok(mut piece) = vec![in alloc; 0u8; PIECE] else {
+    let Ok(mut piece) = vec![in alloc; 0u8; READ_SIZE] else {
         return Err(powered.fault(RunCause::Memory));
     };
     let disk = execute_all(alloc, powered, &mut piece, reader, writer)?;

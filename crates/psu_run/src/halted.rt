@@ -1,4 +1,4 @@
-// The early end of a run before the end of a piece.
+//! The early end of a run before the end of a piece.
 use crate::RunFault;
 use crate::unwritten::Unwritten;
 use psu_disk::Disk;
@@ -6,7 +6,7 @@ use std::alloc::Allocator;
 
 /// The early end of a run before the end of a piece: why, and the answers that are not yet written.
 #[derive(Drop)]
-pub struct Halted<D: Disk, A: Allocator + Copy> {
+pub(crate) struct Halted<D: Disk, A: Allocator + Copy> {
     pub fault: RunFault<D>,
     pub unwritten: Unwritten<A>,
 }

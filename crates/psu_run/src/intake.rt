@@ -1,14 +1,14 @@
-// How much of the input has been read.
+//! How much of the input has been read.
 ghost use Rattle.std.specs.Prelude.{◌≡◌, ◌+◌, ◌-◌, ◌≤◌, ◌↔◌, IsTrue, IfSome};
 
-const READS: u32 = 1_048_576;
+const READS_MOST: u32 = 1_048_576;
 
-const BYTES: usize = 16_777_216;
+const BYTES_MOST: usize = 16_777_216;
 
 /// The number of reads made and of bytes taken. A run makes at most 1,048,576 reads, including the one that finds the
 /// end of the input, and takes at most 16,777,216 bytes.
 #[derive(Drop)]
-pub struct Intake {
+pub(crate) struct Intake {
     reads: u32,
     bytes: usize,
     ghost few: { reads ≤ 1048576 },
@@ -28,7 +28,7 @@ impl Intake {
     pub fn may_read(&self) -> bool
         ensures { IsTrue result ↔ (self.now.reads + 1 ≤ 1048576) }
     {
-        self.reads < READS
+        self.reads < READS_MOST
     }
 
     /// Counts one more read.
@@ -44,7 +44,7 @@ impl Intake {
     pub fn room(&self) -> usize
         ensures { result ≡ 16777216 - self.now.bytes }
     {
-        BYTES - self.bytes
+        BYTES_MOST - self.bytes
     }
 
     /// Counts `count` more bytes as taken.

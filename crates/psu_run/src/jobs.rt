@@ -1,4 +1,4 @@
-// The flush: jobs are run until there is none.
+//! The flush: jobs are run until there is none.
 ghost use Rattle.std.specs.Prelude.{◌≡◌, ◌⊎◌, [], OnOk, IfErr, true, false, None};
 ghost use Rattle.psu_disk.specs.Disk.{HasFailed};
 ghost use Rattle.psu_exec.specs.Calls.{job_of};
@@ -7,7 +7,7 @@ ghost use Rattle.psu_exec.specs.Jobs.{finished_of, job_data};
 ghost use Rattle.psu_exec.specs.declared.condition.Condition.TheVariants.{Worn};
 ghost use Rattle.psu_run.specs.Failures.{failures_of};
 ghost use Rattle.psu_run.specs.Jobs.{HasRun};
-ghost use Rattle.psu_run.specs.Progress.{Continues, DeviceStops};
+ghost use Rattle.psu_run.specs.Progress.{DeviceContinues, DeviceStops};
 ghost use Rattle.psu_run.specs.Runs.{Flushes, Reopens, is_short};
 
 use crate::RunCause;
@@ -16,7 +16,7 @@ use psu_exec::{Condition, End, Exec, Job, NoJob};
 use psu_items::{BrokenCause, UnstartedCause};
 use std::alloc::Allocator;
 
-const JOBS: u32 = 4;
+const JOBS_MOST: u32 = 4;
 
 // Whether a job ended out of memory.
 fn is_short<D: Disk, A: Allocator + Copy>(end: &End<D, A>) -> bool
@@ -52,9 +52,9 @@ fn run_job<D: Disk, A: Allocator + Copy>(exec: &mut Exec<D, A>, job: Job<D, A>) 
 
 /// Takes, runs and gives back jobs until there is nothing to take, at most 4 jobs. A job that ends out of memory ends
 /// the run.
-pub fn flush<D: Disk, A: Allocator + Copy>(exec: &mut Exec<D, A>) -> Result<(), RunCause>
+pub(crate) fn flush<D: Disk, A: Allocator + Copy>(exec: &mut Exec<D, A>) -> Result<(), RunCause>
     requires idle { exec.old.device.flush.out ≡ false }
-    ensures flushes { OnOk result (Continues exec.old exec.new Flushes) }
+    ensures flushes { OnOk result (DeviceContinues exec.old exec.new Flushes) }
     ensures device_stops { IfErr result (DeviceStops exec.old exec.new []) }
     ensures idle { exec.new.device.flush.out ≡ false }
     ensures open { is_open exec.new.device 1 ≡ is_open exec.old.device 1 }
@@ -64,7 +64,7 @@ pub fn flush<D: Disk, A: Allocator + Copy>(exec: &mut Exec<D, A>) -> Result<(), 
     // Changes are left unflushed only where a disk call failed or the store is worn.
     ensures clean { D.honest → OnOk result (HasFailed (failures_of exec.old) (failures_of exec.new) ⊎ (exec.new.device.flush.store ≡ Worn) ⊎ (exec.new.device.flush.unflushed ≡ 0)) }
 {
-    for _ in 0..JOBS {
+    for _ in 0..JOBS_MOST {
         match exec.take() {
             Ok(job) => {
                 if run_job(exec, job) {
@@ -80,9 +80,9 @@ pub fn flush<D: Disk, A: Allocator + Copy>(exec: &mut Exec<D, A>) -> Result<(), 
 }
 
 /// Reopens a broken store. A store that stays broken ends the run.
-pub fn reopen<D: Disk, A: Allocator + Copy>(exec: &mut Exec<D, A>) -> Result<(), RunCause>
+pub(crate) fn reopen<D: Disk, A: Allocator + Copy>(exec: &mut Exec<D, A>) -> Result<(), RunCause>
     requires idle { exec.old.device.flush.out ≡ false }
-    ensures reopens { OnOk result (Continues exec.old exec.new Reopens) }
+    ensures reopens { OnOk result (DeviceContinues exec.old exec.new Reopens) }
     ensures device_stops { IfErr result (DeviceStops exec.old exec.new []) }
     ensures failed { D.honest → IfErr result (λ cause. cause ≡ RunCause.Device → HasFailed (failures_of exec.old) (failures_of exec.new)) }
     ensures idle { exec.new.device.flush.out ≡ false }

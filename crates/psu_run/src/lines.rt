@@ -1,14 +1,13 @@
-// The line that is being read.
+//! The line that is being read.
 ghost use Rattle.std.specs.Prelude.{◌≡◌, ◌≤◌, ◌++◌, [], List, ℕ, OnOk, true, false, length};
 ghost use Rattle.psu_run.specs.Lines.{has, coming, is_none_begun, is_power, message_now};
 
+use psu_lex::TEXT_MOST;
 use std::alloc::{AllocError, Allocator};
-
-const LIMIT: usize = 65_536;
 
 /// The line that is being read. Of a line that is too long, only the fact that it is too long is kept.
 #[derive(Drop)]
-pub struct Lines<A: Allocator> {
+pub(crate) struct Lines<A: Allocator> {
     pub line: Vec<u8, A>,
     pub is_too_long: bool,
     ghost free: { has 10 line.items ≡ false },
@@ -36,7 +35,7 @@ impl<A: Allocator> Lines<A> {
             coming self.old.is_too_long self.old.line.items (part.now ++ input) ≡ coming self.new.is_too_long self.new.line.items input) }
     {
         if !self.is_too_long {
-            if part.len() > LIMIT - self.line.len() {
+            if part.len() > TEXT_MOST - self.line.len() {
                 self.line.clear();
                 self.is_too_long = true;
             } else {

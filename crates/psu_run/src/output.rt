@@ -1,4 +1,4 @@
-// Writing whole texts to a writer.
+//! Writing whole texts to a writer.
 ghost use Rattle.std.specs.Prelude.{◌≡◌, ◌++◌, OnOk, OnErr, IfErr};
 ghost use Rattle.std.specs.Io.KnownBytes.{Appends};
 ghost use Rattle.psu_run.specs.Output.{WritesShort};
@@ -7,7 +7,7 @@ use crate::RunCause;
 use std::io::Write;
 
 /// Writes the text. Where that fails, a proper prefix of it was written.
-pub fn put<W: Write>(writer: &mut W, text: &[u8]) -> Result<(), RunCause>
+pub(crate) fn put<W: Write>(writer: &mut W, text: &[u8]) -> Result<(), RunCause>
     ensures whole { OnOk result (Appends (W.contents writer.old) (W.contents writer.new) text.now) }
     ensures short { OnErr result (WritesShort (W.contents writer.old) (W.contents writer.new) text.now) }
     ensures own { IfErr result (λ cause. cause ≡ RunCause.Write) }
@@ -23,7 +23,11 @@ pub fn put<W: Write>(writer: &mut W, text: &[u8]) -> Result<(), RunCause>
 }
 
 /// Writes two texts, one after the other, as if they were one.
-pub fn put_both<W: Write>(writer: &mut W, first: &[u8], second: &[u8]) -> Result<(), RunCause>
+pub(crate) fn put_both<W: Write>(
+    writer: &mut W,
+    first: &[u8],
+    second: &[u8],
+) -> Result<(), RunCause>
     ensures whole { OnOk result (Appends (W.contents writer.old) (W.contents writer.new) (first.now ++ second.now)) }
     ensures short { OnErr result (WritesShort (W.contents writer.old) (W.contents writer.new) (first.now ++ second.now)) }
     ensures own { IfErr result (λ cause. cause ≡ RunCause.Write) }

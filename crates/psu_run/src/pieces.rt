@@ -1,11 +1,11 @@
-// The lines that end in a piece of the input.
+//! The lines that end in a piece of the input.
 ghost use Rattle.std.specs.Prelude.{◌≡◌, ◌≢◌, ◌∷◌, [], List, ℕ, OnOk, IfOk, IfErr, true, false};
-ghost use Rattle.psu_tree.specs.declared.unit_request.Request.{Request as RequestData};
+ghost use Rattle.psu_tree.specs.declared.command.Request.{Request as RequestData};
 ghost use Rattle.psu_messages.specs.ResponseBuffer.{nothing};
 ghost use Rattle.psu_messages.specs.Response.{joined, response};
 ghost use Rattle.psu_run.specs.Lines.{Asks, Message, coming, is_power, message_now};
 ghost use Rattle.psu_run.specs.Output.{Says, SaysUntil, held, output_state};
-ghost use Rattle.psu_run.specs.Progress.{Breaks, Fed, Continues, RunsOn, Stopped, RunEndsHere};
+ghost use Rattle.psu_run.specs.Progress.{Breaks, Fed, DeviceContinues, RunsOn, Stopped, RunEndsHere};
 ghost use Rattle.psu_run.specs.Runs.{LineBegins, LineRuns, MessageBegins};
 ghost use Rattle.psu_run.specs.Reasons.{never};
 
@@ -42,7 +42,7 @@ fn restart_device<D: Disk, A: Allocator + Copy>(
 }
 
 /// Simulates a power loss at rest and a restart, and keeps the output that is not yet written.
-pub fn restart<D: Disk, A: Allocator + Copy>(
+pub(crate) fn restart<D: Disk, A: Allocator + Copy>(
     alloc: A,
     run_state: RunState<D, A>,
 ) -> Result<RunState<D, A>, Halted<D, A>>
@@ -61,7 +61,7 @@ pub fn restart<D: Disk, A: Allocator + Copy>(
 
 /// Executes the message of a complete line that is not the one of a power loss, outputs its response, and begins the
 /// next line.
-pub fn answer_line<W: Write, D: Disk, A: Allocator + Copy>(
+pub(crate) fn answer_line<W: Write, D: Disk, A: Allocator + Copy>(
     alloc: A,
     run_state: &mut RunState<D, A>,
     lines: &mut Lines<A>,
@@ -93,7 +93,7 @@ fn execute_line<W: Write, D: Disk, A: Allocator + Copy>(
     requires power { is_power (message_now lines.now.is_too_long lines.now.line.items) ≡ false }
     requires fresh { run_state.old.unwritten.gathered ≡ nothing }
     ensures runs { OnOk result ((requests : List RequestData) × Asks (message_now lines.now.is_too_long lines.now.line.items) requests × (answers : List (List ℕ))
-        × Continues run_state.old.powered.exec run_state.new.powered.exec (λ can w v. LineRuns can w [] requests answers v)
+        × DeviceContinues run_state.old.powered.exec run_state.new.powered.exec (λ can w v. LineRuns can w [] requests answers v)
         × Says (held (W.contents writer.old) run_state.old.unwritten.output.items) (held (W.contents writer.new) run_state.new.unwritten.output.items) (response answers)) }
     ensures breaks { IfErr result (λ cause. (requests : List RequestData) × Asks (message_now lines.now.is_too_long lines.now.line.items) requests × (answers : List (List ℕ))
         × Breaks run_state.old.powered.exec run_state.new.powered.exec (λ can w v. LineBegins can w [] requests answers v) cause
@@ -107,7 +107,7 @@ fn execute_line<W: Write, D: Disk, A: Allocator + Copy>(
 }
 
 /// Executes the lines that end in a piece of the input, and outputs their responses.
-pub fn feed<W: Write, D: Disk, A: Allocator + Copy>(
+pub(crate) fn feed<W: Write, D: Disk, A: Allocator + Copy>(
     alloc: A,
     run_state: RunState<D, A>,
     lines: &mut Lines<A>,

@@ -1,4 +1,4 @@
-// The powered-on device of a run.
+//! The powered-on device of a run.
 ghost use Rattle.std.specs.Prelude.{◌≡◌, ◌≢◌, ◌≤◌, ℕ, List, IfOk, IfErr, true, false, None};
 ghost use Rattle.std.specs.Option.{ForSome};
 ghost use Rattle.psu_disk.specs.Disk.{LeavesOnly};
@@ -21,7 +21,7 @@ use std::alloc::Allocator;
 
 /// A powered-on device: its one session is open and waits for nothing, no lock denies it, and no job is out.
 #[derive(Drop)]
-pub struct PoweredDevice<D: Disk, A: Allocator + Copy> {
+pub(crate) struct PoweredDevice<D: Disk, A: Allocator + Copy> {
     pub exec: Exec<D, A>,
     pub session: Session,
     pub ghost first: { session ≡ 1 },

@@ -1,18 +1,62 @@
-//! What a restart would find in an image, without running on it.
+//! What a restart would find in an image, without running on it. The run has no type in common with this but the disk.
 ghost use Rattle.std.specs.Prelude.{◌≡◌, ℕ, List, IfOk, IfErr, false};
 ghost use Rattle.std.specs.Option.{ForSome};
-ghost use Rattle.psu_disk.specs.Steps.{Step};
+ghost use Rattle.psu_disk.specs.Steps.{DiskStep};
 ghost use Rattle.psu_map.specs.Map.{Item};
 ghost use Rattle.psu_items.specs.Image.{EachRepresents};
 ghost use Rattle.psu_exec.specs.Jobs.{idle_disk};
-ghost use Rattle.psu_run.specs.Recover.{IsReported, IsRecoverRefusal, Reports};
+ghost use Rattle.psu_run.specs.Recover.{IsReported, IsRecoverRefusal, Reports, recover_open, recover_power};
 
-use crate::listing::files_of;
-use crate::{RecoverFault, Recovered, Report};
+mod listing;
+mod report;
+
+use listing::files_of;
 use psu_disk::Disk;
-use psu_exec::{Ended, Exec};
-use psu_items::Store;
+use psu_exec::{Ended, Exec, PowerCause, StartCause};
+use psu_items::{OpenCause, Store};
+pub use report::{Report, ReportedFile, report_text};
 use std::alloc::{AllocError, Allocator};
+use thiserror::Error;
+
+/// Why an image isn't reported.
+#[derive(Clone, Copy, Debug, PartialEq, Eq, Error)]
+pub enum RecoverFault {
+    /// The device doesn't start from its disk.
+    #[error("{0}")]
+    Start(StartCause),
+    /// An allocation failed.
+    #[error("out of memory")]
+    Memory,
+}
+
+impl From<OpenCause> for RecoverFault {
+    ghost from_gives = { λ cause e. e ≡ recover_open cause };
+
+    fn from(cause: OpenCause) -> Self {
+        match StartCause::of_opening(cause) {
+            Some(cause) => RecoverFault::Start(cause),
+            None => RecoverFault::Memory,
+        }
+    }
+}
+
+impl From<PowerCause> for RecoverFault {
+    ghost from_gives = { λ cause e. e ≡ recover_power cause };
+
+    fn from(cause: PowerCause) -> Self {
+        match StartCause::of_power_on(cause) {
+            Some(cause) => RecoverFault::Start(cause),
+            None => RecoverFault::Memory,
+        }
+    }
+}
+
+/// The report on an image, or why there is none, with its disk.
+#[derive(Drop)]
+pub struct Recovered<D, A: Allocator + Copy> {
+    pub found: Result<Report<A>, RecoverFault>,
+    pub disk: D,
+}
 
 /// Opens the image of a disk as a restart does, which may close an older gate that is still open, and reports the
 /// contents that it finds. The report is of the contents that the image represents, with the first service request that
@@ -21,7 +65,7 @@ use std::alloc::{AllocError, Allocator};
 pub fn recover<D: Disk, A: Allocator + Copy>(alloc: A, disk: D) -> Recovered<D, A>
     ensures found { D.honest → IfOk result.found (IsReported (D.state disk).bytes) }
     ensures refused { D.honest → IfErr result.found (IsRecoverRefusal (D.state disk).bytes) }
-    ensures step { Step D.Disk disk result.disk result.found (λ e. e ≡ RecoverFault.Device) }
+    ensures step { DiskStep D.Disk disk result.disk result.found (λ e. e ≡ RecoverFault.Start StartCause.Device) }
     ensures left { D.honest → (limit : ℕ) (map : List Item) → EachRepresents (D.state disk) limit map → EachRepresents (D.state result.disk) limit map }
 {
     let store = match Store::open(alloc, disk) {

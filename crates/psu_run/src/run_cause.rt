@@ -1,4 +1,4 @@
-// Why a run ends early.
+//! Why a run ends early.
 ghost use Rattle.std.specs.Prelude.{◌≡◌};
 ghost use Rattle.psu_run.specs.Causes.{cause_of_open, cause_of_power};
 

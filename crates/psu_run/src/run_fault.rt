@@ -1,4 +1,4 @@
-// The early end of a run.
+//! The early end of a run.
 
 use crate::RunCause;
 use psu_disk::Disk;

@@ -1,4 +1,4 @@
-// A powered-on device with its output that is not yet written.
+//! A powered-on device with its output that is not yet written.
 ghost use Rattle.std.specs.Prelude.{◌≡◌, [], ◌≤◌};
 ghost use Rattle.std.specs.Option.{ForSome};
 ghost use Rattle.psu_messages.specs.ResponseBuffer.{nothing};
@@ -18,7 +18,7 @@ use std::alloc::Allocator;
 
 /// A powered-on device, with its answers that are not yet written.
 #[derive(Drop)]
-pub struct RunState<D: Disk, A: Allocator + Copy> {
+pub(crate) struct RunState<D: Disk, A: Allocator + Copy> {
     pub powered: PoweredDevice<D, A>,
     pub unwritten: Unwritten<A>,
 }

@@ -1,4 +1,4 @@
-// The output of the lines of a piece that is not yet written.
+//! The output of the lines of a piece that is not yet written.
 ghost use Rattle.std.specs.Prelude.{◌≡◌, []};
 ghost use Rattle.psu_messages.specs.ResponseBuffer.{nothing};
 
@@ -7,7 +7,7 @@ use std::alloc::Allocator;
 
 /// The answers of the lines of a piece that are not yet written.
 #[derive(Drop)]
-pub struct Unwritten<A: Allocator + Copy> {
+pub(crate) struct Unwritten<A: Allocator + Copy> {
     /// The output buffer: responses that are not yet written.
     pub output: Vec<u8, A>,
     /// The answers of the line in progress that are not yet in the output buffer.

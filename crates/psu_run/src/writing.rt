@@ -1,18 +1,16 @@
-// The output buffer, which is written when it has grown too long.
+//! The output buffer, which is written when it has grown too long.
 ghost use Rattle.std.specs.Prelude.{◌≡◌, ◌⊎◌, [], OnOk, IfErr};
 ghost use Rattle.psu_run.specs.Output.{Says, SaysUntil, held};
 
 use crate::RunCause;
 use crate::output::put;
+use psu_messages::RESPONSE_ROOM;
 use std::alloc::Allocator;
 use std::io::Write;
 
-/// The length beyond which buffered text is written.
-const ROOM: usize = 65_536;
-
 /// Appends a text to the output buffer. A buffer that has grown too long is written first.
 #[inline(always)]
-pub fn append_output<W: Write, A: Allocator + Copy>(
+pub(crate) fn append_output<W: Write, A: Allocator + Copy>(
     output: &mut Vec<u8, A>,
     text: &[u8],
     writer: &mut W,
@@ -37,7 +35,7 @@ fn write_on<W: Write, A: Allocator + Copy>(
     ensures until { IfErr result (λ cause. SaysUntil cause (held (W.contents writer.old) output.old.items) (held (W.contents writer.new) output.new.items) []) }
     ensures own { IfErr result (λ cause. cause ≡ RunCause.Write) }
 {
-    if output.len() <= ROOM {
+    if output.len() <= RESPONSE_ROOM {
         return Ok(());
     }
     put(writer, output.as_slice())?;

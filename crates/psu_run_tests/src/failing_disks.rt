@@ -1,4 +1,4 @@
-// Runs on disks that stop or fail once: what is written, and what a restart finds.
+//! Runs on disks that stop or fail once: what is written, and what a restart finds.
 use crate::holds::{count, either, holds};
 use crate::images::{least, written_on};
 use crate::runs::{NOT_OPENED, Ran, run_on};

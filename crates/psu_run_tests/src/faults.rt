@@ -1,9 +1,10 @@
-// Runs that end in a fault: readers and writers that fail, input that is too long, images that can't be opened.
+//! Runs that end in a fault: readers and writers that fail, input that is too long, images that can't be opened.
 use crate::holds::{count, holds};
-use crate::images::{SIZE, formatted};
+use crate::images::formatted;
 use crate::runs::{NOT_OPENED, run_between, run_from, run_on};
 use crate::spelled::spoiled;
 use psu_disk::{FailingDisk, MemDisk};
+use psu_items::IMAGE_SIZE;
 use psu_run::{RunCause, StartCause};
 use std::alloc::Global;
 use std::io::{self, ErrorKind, Read, Write};
@@ -153,13 +154,13 @@ fn input_is_bounded(rt: HostRuntime) {
 fn is_not_opened(alloc: Global, size: u64) -> Option<bool> {
     let mut reader: &[u8] = INPUT;
     let ended = run_from(alloc, alloc, &mut reader, MemDisk::new(alloc, size).ok()?);
-    let is_told = ended.cause == Some(RunCause::Open(StartCause::NoRoot));
-    Some(is_told && reader == INPUT && ended.text.is_empty())
+    let has_no_root = ended.cause == Some(RunCause::Open(StartCause::NoRoot));
+    Some(has_no_root && reader == INPUT && ended.text.is_empty())
 }
 
 #[test]
 fn an_image_that_is_none_is_not_opened(rt: HostRuntime) {
-    for size in [0, 1_023, SIZE] {
+    for size in [0, 1_023, IMAGE_SIZE] {
         holds(&rt, is_not_opened(rt.alloc(), size) == Some(true), &size);
     }
 }

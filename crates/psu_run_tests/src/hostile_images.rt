@@ -1,9 +1,9 @@
-// Images that are refused, each for its cause, and one whose root number is the last.
+//! Images that are refused, each for its cause, and one whose root number is the last.
 use crate::holds::holds;
 use crate::images::formatted;
 use crate::runs::run_on;
 use crate::spelled::spoiled;
-use psu_run::{RecoverFault, RunCause, recover};
+use psu_run::{RecoverFault, RunCause, StartCause, recover};
 use psu_tables::row;
 use std::alloc::Global;
 use std::process::Abort;
@@ -11,11 +11,11 @@ use std::process::Abort;
 // Whether a cause is the one with this text.
 fn is_cause(fault: RecoverFault, wanted: &str) -> bool {
     match fault {
-        RecoverFault::NoRoot => wanted == "no root",
-        RecoverFault::BadRoot => wanted == "bad root",
-        RecoverFault::BadVersion => wanted == "bad version",
-        RecoverFault::BadItems => wanted == "bad items",
-        RecoverFault::Device | RecoverFault::Memory => false,
+        RecoverFault::Start(StartCause::NoRoot) => wanted == "no root",
+        RecoverFault::Start(StartCause::BadRoot) => wanted == "bad root",
+        RecoverFault::Start(StartCause::BadVersion) => wanted == "bad version",
+        RecoverFault::Start(StartCause::BadItems) => wanted == "bad items",
+        RecoverFault::Start(StartCause::Device) | RecoverFault::Memory => false,
     }
 }
 
@@ -23,8 +23,8 @@ fn is_cause(fault: RecoverFault, wanted: &str) -> bool {
 fn is_refused(alloc: Global, parts: &str, wanted: &str) -> Option<bool> {
     let disk = spoiled(alloc, formatted(alloc)?, parts)?;
     let fault = recover(alloc, disk).found.err()?;
-    let told = format!(in alloc; "{fault}").ok()?;
-    Some(is_cause(fault, wanted) && told.as_str() == wanted)
+    let text = format!(in alloc; "{fault}").ok()?;
+    Some(is_cause(fault, wanted) && text.as_str() == wanted)
 }
 
 // Checks that each image of a table is refused for its cause.
@@ -78,8 +78,8 @@ fn spoiled_heads_are_refused(rt: HostRuntime) {
 fn last_takes_no_save(alloc: Global) -> Option<bool> {
     let disk = spoiled(alloc, formatted(alloc)?, "8: ff*8")?;
     let ended = run_on(alloc, b"*SAV 1;*OPC?\nSYST:ERR?\n", disk);
-    let is_told = ended.text.as_slice() == b"-320,\"Storage fault\"\n".as_slice();
-    Some(ended.cause == Some(RunCause::Device) && is_told)
+    let is_storage_fault = ended.text.as_slice() == b"-320,\"Storage fault\"\n".as_slice();
+    Some(ended.cause == Some(RunCause::Device) && is_storage_fault)
 }
 
 // No commit can be made to such an image: the save is not confirmed, and the run ends with changes that are not

@@ -1,4 +1,4 @@
-// Lines that no honest controller sends: each is one error, or nothing, and what follows is executed.
+//! Lines that no honest controller sends: each is one error, or nothing, and what follows is executed.
 use crate::holds::holds;
 use crate::images::{formatted, written, written_on};
 use crate::runs::run_from;

@@ -1,8 +1,9 @@
-// What commits keep: each change of nonvolatile state, confirmed alone and then after each other one. Queries after a
-// power loss are answered as before it, whatever the previous commit had already kept.
+//! What commits keep: each change of nonvolatile state, confirmed alone and then after each other one. Queries after a
+//! power loss are answered as before it, whatever the previous commit had already kept.
 use crate::holds::holds;
-use crate::images::{image, written_on};
+use crate::images::written_on;
 use crate::texts::add_line;
+use psu_call_steps::image;
 use std::alloc::Global;
 
 // The state before the changes, in which each of them is accepted.

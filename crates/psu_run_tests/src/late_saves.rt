@@ -1,4 +1,4 @@
-// Saves past the number of changes that may be unflushed, in runs on disks to which no change can be flushed.
+//! Saves past the number of changes that may be unflushed, in runs on disks to which no change can be flushed.
 use crate::holds::holds;
 use crate::images::least;
 use crate::runs::run_on;

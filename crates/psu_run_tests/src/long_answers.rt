@@ -1,4 +1,4 @@
-// Lines with queries whose responses exceed a piece: they are written whole and in order.
+//! Lines with queries whose responses exceed a piece: they are written whole and in order.
 use crate::holds::holds;
 use crate::images::{formatted, written};
 use crate::runs::run_between;

@@ -1,5 +1,5 @@
-// Transcripts that a document can't show: with parts that are repeated, with bytes that can't be seen, and on the
-// smallest image. All others are examples of psu_guide.
+//! Transcripts that a document can't show: with parts that are repeated, with bytes that can't be seen, and on the
+//! smallest image. All others are examples of psu_guide.
 use crate::images::written;
 use crate::transcripts::{play, play_on};
 

@@ -1,13 +1,13 @@
-// Each allocation of five rows fails in turn: each unit gives its answer or -225, or the run ends out of memory. The
-// disk then holds the result of a prefix of the accepted changes, of all of them where `*OPC?` was answered.
-//
-// A row is a text, in parts with an empty line between two. The first part has the lines of a run (`> `), what they
-// write where memory is ample (`< `), and the lines that query afterwards what the image holds (`? `). Each other part
-// is a possible outcome where some units are refused memory: the lines (`| `), each with its alternatives, `nothing`
-// for a line that is not written; and the results of the accepted changes in the image, one after another (`= `).
+//! Each allocation of five rows fails in turn: each unit gives its answer or -225, or the run ends out of memory. The
+//! disk then holds the result of a prefix of the accepted changes, of all of them where `*OPC?` was answered.
+//!
+//! A row is a text, in parts with an empty line between two. The first part has the lines of a run (`> `), what they
+//! write where memory is ample (`< `), and the lines that query afterwards what the image holds (`? `). Each other part
+//! is a possible outcome where some units are refused memory: the lines (`| `), each with its alternatives, `nothing`
+//! for a line that is not written; and the results of the accepted changes in the image, one after another (`= `).
 use crate::images::{least, written_on};
 use crate::runs::{Ran, run_from};
-use crate::transcripts::lines_behind;
+use crate::transcripts::lines_after;
 use bumpalo::Bump;
 use psu_disk::MemDisk;
 use psu_run::RunCause;
@@ -25,7 +25,7 @@ struct Row<'a> {
 
 /// How a run ended.
 #[derive(Clone, Copy, PartialEq, Eq)]
-pub enum End {
+pub(crate) enum End {
     /// The run wrote what it writes where memory is ample.
     Whole,
     /// The run succeeded, with units that were refused memory.
@@ -35,7 +35,7 @@ pub enum End {
 }
 
 /// Returns the rest of a text after a line and its end.
-pub fn behind<'a>(text: &'a [u8], line: &[u8]) -> Option<&'a [u8]> {
+pub(crate) fn rest_after<'a>(text: &'a [u8], line: &[u8]) -> Option<&'a [u8]> {
     let length = line.len();
     if length == 0 || text.len() <= length || !text.starts_with(line) || text[length] != b'\n' {
         return None;
@@ -46,7 +46,7 @@ pub fn behind<'a>(text: &'a [u8], line: &[u8]) -> Option<&'a [u8]> {
 // Returns the rest of a text after the one of a line's alternatives that it begins with.
 fn behind_one<'a>(text: &'a [u8], line: &str) -> Option<&'a [u8]> {
     for one in line.split(" or ") {
-        let rest = behind(text, one.as_bytes());
+        let rest = rest_after(text, one.as_bytes());
         if rest.is_some() {
             return rest;
         }
@@ -66,7 +66,7 @@ fn is_front_of_one(text: &[u8], line: &str) -> bool {
 
 // Returns the rest of a text after the lines of an outcome; the empty text where the run ended early and the text ends
 // before the end of the outcome.
-fn behind_story<'a>(story: &str, text: &'a [u8], whole: bool) -> Option<&'a [u8]> {
+fn rest_after_story<'a>(story: &str, text: &'a [u8], whole: bool) -> Option<&'a [u8]> {
     let mut rest = text;
     for row in story.lines() {
         if let Some(line) = row.strip_prefix("| ") {
@@ -82,16 +82,16 @@ fn behind_story<'a>(story: &str, text: &'a [u8], whole: bool) -> Option<&'a [u8]
 }
 
 // Whether a text is the one of an outcome; of a run that ended early, a prefix of it.
-fn tells(story: &str, text: &[u8], whole: bool) -> bool {
-    match behind_story(story, text, whole) {
+fn has_text(story: &str, text: &[u8], whole: bool) -> bool {
+    match rest_after_story(story, text, whole) {
         Some(rest) => rest.is_empty(),
         None => false,
     }
 }
 
 // Whether the text that an image holds is exactly this line.
-fn is_held(line: &str, held: &[u8]) -> bool {
-    match behind(held, line.as_bytes()) {
+fn is_exactly(line: &str, held: &[u8]) -> bool {
+    match rest_after(held, line.as_bytes()) {
         Some(rest) => rest.is_empty(),
         None => false,
     }
@@ -103,7 +103,7 @@ fn leaves(story: &str, held: &[u8], all: bool) -> bool {
     let mut last = false;
     for row in story.lines() {
         if let Some(line) = row.strip_prefix("= ") {
-            last = is_held(line, held);
+            last = is_exactly(line, held);
             some = some || last;
         }
     }
@@ -118,7 +118,7 @@ fn take(arena: &Bump<Global>, count: usize) -> Result<(), AllocError> {
 }
 
 /// Returns an arena that never frees: it has a second chunk, with room for a run.
-pub fn arena(alloc: Global) -> Result<Bump<Global>, AllocError> {
+pub(crate) fn arena(alloc: Global) -> Result<Bump<Global>, AllocError> {
     let arena = Bump::try_with_capacity(alloc, 55_000)?;
     take(&arena, arena.chunk_capacity())?;
     let second = arena.try_alloc(0u8)?;
@@ -127,7 +127,7 @@ pub fn arena(alloc: Global) -> Result<Bump<Global>, AllocError> {
 }
 
 /// Leaves this many bytes of an arena free, and prevents it from growing.
-pub fn leave(arena: &Bump<Global>, left: usize) -> Result<(), AllocError> {
+pub(crate) fn leave(arena: &Bump<Global>, left: usize) -> Result<(), AllocError> {
     arena.set_allocation_limit(Some(arena.allocated_bytes()));
     take(arena, arena.chunk_capacity().saturating_sub(left))
 }
@@ -137,9 +137,9 @@ impl Row<'_> {
     fn of(alloc: Global, text: &str) -> Option<Row<'_>> {
         let (first, stories) = text.split_once("\n\n").unwrap_or((text, ""));
         Some(Row {
-            input: lines_behind(alloc, first, "> ")?,
-            output: lines_behind(alloc, first, "< ")?,
-            question: lines_behind(alloc, first, "? ")?,
+            input: lines_after(alloc, first, "> ")?,
+            output: lines_after(alloc, first, "< ")?,
+            question: lines_after(alloc, first, "? ")?,
             stories,
         })
     }
@@ -148,7 +148,7 @@ impl Row<'_> {
     fn allows(&self, text: &[u8], held: &[u8], whole: bool) -> bool {
         let all = whole || text.starts_with(b"1\n");
         for story in self.stories.split("\n\n") {
-            if tells(story, text, whole) && leaves(story, held, all) {
+            if has_text(story, text, whole) && leaves(story, held, all) {
                 return true;
             }
         }

@@ -1,4 +1,4 @@
-// A message that ends at any of its bytes.
+//! A message that ends at any of its bytes.
 use crate::holds::holds;
 use crate::images::written;
 use std::alloc::Global;

@@ -1,8 +1,9 @@
-// An image of version 1, as an instrument of that version wrote it: it is read unchanged, and the next commit makes it
-// version 2.
-use crate::images::{SIZE, left_by, reported, written_on};
+//! An image of version 1, as an instrument of that version wrote it: it is read unchanged, and the next commit makes it
+//! version 2.
+use crate::images::{left_by, reported, written_on};
 use crate::spelled::spoiled;
 use psu_disk::MemDisk;
+use psu_items::IMAGE_SIZE;
 use std::alloc::Global;
 
 // Root 1 has the number 2, is open and names one head, on page 2: that of the item of register 3, of 28 bytes on page
@@ -15,7 +16,7 @@ const VERSION_1: &str = "
 
 // Returns the image, byte for byte.
 fn old_image(alloc: Global) -> Option<MemDisk<Global>> {
-    spoiled(alloc, MemDisk::new(alloc, SIZE).ok()?, VERSION_1)
+    spoiled(alloc, MemDisk::new(alloc, IMAGE_SIZE).ok()?, VERSION_1)
 }
 
 // Whether the report on a disk begins with this text.
@@ -23,26 +24,26 @@ fn begins(alloc: Global, disk: MemDisk<Global>, report: &str) -> Option<bool> {
     Some(reported(alloc, disk)?.starts_with(report.as_bytes()))
 }
 
-const AS_IT_STANDS: &str = "image version 1 root 2\npages 2 of 256\n";
+const UNCHANGED: &str = "image version 1 root 2\npages 2 of 256\n";
 
-fn is_told(alloc: Global) -> Option<bool> {
-    begins(alloc, old_image(alloc)?, AS_IT_STANDS)
+fn is_reported(alloc: Global) -> Option<bool> {
+    begins(alloc, old_image(alloc)?, UNCHANGED)
 }
 
 #[test]
-fn an_image_of_version_1_is_told_as_it_stands(rt: HostRuntime) {
-    assert!(rt; is_told(rt.alloc()) == Some(true));
+fn an_image_of_version_1_is_reported_unchanged(rt: HostRuntime) {
+    assert!(rt; is_reported(rt.alloc()) == Some(true));
 }
 
-fn is_left(alloc: Global) -> Option<bool> {
+fn is_unchanged(alloc: Global) -> Option<bool> {
     let disk = left_by(alloc, old_image(alloc)?, b"*RCL 3;VOLT?\n")?;
-    begins(alloc, disk, AS_IT_STANDS)
+    begins(alloc, disk, UNCHANGED)
 }
 
 // Reading it writes nothing: it stays version 1.
 #[test]
 fn a_run_without_a_commit_leaves_version_1(rt: HostRuntime) {
-    assert!(rt; is_left(rt.alloc()) == Some(true));
+    assert!(rt; is_unchanged(rt.alloc()) == Some(true));
 }
 
 const SAVE: &[u8] = b"*RCL 3;VOLT?\nVOLT 1;*SAV 42;*OPC?\n";

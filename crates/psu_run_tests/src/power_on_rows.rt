@@ -1,4 +1,4 @@
-// The settings at power-on: their command, what a restart finds, and power losses in the commit of a choice.
+//! The settings at power-on: their command, what a restart finds, and power losses in the commit of a choice.
 use crate::holds::{count, either, holds};
 use crate::images::{least, left_by, written_on};
 use crate::runs::run_on;

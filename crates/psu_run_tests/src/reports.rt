@@ -1,21 +1,22 @@
-// What `recover` reports of images.
+//! What `recover` reports of images.
 use crate::holds::holds;
-use crate::images::{SIZE, formatted, image, left_by, reported, written_on};
+use crate::images::{formatted, left_by, reported, written_on};
 use crate::texts::add_line;
-use crate::transcripts::lines_behind;
-use psu_call_steps::{play, powered_on};
+use crate::transcripts::lines_after;
+use psu_call_steps::{image, play, powered_on};
 use psu_disk::MemDisk;
 use psu_exec::Ended;
-use psu_run::{RecoverFault, recover};
+use psu_items::IMAGE_SIZE;
+use psu_run::{RecoverFault, StartCause, recover};
 use std::alloc::Global;
 use std::process::Abort;
 
 // Whether the report on the image after a run is the one of a row: the lines that are sent follow `> `, and those of
 // the report follow `= `.
 fn is_reported(alloc: Global, row: &str) -> Option<bool> {
-    let input = lines_behind(alloc, row, "> ")?;
+    let input = lines_after(alloc, row, "> ")?;
     let disk = left_by(alloc, formatted(alloc)?, &input)?;
-    Some(reported(alloc, disk)? == lines_behind(alloc, row, "= ")?)
+    Some(reported(alloc, disk)? == lines_after(alloc, row, "= ")?)
 }
 
 // Checks the reports of some rows, with an empty line between two.
@@ -147,7 +148,7 @@ const OF_A_FRESH_IMAGE: &str =
 // Whether a disk of this many bytes 00 is not an image.
 fn is_none(alloc: Global, size: u64) -> Option<bool> {
     let disk = MemDisk::new(alloc, size).ok()?;
-    Some(recover(alloc, disk).found.err()? == RecoverFault::NoRoot)
+    Some(recover(alloc, disk).found.err()? == RecoverFault::Start(StartCause::NoRoot))
 }
 
 #[test]
@@ -155,7 +156,7 @@ fn images_that_are_none(rt: HostRuntime) {
     let fresh = formatted(rt.alloc()).expect(&rt, "an image");
     let text = reported(rt.alloc(), fresh).expect(&rt, "a report");
     assert!(rt; text.as_slice() == OF_A_FRESH_IMAGE.as_bytes());
-    for size in [0, 1_023, SIZE] {
+    for size in [0, 1_023, IMAGE_SIZE] {
         holds(&rt, is_none(rt.alloc(), size) == Some(true), &size);
     }
 }

@@ -1,22 +1,22 @@
-// A run, and its result.
+//! A run, and its result.
 use psu_disk::Disk;
 use psu_run::{RunCause, RunFault, StartCause, run};
 use std::alloc::{Allocator, Global};
 use std::io::{Read, Write};
 
 /// The cause of a run whose disk fails when it is opened.
-pub const NOT_OPENED: RunCause = RunCause::Open(StartCause::Device);
+pub(crate) const NOT_OPENED: RunCause = RunCause::Open(StartCause::Device);
 
 /// The result of a run: its text, why it ended early, and the disk.
 #[derive(Drop)]
-pub struct Ran<D: Disk> {
-    pub text: Vec<u8>,
-    pub cause: Option<RunCause>,
-    pub disk: D,
+pub(crate) struct Ran<D: Disk> {
+    pub(crate) text: Vec<u8>,
+    pub(crate) cause: Option<RunCause>,
+    pub(crate) disk: D,
 }
 
 /// Runs; all rows run through this function, so its contract is read in one proof only.
-pub fn run_between<R: Read, W: Write, D: Disk, A: Allocator + Copy>(
+pub(crate) fn run_between<R: Read, W: Write, D: Disk, A: Allocator + Copy>(
     memory: A,
     reader: &mut R,
     writer: &mut W,
@@ -26,13 +26,13 @@ pub fn run_between<R: Read, W: Write, D: Disk, A: Allocator + Copy>(
 }
 
 /// Runs this input on a disk.
-pub fn run_on<D: Disk>(alloc: Global, input: &[u8], disk: D) -> Ran<D> {
+pub(crate) fn run_on<D: Disk>(alloc: Global, input: &[u8], disk: D) -> Ran<D> {
     let mut reader = input;
     run_from(alloc, alloc, &mut reader, disk)
 }
 
 /// Runs the input of a reader, with memory of its own.
-pub fn run_from<R: Read, D: Disk, A: Allocator + Copy>(
+pub(crate) fn run_from<R: Read, D: Disk, A: Allocator + Copy>(
     alloc: Global,
     memory: A,
     reader: &mut R,

@@ -1,11 +1,11 @@
-// Memory is refused while one line is executed: each of its units that is not done has reported that, by -225 in the
-// error queue, and has had no other effect. The line after it queries that, with memory again.
-//
-// A case is a text: the lines before, which write one line at most (`before: `), the line with little memory
-// (`line: `), the one that queries the result (`then: `), and all that may be written, a row each (`- `), first what is
-// written where memory is ample. ` / ` separates two lines.
+//! Memory is refused while one line is executed: each of its units that is not done has reported that, by -225 in the
+//! error queue, and has had no other effect. The line after it queries that, with memory again.
+//!
+//! A case is a text: the lines before, which write one line at most (`before: `), the line with little memory
+//! (`line: `), the one that queries the result (`then: `), and all that may be written, a row each (`- `), first what is
+//! written where memory is ample. ` / ` separates two lines.
 use crate::images::least;
-use crate::memory::{End, arena, behind, leave};
+use crate::memory::{End, arena, leave, rest_after};
 use crate::runs::{Ran, run_from};
 use bumpalo::Bump;
 use psu_disk::MemDisk;
@@ -46,7 +46,7 @@ struct Case<'a> {
     before: Vec<u8>,
     line: Vec<u8>,
     question: Vec<u8>,
-    told_before: Vec<u8>,
+    answered_before: Vec<u8>,
     rows: &'a str,
 }
 
@@ -74,7 +74,7 @@ fn cell<'a>(case: &'a str, mark: &str) -> &'a str {
 fn is_written(row: &str, text: &[u8], whole: bool) -> bool {
     let mut rest = text;
     for line in row.split(" / ") {
-        match behind(rest, line.as_bytes()) {
+        match rest_after(rest, line.as_bytes()) {
             Some(left) => rest = left,
             None => return !whole && line.as_bytes().starts_with(rest),
         }
@@ -85,17 +85,17 @@ fn is_written(row: &str, text: &[u8], whole: bool) -> bool {
 impl Case<'_> {
     // Reads a case from its text.
     fn of(alloc: Global, text: &str) -> Result<Case<'_>, AllocError> {
-        let told = cell(text, "told before: ");
-        let told_before = if told.is_empty() {
+        let answered = cell(text, "answered before: ");
+        let answered_before = if answered.is_empty() {
             Vec::new(alloc)
         } else {
-            lines_of(alloc, told)?
+            lines_of(alloc, answered)?
         };
         Ok(Case {
             before: lines_of(alloc, cell(text, "before: "))?,
             line: lines_of(alloc, cell(text, "line: "))?,
             question: lines_of(alloc, cell(text, "then: "))?,
-            told_before,
+            answered_before,
             rows: text,
         })
     }
@@ -132,9 +132,8 @@ impl Case<'_> {
             None if is_written(cell(self.rows, "- "), text, true) => Some(End::Whole),
             None if self.allows(text, true) => Some(End::Partly),
             Some(RunCause::Memory)
-                if self.allows(text, false) && text.starts_with(self.told_before.as_slice()) => {
-                Some(End::Refused)
-            }
+                if self.allows(text, false) && text.starts_with(self.answered_before.as_slice()) =>
+                { Some(End::Refused) }
             _ => None,
         }
     }
@@ -181,13 +180,13 @@ fn go_with_little_memory(rt: &impl Abort, alloc: Global, cases: &str) {
 // An answer of at most 16 bytes is never refused: the lines end as they do with ample memory, or the run ends.
 const ANSWERS: &str = "
 before: *PSC 0;*SRE 32;*ESE 128;*OPC? / !POWER
-told before: 1
+answered before: 1
 line: *STB?;*ESR?;*STB?
 then: SYST:ERR:COUN?
 - 1 / 96;128;0 / 0
 
 before: VOLT 5.25;*SAV 3;*OPC? / !POWER
-told before: 1
+answered before: 1
 line: VOLT?;*RCL 3;VOLT?
 then: SYST:ERR:COUN?;:VOLT?
 - 1 / 0.000;5.250 / 0;5.250
@@ -224,7 +223,7 @@ then: SYST:ERR:COUN?;*LMC?;:VOLT?;:SYST:ERR?;:SYST:ERR?
 - 0.000 / 2;"";0.000;-225,"Out of memory";-113,"Undefined header"
 
 before: *DMC "SETA",#17VOLT $1;*EMC 1;SETA 3;VOLT?
-told before: 3.000
+answered before: 3.000
 line: *DMC "seta",#10;*LMC?;SYST:ERR?
 then: SYST:ERR:COUN?;*LMC?
 - 3.000 / "SETA";-277,"Macro redefinition not allowed" / 0;"SETA"
@@ -239,7 +238,7 @@ fn macros_that_are_refused(rt: HostRuntime) {
 
 const FILES: &str = r#"
 before: MMEM:DATA "A",#13xyz;*OPC? / !POWER
-told before: 1
+answered before: 1
 line: MMEM:DATA? "A";:MMEM:DEL "B"
 then: SYST:ERR?;:SYST:ERR:COUN?;:MMEM:CAT?
 - 1 / #13xyz / -256,"File name not found";0;1024,1024,"A,BIN,3"

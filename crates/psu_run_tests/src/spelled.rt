@@ -1,4 +1,4 @@
-// Disks that are spelled byte by byte, as the table of the format has them.
+//! Disks that are spelled byte by byte, as the table of the format has them.
 use psu_disk::{Disk, MemDisk};
 use psu_tables::bytes;
 use std::alloc::Global;
@@ -18,7 +18,11 @@ fn put_part(alloc: Global, disk: &mut MemDisk<Global>, part: &str) -> Option<()>
 }
 
 /// Returns a disk with these parts written over it, each at its place, and synced: `512: a5 'PSU; 527: 01`.
-pub fn spoiled(alloc: Global, mut disk: MemDisk<Global>, parts: &str) -> Option<MemDisk<Global>> {
+pub(crate) fn spoiled(
+    alloc: Global,
+    mut disk: MemDisk<Global>,
+    parts: &str,
+) -> Option<MemDisk<Global>> {
     for part in parts.split(";") {
         put_part(alloc, &mut disk, part)?;
     }

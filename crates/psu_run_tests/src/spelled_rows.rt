@@ -1,5 +1,5 @@
-// Runs on contents that are spelled byte by byte: a macro whose body has two lines, which no line of a run can define,
-// and a file with the bytes of settings.
+//! Runs on contents that are spelled byte by byte: a macro whose body has two lines, which no line of a run can define,
+//! and a file with the bytes of settings.
 use crate::images::{formatted, least, written_on};
 use crate::spelled::spoiled;
 use psu_tables::bytes;

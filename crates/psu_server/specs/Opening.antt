@@ -7,7 +7,7 @@ use Rattle.psu_hislip.specs.Header.{header_bytes}
 use Rattle.psu_hislip.specs.Stream.{IsStream, Received}
 use Rattle.psu_hislip.specs.declared.first.First.{First}
 use Rattle.psu_hislip.specs.declared.message_type.MessageType.TheVariants.{InitializeResponse}
-use Rattle.psu_turn.specs.Seats.{Sight, Calls}
+use Rattle.psu_turn.specs.Seats.{Sight, SeatCalls}
 use Rattle.psu_exec.specs.Device.{State}
 use Rattle.psu_exec.specs.Calls.{Entry}
 use Rattle.psu_exec.specs.Calls.Entry.{Opened, Closed}
@@ -26,9 +26,9 @@ initialize_response number = header_bytes (header_of InitializeResponse 0 (16777
 
 -- The device opened a session under this number: the entry of the call in the seat's history has it as its reply.
 abbrev pub IsOpened : Type 0 → Sight State Entry → ℕ → Sight State Entry → Type 0
-IsOpened honest old number new = Calls (AdmitsOn honest) old (Opened (Some number)) new
+IsOpened honest old number new = SeatCalls (AdmitsOn honest) old (Opened (Some number)) new
 
 -- It opened one, and closed it again.
 abbrev pub IsClosedAgain : Type 0 → Sight State Entry → Sight State Entry → Type 0
 IsClosedAgain honest old new = (number : ℕ) × (granted : List ℕ) × (mid : Sight State Entry)
-    × IsOpened honest old number mid × Calls (AdmitsOn honest) mid (Closed number granted) new
+    × IsOpened honest old number mid × SeatCalls (AdmitsOn honest) mid (Closed number granted) new

@@ -1,7 +1,7 @@
-// The server: it powers on, and gives each connection a thread.
+//! The server: it powers on, and gives each connection a thread.
 use crate::connection::Accepted;
 use crate::serve_fault::ServeFault;
-use crate::silent::Silent;
+use crate::silent_connections::SilentConnections;
 use psu_bench::{Caller, Gate, power_on};
 use psu_disk::{Disk, FileDisk, OsFiles};
 use psu_session_io::Link;
@@ -17,13 +17,13 @@ use std::time::{Duration, Instant};
 use std::{io, thread};
 
 /// How long the acceptor sleeps where no connection can be accepted, in milliseconds.
-const PAUSE: u64 = 20;
+const ACCEPT_PAUSE: u64 = 20;
 
 // What accepts connections.
 #[derive(Drop)]
 struct Acceptor<D: Disk, G: Gate> {
     server: Arc<Server>,
-    silent: Arc<Mutex<Silent>>,
+    silent: Arc<Mutex<SilentConnections>>,
     caller: Caller<D, G>,
 }
 
@@ -38,7 +38,7 @@ impl<D: Disk + Drop + Send + 'static, G: Gate + Drop + Send + Sync + 'static> Ac
             Err(error) => Err(error),
         };
         if accepted.is_err() {
-            thread::sleep(&rt, Duration::from_millis(PAUSE));
+            thread::sleep(&rt, Duration::from_millis(ACCEPT_PAUSE));
         }
     }
 
@@ -151,7 +151,7 @@ fn acceptor_of<R: Clock, D: Disk + Drop, G: Gate + Drop>(
     caller: Caller<D, G>,
 ) -> io::Result<Acceptor<D, G>> {
     let server = Arc::new(alloc, Server::new(alloc, Instant::now(rt)?))?;
-    let silent = Arc::new(alloc, Mutex::new(Silent::new(alloc)))?;
+    let silent = Arc::new(alloc, Mutex::new(SilentConnections::new(alloc)))?;
     Ok(Acceptor {
         server,
         silent,

@@ -1,9 +1,9 @@
-// A connection, from its first byte to its end.
+//! A connection, from its first byte to its end.
 use crate::opening::{Opening, close, first_message, open};
-use crate::silent::Silent;
+use crate::silent_connections::SilentConnections;
 use psu_bench::{Caller, Gate};
 use psu_disk::Disk;
-use psu_exec::Session as Number;
+use psu_exec::Session;
 use psu_hislip::{FatalCode, First};
 use psu_session_io::{Connection, FirstReply, Link, ServedSession};
 use psu_threads::{Role, Server, serve_session};
@@ -15,9 +15,9 @@ use std::{io, thread};
 
 /// A connection that was accepted.
 #[derive(Drop)]
-pub struct Accepted<D: Disk, G: Gate> {
+pub(crate) struct Accepted<D: Disk, G: Gate> {
     pub server: Arc<Server>,
-    pub silent: Arc<Mutex<Silent>>,
+    pub silent: Arc<Mutex<SilentConnections>>,
     pub number: u64,
     pub link: Arc<Link>,
     pub caller: Caller<D, G>,
@@ -62,7 +62,7 @@ impl<D: Disk + Drop, G: Gate + Drop> Accepted<D, G> {
 
     // Returns the session of a number.
     fn session<R: Wait>(&self, rt: &R, number: u32) -> Option<Arc<ServedSession>> {
-        let number = Number::new(u8::try_from(number).ok()?)?;
+        let number = Session::new(u8::try_from(number).ok()?)?;
         self.server.registry.lock(rt).session(number)
     }
 

@@ -1,7 +1,7 @@
-// A connection up to its first message, and sessions that open and close.
+//! A connection up to its first message, and sessions that open and close.
 ghost use Rattle.std.specs.Prelude.{◌≡◌, ℕ, List, [], ◌∷◌, ◌++◌, IfOk, IfSome, IsNone, None, OnErr};
 ghost use Rattle.std.specs.Arc.{arc_value};
-ghost use Rattle.psu_turn.specs.Seats.{Calls};
+ghost use Rattle.psu_turn.specs.Seats.{SeatCalls};
 ghost use Rattle.psu_exec.specs.Calls.Entry.{Closed, Opened};
 ghost use Rattle.psu_bench.specs.Calls.{AdmitsOn};
 ghost use Rattle.psu_hislip.specs.Channel.{Fed};
@@ -10,11 +10,11 @@ ghost use Rattle.psu_server.specs.Opening.{IsClosedAgain, IsFirst, IsOpened, ini
 
 use psu_bench::{Caller, Gate, Others};
 use psu_disk::Disk;
-use psu_exec::Session as Number;
+use psu_exec::Session;
 use psu_hislip::{Channel, First};
-use psu_session::Session;
+use psu_session::HislipSession;
 use psu_session_io::{FirstReply, Link, ReadResult, ServedSession};
-use psu_threads::{Reporter, SILENCE, Server, space};
+use psu_threads::{Reporter, SILENCE_SECONDS, Server, space};
 use std::alloc::Global;
 use std::collections::VecDeque;
 use std::io::{self, ErrorKind};
@@ -23,11 +23,11 @@ use std::sync::{Arc, Wait};
 use std::time::{Duration, Instant};
 
 /// How much is read at once before a connection has sent its first message.
-const SPACE: usize = 4_096;
+const FIRST_READ_SIZE: usize = 4_096;
 
 /// What a connection has sent first.
 #[derive(Drop)]
-pub struct Opening {
+pub(crate) struct Opening {
     /// What its first message requests.
     pub first: First,
     /// The bytes of this message.
@@ -97,15 +97,19 @@ impl FirstMessage {
 }
 
 /// Reads the first message of a connection; `None` where the connection ends or takes too long.
-pub fn first_message<R: Clock>(rt: &R, alloc: Global, link: &Link) -> io::Result<Option<Opening>> {
+pub(crate) fn first_message<R: Clock>(
+    rt: &R,
+    alloc: Global,
+    link: &Link,
+) -> io::Result<Option<Opening>> {
     let start = Instant::now(rt)?;
-    let mut space = space(alloc, SPACE)?;
+    let mut space = space(alloc, FIRST_READ_SIZE)?;
     let mut message = FirstMessage {
         channel: Channel::new(alloc),
         bytes: Vec::new(alloc),
     };
     for _ in 0..u64::MAX {
-        let left = Duration::from_secs(SILENCE).saturating_sub(start.elapsed(rt)?);
+        let left = Duration::from_secs(SILENCE_SECONDS).saturating_sub(start.elapsed(rt)?);
         if left < Duration::from_millis(1) {
             return Ok(None);
         }
@@ -123,10 +127,10 @@ pub fn first_message<R: Clock>(rt: &R, alloc: Global, link: &Link) -> io::Result
 }
 
 // Returns the value of a session of this number, whose synchronous connection has sent these bytes first.
-fn session_of(alloc: Global, number: Number, message: &[u8]) -> io::Result<Session>
+fn session_of(alloc: Global, number: Session, message: &[u8]) -> io::Result<HislipSession>
     ensures { IfOk result (λ session. (start : Start) × (start.session ≡ number) × (session.state ≡ fresh start)) }
 {
-    match Session::open(alloc, u16::from(number.number()), message) {
+    match HislipSession::open(alloc, u16::from(number.number()), message) {
         Ok(session) => Ok(session),
         Err(_) => Err(io::Error::from(ErrorKind::OutOfMemory)),
     }
@@ -136,7 +140,7 @@ fn session_of(alloc: Global, number: Number, message: &[u8]) -> io::Result<Sessi
 // as the registry and its connection share it.
 fn opened(
     alloc: Global,
-    number: Number,
+    number: Session,
     link: &Arc<Link>,
     message: &[u8],
 ) -> io::Result<(FirstReply, Arc<ServedSession>, Arc<ServedSession>)>
@@ -155,7 +159,7 @@ fn opened(
 /// Opens a session over its synchronous connection, whose first message has these bytes, and returns it with its
 /// response; `None` where there are too many sessions. Its number is the one that the device has given it, and is free
 /// again where memory for it is refused.
-pub fn open<R: Wait, D: Disk + Drop, G: Gate + Drop>(
+pub(crate) fn open<R: Wait, D: Disk + Drop, G: Gate + Drop>(
     rt: &R,
     server: &Server,
     caller: &mut Caller<D, G>,
@@ -164,7 +168,7 @@ pub fn open<R: Wait, D: Disk + Drop, G: Gate + Drop>(
 ) -> io::Result<Option<(FirstReply, Arc<ServedSession>)>>
     ensures number { IfOk result (λ some. IfSome some (λ opened. IsOpened D.honest caller.old.seat (arc_value opened.1).number caller.new.seat)) }
     ensures response { IfOk result (λ some. IfSome some (λ opened. opened.0.bytes ≡ initialize_response (arc_value opened.1).number)) }
-    ensures crowded { IfOk result (λ some. IsNone some → Calls (AdmitsOn D.honest) caller.old.seat (Opened None) caller.new.seat) }
+    ensures crowded { IfOk result (λ some. IsNone some → SeatCalls (AdmitsOn D.honest) caller.old.seat (Opened None) caller.new.seat) }
     ensures closed { OnErr result (IsClosedAgain D.honest caller.old.seat caller.new.seat) }
 {
     let others = Reporter { rt, server };
@@ -188,13 +192,13 @@ pub fn open<R: Wait, D: Disk + Drop, G: Gate + Drop>(
 }
 
 /// Closes a session and frees its number.
-pub fn close<R: Wait, D: Disk + Drop, G: Gate + Drop>(
+pub(crate) fn close<R: Wait, D: Disk + Drop, G: Gate + Drop>(
     rt: &R,
     server: &Server,
     caller: &mut Caller<D, G>,
-    number: Number,
+    number: Session,
 )
-    ensures { (granted : List ℕ) × Calls (AdmitsOn D.honest) caller.old.seat (Closed number granted) caller.new.seat }
+    ensures { (granted : List ℕ) × SeatCalls (AdmitsOn D.honest) caller.old.seat (Closed number granted) caller.new.seat }
 {
     let others = Reporter { rt, server };
     let mut registry = others.lock_registry();

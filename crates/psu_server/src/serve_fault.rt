@@ -1,4 +1,4 @@
-// Why a server does not start.
+//! Why a server does not start.
 ghost use Rattle.std.specs.Prelude.{◌≡◌};
 ghost use Rattle.std.specs.IoError.{error_kind};
 ghost use Rattle.std.specs.declared.io.ErrorKind.TheVariants as ErrorKind;

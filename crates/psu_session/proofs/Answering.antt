@@ -4,7 +4,7 @@ use Rattle.std.specs.Prelude.{flat_map, map}
 use Rattle.std.proofs.lemmas.List.Concat.{flat_map-append}
 use Rattle.std.proofs.lemmas.List.Elements.{All-cons, All-nil}
 use Rattle.psu_hislip.specs.Answer.{answer_size}
-use Rattle.psu_hislip.specs.declared.origin.Origin.{Origin}
+use Rattle.psu_hislip.specs.declared.action.Origin.{Origin}
 use Rattle.psu_messages.specs.Executions.{Reaches}
 use Rattle.psu_messages.specs.Messages.{OverIsMessages, SoFarIsMessages}
 use Rattle.psu_session.specs.Answered.{EachIsWholeOrEnded, IsAnswered, TakesAtMost, Weaves, pieces}

@@ -3,14 +3,14 @@ use Rattle.std.proofs.Common.{◌≡◌, ℕ, All, List, [], ◌∷◌, ◌++◌
 use Rattle.std.proofs.lemmas.List.Elements.{All-cons, All-nil}
 use Rattle.psu_hislip.specs.Runs.{origins}
 use Rattle.psu_hislip.specs.Stream.{Received}
-use Rattle.psu_hislip.specs.declared.origin.Origin.{Origin}
+use Rattle.psu_hislip.specs.declared.action.Origin.{Origin}
 use Rattle.psu_hislip.specs.declared.side.Side.TheVariants.{Sync, Async}
 use Rattle.psu_messages.specs.Effects.{Effect}
-use Rattle.psu_session.specs.Exchange.{asked}
+use Rattle.psu_session.specs.Exchange.{acts_requested}
 use Rattle.psu_session.specs.Cleared.{IsAfterResponses, worked}
 use Rattle.psu_session.specs.Events as events
 use Rattle.psu_session.specs.Events.{Event, Came, Did, Put, exchange_history, put, taken}
-use Rattle.psu_session.specs.State.{State}
+use Rattle.psu_session.specs.State.{SessionState}
 use Rattle.psu_session.proofs.Serving.{put-append}
 
 each_worked : (P : Origin → Type 0) (xs : List Event) → ((before after : List Event) (origin : Origin) (effect : Effect) (frames : List ℕ) → xs ≡ before ++ Did origin effect frames ∷ after → P origin) → All P (worked xs)
@@ -28,8 +28,8 @@ each_worked P (events.Put side frames ∷ xs) f = each_worked P xs (λ before af
 each_worked P (events.Took side bytes ∷ xs) f = each_worked P xs (λ before after o d g is. f (events.Took side bytes ∷ before) after o d g (ap (λ (z : List Event). events.Took side bytes ∷ z) is))
 each_worked P (events.Wrote side ∷ xs) f = each_worked P xs (λ before after o d g is. f (events.Wrote side ∷ before) after o d g (ap (λ (z : List Event). events.Wrote side ∷ z) is))
 
-module _ (session : ℕ) (before between : List Event) (clear : Received) (reply : List ℕ) (after history : List Event) (s : State) (is : history ≡ before ++ Came Async clear ∷ (between ++ Put Sync reply ∷ after))
-    (none : (middle later : List Event) (origin : Origin) (effect : Effect) (frames : List ℕ) → history ≡ before ++ Came Async clear ∷ (middle ++ Did origin effect frames ∷ later) → All (λ old. old ≡ origin → ⊥) (origins (asked session (exchange_history before))))
+module _ (session : ℕ) (before between : List Event) (clear : Received) (reply : List ℕ) (after history : List Event) (s : SessionState) (is : history ≡ before ++ Came Async clear ∷ (between ++ Put Sync reply ∷ after))
+    (none : (middle later : List Event) (origin : Origin) (effect : Effect) (frames : List ℕ) → history ≡ before ++ Came Async clear ∷ (middle ++ Did origin effect frames ∷ later) → All (λ old. old ≡ origin → ⊥) (origins (acts_requested session (exchange_history before))))
     (outputs : put Sync history ≡ taken Sync history ++ s.sync) where
   pub acknowledged_last : IsAfterResponses session before between reply after history s
   acknowledged_last = record {

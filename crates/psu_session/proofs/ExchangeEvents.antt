@@ -3,20 +3,20 @@ use Rattle.std.proofs.Common.{◌≡◌, ◌⊎◌, ℕ, Bool, true, false, Opti
 use Rattle.std.specs.Prelude.{flat_map, map}
 use Rattle.std.proofs.lemmas.List.{append-nil}
 use Rattle.std.proofs.lemmas.List.Concat.{flat_map-append}
-use Rattle.psu_locks.specs.declared.grant.Grant.{Grant}
-use Rattle.psu_locks.specs.declared.kind.Kind.{Kind}
+use Rattle.psu_locks.specs.declared.results.Grant.{Grant}
+use Rattle.psu_locks.specs.declared.requests.Kind.{Kind}
 use Rattle.psu_hislip.specs.Action.{Act}
 use Rattle.psu_hislip.specs.Core.{Core}
 use Rattle.psu_hislip.specs.LockResponses.{lock_response}
 use Rattle.psu_hislip.specs.Runs.{Arrival, actions_of, core_after, origin_of, origins, outcome, started}
 use Rattle.psu_hislip.specs.declared.header.Header.{Header}
-use Rattle.psu_hislip.specs.declared.origin.Origin.{Origin}
+use Rattle.psu_hislip.specs.declared.action.Origin.{Origin}
 use Rattle.psu_hislip.specs.declared.side.Side.{Side}
 use Rattle.psu_hislip.specs.declared.side.Side.TheVariants.{Sync, Async}
 use Rattle.psu_hislip.proofs.Runs.{core_after-append}
 use Rattle.psu_session.specs.Locking.{kind_of}
 use Rattle.psu_session.specs.Exchange as exchange
-use Rattle.psu_session.specs.Exchange.{Done, Order, asked, core_at, order_in, orders, replies, reply_of}
+use Rattle.psu_session.specs.Exchange.{Done, Order, acts_requested, core_at, order_in, orders, replies, reply_of}
 use Rattle.psu_session.specs.Exchanged.{ExchangeEvent, Did, Replied, bytes_in, came, execution_in, executions, replied, reply_in, arrivals_in, written}
 use Rattle.psu_session.specs.Events as session
 use Rattle.psu_session.specs.Events.{Event, bytes_received, bytes_received_by, if_same, exchange_history, put, exchange_view, taken, taken_by, waits_after}
@@ -68,8 +68,8 @@ module _ (session : ℕ) where
   pub core-append : (xs ys : List ExchangeEvent) → core_at session (xs ++ ys) ≡ core_after (core_at session xs) (came ys)
   core-append xs ys = ap (λ (z : List Arrival). core_after (started session) z) (came-append xs ys) ∙ core_after-append (started session) (came xs) (came ys)
 
-  pub asked-append : (xs ys : List ExchangeEvent) → asked session (xs ++ ys) ≡ asked session xs ++ actions_of (core_at session xs) (came ys)
-  asked-append xs ys = ap (λ (z : List Arrival). actions_of (started session) z) (came-append xs ys) ∙ actions (started session) (came xs) (came ys) where
+  pub requested-append : (xs ys : List ExchangeEvent) → acts_requested session (xs ++ ys) ≡ acts_requested session xs ++ actions_of (core_at session xs) (came ys)
+  requested-append xs ys = ap (λ (z : List Arrival). actions_of (started session) z) (came-append xs ys) ∙ actions (started session) (came xs) (came ys) where
     actions : (core : Core) (ts us : List Arrival) → actions_of core (ts ++ us) ≡ actions_of core ts ++ actions_of (core_after core ts) us
     actions core [] us = refl
     actions core (t ∷ ts) us =
@@ -79,8 +79,8 @@ module _ (session : ℕ) where
   pub core_still : (xs ys : List ExchangeEvent) → came ys ≡ [] → core_at session (xs ++ ys) ≡ core_at session xs
   core_still xs ys none = core-append xs ys ∙ ap (λ (z : List Arrival). core_after (core_at session xs) z) none
 
-  pub asked_still : (xs ys : List ExchangeEvent) → came ys ≡ [] → asked session (xs ++ ys) ≡ asked session xs
-  asked_still xs ys none = asked-append xs ys ∙ ap (λ (z : List Arrival). asked session xs ++ actions_of (core_at session xs) z) none ∙ append-nil (asked session xs)
+  pub asked_still : (xs ys : List ExchangeEvent) → came ys ≡ [] → acts_requested session (xs ++ ys) ≡ acts_requested session xs
+  asked_still xs ys none = requested-append xs ys ∙ ap (λ (z : List Arrival). acts_requested session xs ++ actions_of (core_at session xs) z) none ∙ append-nil (acts_requested session xs)
 
 -- ---- replies of the core
 

@@ -15,7 +15,7 @@ use Rattle.psu_session.specs.Events.{Event, exchange_history}
 use Rattle.psu_session.specs.History.{IsExchangeHistory}
 use Rattle.psu_session.specs.Step.{IsHistory, Steps}
 use Rattle.psu_session.specs.Step.Steps.{Still, Then}
-use Rattle.psu_session.specs.State.{Running, Start, State, fresh, orders_in}
+use Rattle.psu_session.specs.State.{Running, Start, SessionState, fresh, orders_in}
 use Rattle.psu_session.proofs.ExchangeEvents.{written_is_put}
 use Rattle.psu_session.proofs.Keeping.{map-append, order_in_turn, turn_of, current, HasReached, TurnReaches, Kept, none_after}
 use Rattle.psu_session.proofs.StepKeeping.{step_keeps}
@@ -24,7 +24,7 @@ use Rattle.psu_session.proofs.Streams.{IsStreamed, streamed}
 
 -- ---- all steps
 
-pub record AllKept (start : Start) (xs : List Event) (s : State) : Type 0 where
+pub record AllKept (start : Start) (xs : List Event) (s : SessionState) : Type 0 where
   pub kept : Kept start.session (exchange_history xs) s
   pub outputs : (side : Side) → IsOutput side xs s
   pub on_sync : (opening : List ℕ) (first : Received) → Fed start.sync opening (first ∷ []) → IsStreamed Sync opening (first ∷ []) xs s
@@ -57,7 +57,7 @@ at_first start = record {
   no_front [] after is = ([], refl)
   no_front (x ∷ before) after is = absurd (cc (is))
 
-pub all_kept : (start : Start) (xs : List Event) (s : State) → Steps (fresh start) xs s → AllKept start xs s
+pub all_kept : (start : Start) (xs : List Event) (s : SessionState) → Steps (fresh start) xs s → AllKept start xs s
 all_kept start xs s Still = at_first start
 all_kept start xs s (Then {done = done} {t = t} steps more u m) =
     let k = all_kept start done t steps in
@@ -86,7 +86,7 @@ last_reaches : (g : Option Running) (done : List Done) → HasReached g done →
 last_reaches None done c = All-nil TurnReaches
 last_reaches (Some g) done c = All-cons TurnReaches (turn_of g done) [] c (All-nil TurnReaches)
 
-pub are_exchanges : (start : Start) (history : List Event) (s : State) → IsHistory start history s → IsExchangeHistory start history s
+pub are_exchanges : (start : Start) (history : List Event) (s : SessionState) → IsHistory start history s → IsExchangeHistory start history s
 are_exchanges start history s is_history =
     let all = all_kept start history s is_history in
     let k = all.kept in

@@ -3,7 +3,7 @@ use Rattle.std.proofs.Common.{◌≡◌, Option, Some, None, IfSome, ◌-◌, �
 use Rattle.std.proofs.lemmas.List.{append-nil}
 use Rattle.psu_hislip.specs.Answer.{answer_size}
 use Rattle.psu_hislip.specs.Core.{Core}
-use Rattle.psu_hislip.specs.declared.origin.Origin.{Origin}
+use Rattle.psu_hislip.specs.declared.action.Origin.{Origin}
 use Rattle.psu_messages.specs.Executions.{Reaches, Progress, Advances}
 use Rattle.psu_messages.specs.Effects as messages
 use Rattle.psu_messages.specs.Effects.{Effect, needs}

@@ -14,10 +14,10 @@ use Rattle.psu_session.specs.Credit.{cost, cost_of, costs, held_with}
 use Rattle.psu_session.specs.Events.{Event}
 use Rattle.psu_session.specs.Holding.{cost_running}
 use Rattle.psu_session.specs.Releases.{releases_in}
-use Rattle.psu_session.specs.Step.{EachReceived, IsMessageReceived, Step, Steps, running, release_in, works_in}
-use Rattle.psu_session.specs.Step.Step.{Receives, Notifies, Ticks, Begins, Works, ReleasesLock, Ends, Takes, Writes}
+use Rattle.psu_session.specs.Step.{EachReceived, IsMessageReceived, SessionStep, Steps, running, release_in, works_in}
+use Rattle.psu_session.specs.Step.SessionStep.{Receives, Notifies, Ticks, Begins, Works, ReleasesLock, Ends, Takes, Writes}
 use Rattle.psu_session.specs.Step.Steps.{Still, Then}
-use Rattle.psu_session.specs.State.{Running, Release, Start, State, Work, Execute, ReleaseLock, added, due, fresh, numbered, order_of_work, orders_in, owed_with, settled, with_channel, with_core, with_held, with_output, with_owed, with_work, with_writes}
+use Rattle.psu_session.specs.State.{Running, Release, Start, SessionState, Work, Execute, ReleaseLock, added, due, fresh, numbered, order_of_work, orders_in, owed_with, settled, with_channel, with_core, with_held, with_output, with_owed, with_work, with_writes}
 use Rattle.psu_session.proofs.Places.{due_and_left, none_in_works, releases_in-append}
 use Rattle.psu_session.proofs.Settling.{none_due}
 
@@ -36,11 +36,11 @@ costs-append (x ∷ xs) ys = let e = costs-append xs ys in omega (arith, e)
 works_cost : (xs ys : List Work) → costs (orders_in (xs ++ ys)) ≡ costs (orders_in xs) + costs (orders_in ys)
 works_cost xs ys = ap costs (flat_map-append order_of_work xs ys) ∙ costs-append (orders_in xs) (orders_in ys)
 
-record Counted (s : State) : Type 0 where
+record Counted (s : SessionState) : Type 0 where
   transmissions : s.held ≡ costs (orders_in s.waiting) + cost_running s.running
   releases : s.owed ≡ 128 * (releases_in s.waiting + length s.releases)
 
-settles : (all : Bool) (now : ℕ) (s : State) → Counted s → Counted (settled all now s)
+settles : (all : Bool) (now : ℕ) (s : SessionState) → Counted s → Counted (settled all now s)
 settles all now s c =
     let more = due all now s.last s.releases in
     let none : costs (orders_in more) ≡ 0 = ap costs (none_due all now s.last s.releases) in
@@ -51,7 +51,7 @@ settles all now s c =
     let owed = c.releases in
     record { transmissions = omega (arith, held, works, none); releases = omega (arith, owed, sum, split) }
 
-adds : (s : State) (works : List Work) (requested : List Release) (done : List Event) → releases_in works ≡ 0 → Counted s → Counted (added s works requested done)
+adds : (s : SessionState) (works : List Work) (requested : List Release) (done : List Event) → releases_in works ≡ 0 → Counted s → Counted (added s works requested done)
 adds s works requested done none c =
     let in_queue = works_cost s.waiting works in
     let sum = releases_in-append s.waiting works in
@@ -62,11 +62,11 @@ adds s works requested done none c =
     let owed = c.releases in
     record { transmissions = omega (arith, held, in_queue, more_held); releases = omega (arith, owed, sum, waits, none, more_owed) }
 
-counts : (number : Option ℕ) (s : State) → Counted s → Counted (numbered s number)
+counts : (number : Option ℕ) (s : SessionState) → Counted s → Counted (numbered s number)
 counts None s c = c
 counts (Some number) s c = record { transmissions = c.transmissions; releases = c.releases }
 
-arrives : (now : ℕ) (side : Side) (message : Received) (s : State) (done : List Event) (t : State) → IsMessageReceived now side message s done t → Counted s → Counted t
+arrives : (now : ℕ) (side : Side) (message : Received) (s : SessionState) (done : List Event) (t : SessionState) → IsMessageReceived now side message s done t → Counted s → Counted t
 arrives now side message s done t r c =
     let out = outcome_of s.core side message in
     let here = with_core s out.core in
@@ -77,36 +77,36 @@ arrives now side message s done t r c =
     (settles (clears out.actions) now (numbered more (number_on side message))
     (counts (number_on side message) more (adds here works requested r.immediate (none_in_works out.actions) (record { transmissions = c.transmissions; releases = c.releases }))))
 
-each_arrives : (now : ℕ) (side : Side) (messages : List Received) (s : State) (done : List Event) (t : State) → EachReceived now side messages s done t → Counted s → Counted t
+each_arrives : (now : ℕ) (side : Side) (messages : List Received) (s : SessionState) (done : List Event) (t : SessionState) → EachReceived now side messages s done t → Counted s → Counted t
 each_arrives now side [] s done t (none, same) c = subst Counted (sym same) c
 each_arrives now side (message ∷ messages) s done t (mid, first, more, is, one, rest) c = each_arrives now side messages mid more t rest (arrives now side message s first mid one c)
 
-channel_counted : (side : Side) (s : State) (channel : Awaited) → Counted s → Counted (with_channel side s channel)
+channel_counted : (side : Side) (s : SessionState) (channel : Awaited) → Counted s → Counted (with_channel side s channel)
 channel_counted Sync s channel c = record { transmissions = c.transmissions; releases = c.releases }
 channel_counted Async s channel c = record { transmissions = c.transmissions; releases = c.releases }
 
-output_counted : (side : Side) (s : State) (bytes : List ℕ) → Counted s → Counted (with_output side s bytes)
+output_counted : (side : Side) (s : SessionState) (bytes : List ℕ) → Counted s → Counted (with_output side s bytes)
 output_counted Sync s bytes c = record { transmissions = c.transmissions; releases = c.releases }
 output_counted Async s bytes c = record { transmissions = c.transmissions; releases = c.releases }
 
-writer_counted : (side : Side) (s : State) (writing : Bool) → Counted s → Counted (with_writes side s writing)
+writer_counted : (side : Side) (s : SessionState) (writing : Bool) → Counted s → Counted (with_writes side s writing)
 writer_counted Sync s writing c = record { transmissions = c.transmissions; releases = c.releases }
 writer_counted Async s writing c = record { transmissions = c.transmissions; releases = c.releases }
 
 -- what the first transmission of the queue counts as, it counts as in execution
-begins : (s : State) (order : exchange.Order) (later : List Work) → s.running ≡ None → s.waiting ≡ Execute order ∷ later → Counted s → Counted (with_work s later (Some (running order beginning)))
+begins : (s : SessionState) (order : exchange.Order) (later : List Work) → s.running ≡ None → s.waiting ≡ Execute order ∷ later → Counted s → Counted (with_work s later (Some (running order beginning)))
 begins s order later none first c =
     let held : s.held ≡ (cost_of order + costs (orders_in later)) + 0 =
     c.transmissions ∙ ap (λ (z : List Work). costs (orders_in z) + cost_running s.running) first ∙ ap (λ (z : Option Running). (cost_of order + costs (orders_in later)) + cost_running z) none in
     record { transmissions = omega (arith, held); releases = c.releases ∙ ap (λ (z : List Work). 128 * (releases_in z + length s.releases)) first }
 
-ends : (s : State) (order : exchange.Order) (g : Running) → s.running ≡ Some g → g.order ≡ order → Counted s → Counted (with_held (with_work s s.waiting None) (s.held - cost_of order))
+ends : (s : SessionState) (order : exchange.Order) (g : Running) → s.running ≡ Some g → g.order ≡ order → Counted s → Counted (with_held (with_work s s.waiting None) (s.held - cost_of order))
 ends s order g is same c =
     let held : s.held ≡ costs (orders_in s.waiting) + cost_of order
     = c.transmissions ∙ ap (λ (z : Option Running). costs (orders_in s.waiting) + cost_running z) is ∙ ap (λ (z : exchange.Order). costs (orders_in s.waiting) + cost_of z) same in
     record { transmissions = omega (arith, held); releases = c.releases }
 
-frees : (s : State) (later : List Work) → s.running ≡ None → s.waiting ≡ ReleaseLock ∷ later → Counted s → Counted (with_owed (with_work s later None) (s.owed - cost 0))
+frees : (s : SessionState) (later : List Work) → s.running ≡ None → s.waiting ≡ ReleaseLock ∷ later → Counted s → Counted (with_owed (with_work s later None) (s.owed - cost 0))
 frees s later none first c =
     let owed : s.owed ≡ 128 * (suc (releases_in later) + length s.releases) = c.releases ∙ ap (λ (z : List Work). 128 * (releases_in z + length s.releases)) first in
     record {
@@ -114,7 +114,7 @@ frees s later none first c =
       releases = omega (arith, owed);
     }
 
-keeps : (s : State) (done : List Event) (t : State) → Step s done t → Counted s → Counted t
+keeps : (s : SessionState) (done : List Event) (t : SessionState) → SessionStep s done t → Counted s → Counted t
 keeps s done t (Receives now side received_bytes h) c = each_arrives now side h.messages (with_channel side s h.channel) h.immediate t h.each (channel_counted side s h.channel c)
 keeps s done t (Notifies a) c = subst Counted (sym a.then) (adds s [] [] done refl c)
 keeps s done t (Ticks now tick) c = subst Counted (sym tick.then) (settles false now s c)
@@ -128,12 +128,12 @@ keeps s done t (Ends e) c = subst Counted (sym e.then) (ends s e.order (running 
 keeps s done t (Takes side bytes taking) c = subst Counted (sym taking.then) (writer_counted side (with_output side s []) true (output_counted side s [] c))
 keeps s done t (Writes side w) c = subst Counted (sym w.then) (writer_counted side s false c)
 
-counted : (start : Start) (history : List Event) (s : State) → Steps (fresh start) history s → Counted s
+counted : (start : Start) (history : List Event) (s : SessionState) → Steps (fresh start) history s → Counted s
 counted start history s Still = record { transmissions = refl; releases = refl }
 counted start history s (Then {done = done} {t = t} steps more u m) = keeps t more u m (counted start done t steps)
 
-pub transmissions_counted : (start : Start) (history : List Event) (s : State) → Steps (fresh start) history s → s.held ≡ costs (orders_in s.waiting) + cost_running s.running
+pub transmissions_counted : (start : Start) (history : List Event) (s : SessionState) → Steps (fresh start) history s → s.held ≡ costs (orders_in s.waiting) + cost_running s.running
 transmissions_counted start history s steps = (counted start history s steps).transmissions
 
-pub releases_counted : (start : Start) (history : List Event) (s : State) → Steps (fresh start) history s → s.owed ≡ 128 * (releases_in s.waiting + length s.releases)
+pub releases_counted : (start : Start) (history : List Event) (s : SessionState) → Steps (fresh start) history s → s.owed ≡ 128 * (releases_in s.waiting + length s.releases)
 releases_counted start history s steps = (counted start history s steps).releases

@@ -1,7 +1,7 @@
 -- The events of a message.
 use Rattle.std.proofs.Common.{◌≡◌, ℕ, Bool, true, false, Option, Some, None, List, [], ◌∷◌, ◌++◌, refl, sym, ap, ◌∙◌, subst}
 use Rattle.std.proofs.lemmas.List.Concat.{flat_map-append}
-use Rattle.psu_locks.specs.declared.kind.Kind.{Kind}
+use Rattle.psu_locks.specs.declared.requests.Kind.{Kind}
 use Rattle.psu_hislip.specs.Action.{Act}
 use Rattle.psu_hislip.specs.LockResponses.{lock_response}
 use Rattle.psu_hislip.specs.declared.header.Header.{Header}

@@ -9,18 +9,18 @@ use Rattle.psu_hislip.specs.Answer.{answer_size}
 use Rattle.psu_hislip.specs.Core.{Core, IsCurrent, Outcome, outcome_of}
 use Rattle.psu_hislip.specs.Runs.{Arrival, actions_of, core_after, origins}
 use Rattle.psu_hislip.specs.Stream.{Received}
-use Rattle.psu_hislip.specs.declared.origin.Origin.{Origin}
+use Rattle.psu_hislip.specs.declared.action.Origin.{Origin}
 use Rattle.psu_hislip.specs.declared.side.Side.{Side}
 use Rattle.psu_hislip.specs.declared.side.Side.TheVariants.{Sync}
 use Rattle.psu_messages.specs.Executions.{Reaches, Progress, IsOver, beginning}
 use Rattle.psu_messages.specs.Executions.Reaches.{Begins as ReachesBegins}
 use Rattle.psu_messages.specs.Effects.{Effect}
 use Rattle.psu_session.specs.Exchange as exchange
-use Rattle.psu_session.specs.Exchange.{Done, EachIsDone, EachIsReplied, HasEnded, IsDone, IsFramed, Order, Turn, asked, core_at, effects, order_in, orders, replies, reply_of}
+use Rattle.psu_session.specs.Exchange.{Done, EachIsDone, EachIsReplied, HasEnded, IsDone, IsFramed, Order, Turn, acts_requested, core_at, effects, order_in, orders, replies, reply_of}
 use Rattle.psu_session.specs.Exchanged.{ExchangeEvent, Came, Did, came, executions, replied}
 use Rattle.psu_session.specs.Step.{AreFramed, running, works_in}
-use Rattle.psu_session.specs.State.{Running, State, Work, Execute, order_of_work, orders_in, with_core, with_output, with_work}
-use Rattle.psu_session.proofs.ExchangeEvents.{as_effects, as_replies, asked-append, asked_still, came-append, core-append, core_still, effects_done, effects_replied, effects_no_arrivals, done-append, orders_of_works, origin_among, origins_of_orders, replied-append, replies_done, replies_replied, replies_no_arrivals}
+use Rattle.psu_session.specs.State.{Running, SessionState, Work, Execute, order_of_work, orders_in, with_core, with_output, with_work}
+use Rattle.psu_session.proofs.ExchangeEvents.{as_effects, as_replies, requested-append, asked_still, came-append, core-append, core_still, effects_done, effects_replied, effects_no_arrivals, done-append, orders_of_works, origin_among, origins_of_orders, replied-append, replies_done, replies_replied, replies_no_arrivals}
 use Rattle.psu_session.proofs.Splitting.{prefix_split, within}
 use Rattle.psu_session.proofs.Splitting.PrefixSplit.{Short, Long}
 use Rattle.psu_session.proofs.Splitting.Within.{Left, Right}
@@ -47,7 +47,7 @@ abbrev pub TurnReaches : Turn → Type 0
 TurnReaches turn = Reaches turn.order.source (effects turn.done) turn.progress
 
 -- what holds of a session's events and state
-pub record Kept (session : ℕ) (l : List ExchangeEvent) (s : State) : Type 0 where
+pub record Kept (session : ℕ) (l : List ExchangeEvent) (s : SessionState) : Type 0 where
   pub ended : List Turn
   pub done : List Done
   pub core : s.core ≡ core_at session l
@@ -120,15 +120,15 @@ module _ (session : ℕ) (l : List ExchangeEvent) (side : Side) (message : Recei
   abbrev pub message_events : List (List ℕ) → List ExchangeEvent
   message_events replies = Came side message ∷ as_replies replies
 
-  pub asked_more : (m : List ExchangeEvent) → came m ≡ arrival side message ∷ [] → asked session (l ++ m) ≡ asked session l ++ out.actions
+  pub asked_more : (m : List ExchangeEvent) → came m ≡ arrival side message ∷ [] → acts_requested session (l ++ m) ≡ acts_requested session l ++ out.actions
   asked_more m one =
-      asked-append session l m ∙ ap (λ (z : List Arrival). asked session l ++ actions_of (core_at session l) z) one ∙ ap (λ (z : List Act). asked session l ++ z) (append-nil out.actions)
+      requested-append session l m ∙ ap (λ (z : List Arrival). acts_requested session l ++ actions_of (core_at session l) z) one ∙ ap (λ (z : List Act). acts_requested session l ++ z) (append-nil out.actions)
 
   orders_more : (m : List ExchangeEvent) → came m ≡ arrival side message ∷ [] → orders session (l ++ m) ≡ orders session l ++ flat_map order_in out.actions
-  orders_more m one = ap (λ (z : List Act). flat_map order_in z) (asked_more m one) ∙ flat_map-append order_in (asked session l) out.actions
+  orders_more m one = ap (λ (z : List Act). flat_map order_in z) (asked_more m one) ∙ flat_map-append order_in (acts_requested session l) out.actions
 
   replies_more : (m : List ExchangeEvent) → came m ≡ arrival side message ∷ [] → replies session (l ++ m) ≡ replies session l ++ frames
-  replies_more m one = ap (λ (z : List Act). flat_map reply_of z) (asked_more m one) ∙ flat_map-append reply_of (asked session l) out.actions
+  replies_more m one = ap (λ (z : List Act). flat_map reply_of z) (asked_more m one) ∙ flat_map-append reply_of (acts_requested session l) out.actions
 
   replied_then : replies session l ≡ replied l → (more after : List ExchangeEvent) → message_events frames ≡ more ++ after → (owed : List (List ℕ)) × (replies session (l ++ more) ≡ replied (l ++ more) ++ owed)
   replied_then all [] after is =
@@ -145,7 +145,7 @@ module _ (session : ℕ) (l : List ExchangeEvent) (side : Side) (message : Recei
             ∙ sym (append_assoc (replied l) (replied more) (replied after)) ∙ ap (λ (z : List (List ℕ)). z ++ replied after) (sym (replied-append l (Came side message ∷ more))),
       )
 
-  pub message_keeps : (s : State) → Kept session l s → Kept session (l ++ message_events frames) (with_work (with_core s out.core) (s.waiting ++ flat_map works_in out.actions) s.running)
+  pub message_keeps : (s : SessionState) → Kept session l s → Kept session (l ++ message_events frames) (with_work (with_core s out.core) (s.waiting ++ flat_map works_in out.actions) s.running)
   message_keeps s k =
       let m = message_events frames in
       let one : came m ≡ arrival side message ∷ [] = ap (λ (z : List Arrival). arrival side message ∷ z) (replies_no_arrivals frames) in
@@ -172,17 +172,17 @@ module _ (session : ℕ) (l : List ExchangeEvent) (side : Side) (message : Recei
 -- ---- transmissions
 
 -- the message of the transmission in execution was received
-has_come : (session : ℕ) (l : List ExchangeEvent) (s : State) (k : Kept session l s) (order : Order) (progress : Progress) → s.running ≡ Some (running order progress)
-    → (first : List Origin) × (others : List Origin) × (origins (asked session l) ≡ first ++ order.origin ∷ others)
+has_come : (session : ℕ) (l : List ExchangeEvent) (s : SessionState) (k : Kept session l s) (order : Order) (progress : Progress) → s.running ≡ Some (running order progress)
+    → (first : List Origin) × (others : List Origin) × (origins (acts_requested session l) ≡ first ++ order.origin ∷ others)
 has_come session l s k order progress is =
     let in_order : orders session l ≡ map order_in_turn k.ended ++ order ∷ orders_in s.waiting
     = subst (λ (z : Option Running). orders session l ≡ map order_in_turn k.ended ++ (map order_in_turn (current z k.done) ++ orders_in s.waiting)) is k.in_order in (
       map (λ (o : Order). o.origin) (map order_in_turn k.ended),
       map (λ (o : Order). o.origin) (orders_in s.waiting),
-      origins_of_orders (asked session l) ∙ ap (λ (z : List Order). map (λ (o : Order). o.origin) z) in_order ∙ origin_among (map order_in_turn k.ended) order (orders_in s.waiting),
+      origins_of_orders (acts_requested session l) ∙ ap (λ (z : List Order). map (λ (o : Order). o.origin) z) in_order ∙ origin_among (map order_in_turn k.ended) order (orders_in s.waiting),
     )
 
-pub begins : (session : ℕ) (l : List ExchangeEvent) (s : State) (order : Order) (later : List Work) → s.running ≡ None → s.waiting ≡ Execute order ∷ later → Kept session l s → Kept session l (with_work s later (Some (running order beginning)))
+pub begins : (session : ℕ) (l : List ExchangeEvent) (s : SessionState) (order : Order) (later : List Work) → s.running ≡ None → s.waiting ≡ Execute order ∷ later → Kept session l s → Kept session l (with_work s later (Some (running order beginning)))
 begins session l s order later none first k = record {
   ended = k.ended;
   done = [];
@@ -197,7 +197,7 @@ begins session l s order later none first k = record {
   all_replied = k.all_replied;
 }
 
-pub ends_order : (session : ℕ) (l : List ExchangeEvent) (s : State) (order : Order) (progress : Progress) → s.running ≡ Some (running order progress) → IsOver order.source progress ⊎ (IsCurrent s.core order.origin → ⊥) → Kept session l s
+pub ends_order : (session : ℕ) (l : List ExchangeEvent) (s : SessionState) (order : Order) (progress : Progress) → s.running ≡ Some (running order progress) → IsOver order.source progress ⊎ (IsCurrent s.core order.origin → ⊥) → Kept session l s
     → Kept session l (with_work s s.waiting None)
 ends_order session l s order progress is ended k =
     let turn : Turn = record { order = order; done = k.done; progress = progress } in
@@ -245,7 +245,7 @@ effect_at size origin (one ∷ done) (x ∷ more) after o d f framed is =
     let r = effect_at size origin done more after o d f framed.1 rest in
     record { same = r.same; framed = r.framed; quiet = ap (λ (z : ExchangeEvent). came (z ∷ more)) (sym first) ∙ r.quiet }
 
-pub works : (session : ℕ) (l : List ExchangeEvent) (s : State) (order : Order) (progress new : Progress) (done : List Done) → s.running ≡ Some (running order progress) → IsCurrent s.core order.origin
+pub works : (session : ℕ) (l : List ExchangeEvent) (s : SessionState) (order : Order) (progress new : Progress) (done : List Done) → s.running ≡ Some (running order progress) → IsCurrent s.core order.origin
     → ((before : List Effect) → Reaches order.source before progress → Reaches order.source (before ++ effects done) new) → AreFramed (answer_size s.core.size) order.origin.id done → (bytes : List ℕ) → Kept session l s
     → Kept session (l ++ as_effects order.origin done) (with_output Sync (with_work s s.waiting (Some (running order new))) bytes)
 works session l s order progress new done is here reaches framed bytes k =
@@ -272,7 +272,7 @@ works session l s order progress new done is here reaches framed bytes k =
           let at = effect_at (answer_size s.core.size) order.origin done more after o d f framed then in
           let core : core_at session (l ++ more) ≡ s.core = core_still session l more at.quiet ∙ sym k.core in
           let come = has_come session l s k order progress is in
-          let asked_here : origins (asked session (l ++ more)) ≡ come.0 ++ order.origin ∷ come.1 = ap origins (asked_still session l more at.quiet) ∙ come.2 in
+          let asked_here : origins (acts_requested session (l ++ more)) ≡ come.0 ++ order.origin ∷ come.1 = ap origins (asked_still session l more at.quiet) ∙ come.2 in
           subst (λ (z : Origin). IsDone session (l ++ more) z d f) at.same (record {
             has_come = (come.0, come.1, asked_here);
             current = subst (λ (z : Core). IsCurrent z order.origin) (sym core) here;

@@ -8,11 +8,11 @@ use Rattle.psu_hislip.specs.Core.{IsCurrent}
 use Rattle.psu_hislip.specs.Runs.{Arrival, actions_of, begins_clear, clears_in, core_after, origins, started}
 use Rattle.psu_hislip.specs.Stream.{IsStream, Received}
 use Rattle.psu_hislip.specs.Transmitted.{action_text, transmissions}
-use Rattle.psu_hislip.specs.declared.origin.Origin.{Origin}
+use Rattle.psu_hislip.specs.declared.action.Origin.{Origin}
 use Rattle.psu_hislip.specs.declared.side.Side.TheVariants.{Sync, Async}
 use Rattle.psu_messages.specs.Effects.{Effect}
 use Rattle.psu_session.specs.Answered.{AreTheStreams, text_in}
-use Rattle.psu_session.specs.Exchange.{IsExchange, Order, Turn, asked, order_in}
+use Rattle.psu_session.specs.Exchange.{IsExchange, Order, Turn, acts_requested, order_in}
 use Rattle.psu_session.specs.Exchanged.{ExchangeEvent, Came, Did, came, came_on, arrivals_in}
 
 -- ---- the client's transmissions
@@ -36,9 +36,9 @@ texts (Act.Closed ∷ acts) = texts acts
 
 -- what was executed are the first of the transmissions that were requested
 pub texts_executed : (session : ℕ) (sync async : List ℕ) (history : List ExchangeEvent) (turns : List Turn) → (x : IsExchange session sync async history turns)
-    → map action_text (transmissions (asked session history)) ≡ flat_map (λ (turn : Turn). text_in turn.order.source) turns ++ flat_map text_of x.waiting
+    → map action_text (transmissions (acts_requested session history)) ≡ flat_map (λ (turn : Turn). text_in turn.order.source) turns ++ flat_map text_of x.waiting
 texts_executed session sync async history turns x =
-    sym (texts (asked session history)) ∙ ap (λ (z : List Order). flat_map text_of z) x.in_order
+    sym (texts (acts_requested session history)) ∙ ap (λ (z : List Order). flat_map text_of z) x.in_order
     ∙ flat_map-append text_of (map (λ (turn : Turn). turn.order) turns) x.waiting
     ∙ ap (λ (z : List (Option (List ℕ))). z ++ flat_map text_of x.waiting) (flat_map-map text_of (λ (turn : Turn). turn.order) turns)
 
@@ -54,7 +54,7 @@ some_clear t later e = rw e (omega arith)
 pub none_of_before : NoAnswerOfBefore → (session : ℕ) (sync async : List ℕ) (history : List ExchangeEvent) (turns : List Turn) → IsExchange session sync async history turns → length (came history) < 2 ^ 64
     → (before between after : List ExchangeEvent) (clear : Received) (origin : Origin) (effect : Effect) (frames : List ℕ)
     → history ≡ before ++ Came Async clear ∷ (between ++ Did origin effect frames ∷ after) → begins_clear (record { side = Async; message = clear }) ≡ true
-    → All (λ (o : Origin). o ≡ origin → ⊥) (origins (asked session before))
+    → All (λ (o : Origin). o ≡ origin → ⊥) (origins (acts_requested session before))
 none_of_before law session sync async history turns x few before between after clear origin effect frames is begins =
     let t : Arrival = record { side = Async; message = clear } in
     let start : List ExchangeEvent = before ++ Came Async clear ∷ between in

@@ -14,7 +14,7 @@ use Rattle.psu_hislip.specs.declared.side.Side.{Side}
 use Rattle.psu_session.specs.Events.{Call, Event, calls}
 use Rattle.psu_session.specs.Step.{EachReceived, Feeds, IsMessageReceived}
 use Rattle.psu_session.specs.Serving.{PerformsStep, Runs}
-use Rattle.psu_session.specs.State.{State}
+use Rattle.psu_session.specs.State.{SessionState}
 use Rattle.psu_session.proofs.Serving.{runs_after}
 
 pub any_act : {A : Type 0} (is : Act → Bool) (actions : List (Action A)) → list_any (λ (action : Action A). is (act action)) actions ≡ list_any is (acts actions)
@@ -37,15 +37,15 @@ are_received (message ∷ messages) = ap (λ (z : List Received). received messa
 
 module _ {X : Type 0} (does : X → Call → X → Type 0) (now : ℕ) (side : Side) where
   -- the messages that were received, and then those that are left, are all messages
-  pub record Receiving (all left : List Received) (s : State) (x : X) (t : State) (y : X) : Type 0 where
+  pub record Receiving (all left : List Received) (s : SessionState) (x : X) (t : SessionState) (y : X) : Type 0 where
     pub done : List Event
     pub runs : Runs does x (calls done) y
-    pub completes : (more : List Event) (u : State) → EachReceived now side left t more u → EachReceived now side all s (done ++ more) u
+    pub completes : (more : List Event) (u : SessionState) → EachReceived now side left t more u → EachReceived now side all s (done ++ more) u
 
-  pub begins : (all : List Received) (s : State) (x : X) → Receiving all all s x s x
+  pub begins : (all : List Received) (s : SessionState) (x : X) → Receiving all all s x s x
   begins all s x = record { done = []; runs = refl; completes = λ more u each. each }
 
-  pub receives : (all : List Received) (message : Received) (left : List Received) (s : State) (x : X) (t : State) (y : X) (u : State) (z : X) → Receiving all (message ∷ left) s x t y → PerformsStep does (IsMessageReceived now side message) t y u z
+  pub receives : (all : List Received) (message : Received) (left : List Received) (s : SessionState) (x : X) (t : SessionState) (y : X) (u : SessionState) (z : X) → Receiving all (message ∷ left) s x t y → PerformsStep does (IsMessageReceived now side message) t y u z
       → Receiving all left s x u z
   receives all message left s x t y u z r m = record {
     done = r.done ++ m.done;
@@ -53,7 +53,7 @@ module _ {X : Type 0} (does : X → Call → X → Type 0) (now : ℕ) (side : S
     completes = λ more v each. subst (λ (w : List Event). EachReceived now side all s w v) (sym (append_assoc r.done m.done more)) (r.completes (m.done ++ more) v (u, m.done, more, refl, m.is, each));
   }
 
-  pub received_all : (all : List Received) (s : State) (x : X) (t : State) (y : X) → Receiving all [] s x t y → PerformsStep does (EachReceived now side all) s x t y
+  pub received_all : (all : List Received) (s : SessionState) (x : X) (t : SessionState) (y : X) → Receiving all [] s x t y → PerformsStep does (EachReceived now side all) s x t y
   received_all all s x t y r = record { done = r.done; is = subst (λ (w : List Event). EachReceived now side all s w t) (append-nil r.done) (r.completes [] t (refl, refl)); runs = r.runs }
 
 -- a channel that has returned one message

@@ -3,9 +3,9 @@ use Rattle.std.proofs.Common.{◌≡◌, ◌⊎◌, ℕ, suc, ◌+◌, ◌-◌, 
 use Rattle.std.specs.Prelude.{flat_map, map}
 use Rattle.std.proofs.lemmas.List.{append-nil}
 use Rattle.std.proofs.lemmas.List.Concat.{flat_map-append}
-use Rattle.psu_locks.specs.declared.freed.Freed.{Freed}
-use Rattle.psu_locks.specs.declared.grant.Grant.{Grant}
-use Rattle.psu_locks.specs.declared.lock_refusal.LockRefusal.{LockRefusal}
+use Rattle.psu_locks.specs.declared.results.Freed.{Freed}
+use Rattle.psu_locks.specs.declared.results.Grant.{Grant}
+use Rattle.psu_locks.specs.declared.results.LockRefusal.{LockRefusal}
 use Rattle.psu_hislip.specs.Action.{Act}
 use Rattle.psu_hislip.specs.Channel.{Awaited}
 use Rattle.psu_hislip.specs.Core.{Core, outcome_of}
@@ -13,22 +13,22 @@ use Rattle.psu_hislip.specs.LockResponses.{lock_response}
 use Rattle.psu_hislip.specs.Runs.{Arrival}
 use Rattle.psu_hislip.specs.Stream.{Received}
 use Rattle.psu_hislip.specs.declared.header.Header.{Header}
-use Rattle.psu_hislip.specs.declared.origin.Origin.{Origin}
+use Rattle.psu_hislip.specs.declared.action.Origin.{Origin}
 use Rattle.psu_hislip.specs.declared.side.Side.{Side}
 use Rattle.psu_hislip.specs.declared.side.Side.TheVariants.{Sync, Async}
 use Rattle.psu_session.specs.Numbers.{clears, number_on, parameter}
 use Rattle.psu_messages.specs.Executions.{beginning}
-use Rattle.psu_session.specs.Exchange.{Done, Order, asked, core_at, order_in, orders}
+use Rattle.psu_session.specs.Exchange.{Done, Order, acts_requested, core_at, order_in, orders}
 use Rattle.psu_session.specs.Exchanged.{came}
 use Rattle.psu_session.specs.Credit.{cost, cost_of}
 use Rattle.psu_session.specs.Events as events
 use Rattle.psu_session.specs.Events.{Event, LockReleased, exchange_history}
 use Rattle.psu_session.specs.Releases.{IsInPlace, released, released_in, releases_in, requested, requested_in}
 use Rattle.psu_session.specs.Requests.{immediate}
-use Rattle.psu_session.specs.Step.{Each, EachReceived, IsLockGranted, IsMessageReceived, IsServiceRequested, Step, Steps, granted, running, happened, release_in, works_in}
-use Rattle.psu_session.specs.Step.Step.{Receives, Notifies, Ticks, Begins, Works, ReleasesLock, Ends, Takes, Writes}
+use Rattle.psu_session.specs.Step.{Each, EachReceived, IsLockGranted, IsMessageReceived, IsServiceRequested, SessionStep, Steps, granted, running, happened, release_in, works_in}
+use Rattle.psu_session.specs.Step.SessionStep.{Receives, Notifies, Ticks, Begins, Works, ReleasesLock, Ends, Takes, Writes}
 use Rattle.psu_session.specs.Step.Steps.{Still, Then}
-use Rattle.psu_session.specs.State.{Running, Release, Start, State, Work, Execute, ReleaseLock, added, due, fresh, numbered, order_of_work, orders_in, settled, with_channel, with_core, with_held, with_output, with_owed, with_work, with_writes}
+use Rattle.psu_session.specs.State.{Running, Release, Start, SessionState, Work, Execute, ReleaseLock, added, due, fresh, numbered, order_of_work, orders_in, settled, with_channel, with_core, with_held, with_output, with_owed, with_work, with_writes}
 use Rattle.psu_session.proofs.ExchangeEvents.{asked_still, caused_seen, effects_no_arrivals, effects_seen, exchange_history-append, orders_of_works, replies_no_arrivals}
 use Rattle.psu_session.proofs.Exchanging.{all_kept}
 use Rattle.psu_session.proofs.Keeping.{Kept, arrival, asked_more, current, frames, none_after, order_in_turn}
@@ -70,7 +70,7 @@ caused_releases_none : (waits : Bool) (done : List Event) → ((grant : Grant) �
 caused_releases_none waits done (inl (grant, e)) = ap released e ∙ granted_releases_none waits (lock_response (Ok grant)) grant
 caused_releases_none waits done (inr (request, e)) = ap released e
 
-received_releases_none : (now : ℕ) (side : Side) (messages : List Received) (s : State) (done : List Event) (t : State) → EachReceived now side messages s done t → released done ≡ []
+received_releases_none : (now : ℕ) (side : Side) (messages : List Received) (s : SessionState) (done : List Event) (t : SessionState) → EachReceived now side messages s done t → released done ≡ []
 received_releases_none now side [] s done t (none, same) = ap released none
 received_releases_none now side (message ∷ messages) s done t (mid, first, more, is, one, rest) =
     ap released is ∙ flat_map-append released_in first more
@@ -81,18 +81,18 @@ received_releases_none now side (message ∷ messages) s done t (mid, first, mor
 
 module _ (session : ℕ) where
   abbrev all_requested : List Event → List Work
-  all_requested xs = requested (asked session (exchange_history xs))
+  all_requested xs = requested (acts_requested session (exchange_history xs))
 
   abbrev all_orders : List Event → List Order
   all_orders xs = orders session (exchange_history xs)
 
-  record Placed (xs : List Event) (s : State) : Type 0 where
+  record Placed (xs : List Event) (s : SessionState) : Type 0 where
     begun : List Order
     are : all_orders xs ≡ begun ++ orders_in s.waiting
     count : releases_in (all_requested xs) ≡ length (released xs) + (releases_in s.waiting + length s.releases)
     placed : ArePlaced (length (released xs)) begun s.waiting (all_requested xs)
 
-  same_state : (xs : List Event) (s t : State) → t.waiting ≡ s.waiting → t.releases ≡ s.releases → Placed xs s → Placed xs t
+  same_state : (xs : List Event) (s t : SessionState) → t.waiting ≡ s.waiting → t.releases ≡ s.releases → Placed xs s → Placed xs t
   same_state xs s t waiting releases p = record {
     begun = p.begun;
     are = p.are ∙ ap (λ (z : List Work). p.begun ++ orders_in z) (sym waiting);
@@ -101,10 +101,10 @@ module _ (session : ℕ) where
   }
 
   -- events without a message and a release
-  quiet : (xs done : List Event) (s : State) → came (exchange_history done) ≡ [] → released done ≡ [] → Placed xs s → Placed (xs ++ done) s
+  quiet : (xs done : List Event) (s : SessionState) → came (exchange_history done) ≡ [] → released done ≡ [] → Placed xs s → Placed (xs ++ done) s
   quiet xs done s none still p =
-      let asks : asked session (exchange_history (xs ++ done)) ≡ asked session (exchange_history xs)
-      = ap (asked session) (exchange_history-append xs done) ∙ asked_still session (exchange_history xs) (exchange_history done) none in
+      let asks : acts_requested session (exchange_history (xs ++ done)) ≡ acts_requested session (exchange_history xs)
+      = ap (acts_requested session) (exchange_history-append xs done) ∙ asked_still session (exchange_history xs) (exchange_history done) none in
       let same : released (xs ++ done) ≡ released xs = flat_map-append released_in xs done ∙ ap (λ (z : List (Result Freed LockRefusal)). released xs ++ z) still ∙ append-nil (released xs) in
       record {
         begun = p.begun;
@@ -115,11 +115,11 @@ module _ (session : ℕ) where
       }
 
   -- releases whose wait is over are queued
-  settles : (all : Bool) (now : ℕ) (xs : List Event) (s : State) → Placed xs s → Placed xs (settled all now s)
+  settles : (all : Bool) (now : ℕ) (xs : List Event) (s : SessionState) → Placed xs s → Placed xs (settled all now s)
   settles all now xs s p =
       let more = due all now s.last s.releases in
       let none : orders_in more ≡ [] = none_due all now s.last s.releases in
-      let ahead : p.begun ++ orders_in s.waiting ≡ orders_in (all_requested xs) = sym p.are ∙ orders_requested (asked session (exchange_history xs)) in
+      let ahead : p.begun ++ orders_in s.waiting ≡ orders_in (all_requested xs) = sym p.are ∙ orders_requested (acts_requested session (exchange_history xs)) in
       let sum = releases_in-append s.waiting more in
       let split = due_and_left all now s.last s.releases in
       let before = p.count in
@@ -130,18 +130,18 @@ module _ (session : ℕ) where
         placed = both_placed (length (released xs)) p.begun s.waiting more (all_requested xs) p.placed (releases_placed (length (released xs) + releases_in s.waiting) (p.begun ++ orders_in s.waiting) more (all_requested xs) none ahead);
       }
 
-  counts : (number : Option ℕ) (xs : List Event) (s : State) → Placed xs s → Placed xs (numbered s number)
+  counts : (number : Option ℕ) (xs : List Event) (s : SessionState) → Placed xs s → Placed xs (numbered s number)
   counts None xs s p = p
   counts (Some number) xs s p = same_state xs s (numbered s (Some number)) refl refl p
 
   -- what a message requests is queued, or waits
-  requests : (xs done : List Event) (s : State) (acts : List Act) (now number : ℕ) (immediate : List Event) → asked session (exchange_history (xs ++ done)) ≡ asked session (exchange_history xs) ++ acts → released done ≡ []
+  requests : (xs done : List Event) (s : SessionState) (acts : List Act) (now number : ℕ) (immediate : List Event) → acts_requested session (exchange_history (xs ++ done)) ≡ acts_requested session (exchange_history xs) ++ acts → released done ≡ []
       → Placed xs s → Placed (xs ++ done) (added s (flat_map works_in acts) (flat_map (release_in now number) acts) immediate)
   requests xs done s acts now number immediate asks still p =
       let works = flat_map works_in acts in
       let waits = flat_map (release_in now number) acts in
       let same : released (xs ++ done) ≡ released xs = flat_map-append released_in xs done ∙ ap (λ (z : List (Result Freed LockRefusal)). released xs ++ z) still ∙ append-nil (released xs) in
-      let all : all_requested (xs ++ done) ≡ all_requested xs ++ requested acts = ap requested asks ∙ flat_map-append requested_in (asked session (exchange_history xs)) acts in
+      let all : all_requested (xs ++ done) ≡ all_requested xs ++ requested acts = ap requested asks ∙ flat_map-append requested_in (acts_requested session (exchange_history xs)) acts in
       let length_same : length (released (xs ++ done)) ≡ length (released xs) = ap length same in
       let before = p.count in
       let in_all : releases_in (all_requested (xs ++ done)) ≡ releases_in (all_requested xs) + releases_in (requested acts) = ap releases_in all ∙ releases_in-append (all_requested xs) (requested acts) in
@@ -155,7 +155,7 @@ module _ (session : ℕ) where
       (orders_placed (length (released xs) + releases_in s.waiting) (p.begun ++ orders_in s.waiting) works (all_requested xs ++ requested acts) none) in
       record {
         begun = p.begun;
-        are = ap (λ (z : List Act). flat_map order_in z) asks ∙ flat_map-append order_in (asked session (exchange_history xs)) acts ∙ ap (λ (z : List Order). z ++ flat_map order_in acts) p.are
+        are = ap (λ (z : List Act). flat_map order_in z) asks ∙ flat_map-append order_in (acts_requested session (exchange_history xs)) acts ∙ ap (λ (z : List Order). z ++ flat_map order_in acts) p.are
             ∙ append_assoc p.begun (orders_in s.waiting) (flat_map order_in acts) ∙ ap (λ (z : List Order). p.begun ++ (orders_in s.waiting ++ z)) (sym (orders_of_works acts))
             ∙ ap (λ (z : List Order). p.begun ++ z) (sym (flat_map-append order_of_work s.waiting works));
         count = omega (arith, length_same, before, in_all, in_queue, none, waiting, each);
@@ -163,14 +163,14 @@ module _ (session : ℕ) where
             (subst (λ (z : ℕ). ArePlaced z p.begun (s.waiting ++ works) (all_requested xs ++ requested acts)) (sym length_same) queued);
       }
 
-  arrives : (xs : List Event) (s : State) (now : ℕ) (side : Side) (message : Received) (done : List Event) (t : State) → s.core ≡ core_at session (exchange_history xs) → IsMessageReceived now side message s done t → Placed xs s → Placed (xs ++ done) t
+  arrives : (xs : List Event) (s : SessionState) (now : ℕ) (side : Side) (message : Received) (done : List Event) (t : SessionState) → s.core ≡ core_at session (exchange_history xs) → IsMessageReceived now side message s done t → Placed xs s → Placed (xs ++ done) t
   arrives xs s now side message done t core r p =
       let l = exchange_history xs in
       let out = outcome_of s.core side message in
       let one : came (exchange_history done) ≡ arrival side message ∷ []
       = ap came (seen_of session l s now side message done t core r) ∙ ap (λ (z : List Arrival). arrival side message ∷ z) (replies_no_arrivals (frames session l side message)) in
-      let asks : asked session (exchange_history (xs ++ done)) ≡ asked session l ++ out.actions
-      = ap (asked session) (exchange_history-append xs done) ∙ asked_more session l side message (exchange_history done) one ∙ ap (λ (z : Core). asked session l ++ (outcome_of z side message).actions) (sym core) in
+      let asks : acts_requested session (exchange_history (xs ++ done)) ≡ acts_requested session l ++ out.actions
+      = ap (acts_requested session) (exchange_history-append xs done) ∙ asked_more session l side message (exchange_history done) one ∙ ap (λ (z : Core). acts_requested session l ++ (outcome_of z side message).actions) (sym core) in
       let still : released done ≡ [] = ap released r.are ∙ each_releases_none s.lock_waits out.actions r.immediate r.each in
       let here = with_core s out.core in
       let more = added here (flat_map works_in out.actions) (flat_map (release_in now (parameter message)) out.actions) r.immediate in
@@ -179,10 +179,10 @@ module _ (session : ℕ) where
       (counts (number_on side message) (xs ++ done) more
       (requests xs done here out.actions now (parameter message) r.immediate asks still (same_state xs s here refl refl p))))
 
-  same_events : (xs ys : List Event) (s : State) → ys ≡ xs → Placed xs s → Placed ys s
+  same_events : (xs ys : List Event) (s : SessionState) → ys ≡ xs → Placed xs s → Placed ys s
   same_events xs ys s e p = subst (λ (z : List Event). Placed z s) (sym e) p
 
-  each_arrives : (now : ℕ) (side : Side) (messages : List Received) (xs : List Event) (s : State) (done : List Event) (t : State) → Kept session (exchange_history xs) s → EachReceived now side messages s done t → Placed xs s → Placed (xs ++ done) t
+  each_arrives : (now : ℕ) (side : Side) (messages : List Received) (xs : List Event) (s : SessionState) (done : List Event) (t : SessionState) → Kept session (exchange_history xs) s → EachReceived now side messages s done t → Placed xs s → Placed (xs ++ done) t
   each_arrives now side [] xs s done t k (none, same) p =
       quiet xs done t (ap (λ (z : List Event). came (exchange_history z)) none) (ap released none) (subst (Placed xs) (sym same) p)
   each_arrives now side (message ∷ messages) xs s done t k (mid, first, more, is, one, rest) p =
@@ -191,23 +191,23 @@ module _ (session : ℕ) where
 
   -- ---- steps
 
-  channel_placed : (side : Side) (s : State) (channel : Awaited) (xs : List Event) → Placed xs s → Placed xs (with_channel side s channel)
+  channel_placed : (side : Side) (s : SessionState) (channel : Awaited) (xs : List Event) → Placed xs s → Placed xs (with_channel side s channel)
   channel_placed Sync s channel xs p = same_state xs s (with_channel Sync s channel) refl refl p
   channel_placed Async s channel xs p = same_state xs s (with_channel Async s channel) refl refl p
 
-  output_placed : (side : Side) (s : State) (bytes : List ℕ) (xs : List Event) → Placed xs s → Placed xs (with_output side s bytes)
+  output_placed : (side : Side) (s : SessionState) (bytes : List ℕ) (xs : List Event) → Placed xs s → Placed xs (with_output side s bytes)
   output_placed Sync s bytes xs p = same_state xs s (with_output Sync s bytes) refl refl p
   output_placed Async s bytes xs p = same_state xs s (with_output Async s bytes) refl refl p
 
-  writer_placed : (side : Side) (s : State) (writing : Bool) (xs : List Event) → Placed xs s → Placed xs (with_writes side s writing)
+  writer_placed : (side : Side) (s : SessionState) (writing : Bool) (xs : List Event) → Placed xs s → Placed xs (with_writes side s writing)
   writer_placed Sync s writing xs p = same_state xs s (with_writes Sync s writing) refl refl p
   writer_placed Async s writing xs p = same_state xs s (with_writes Async s writing) refl refl p
 
-  releases_first : (xs : List Event) (s : State) (later : List Work) (reply : Result Freed LockRefusal) → s.waiting ≡ ReleaseLock ∷ later → Placed xs s → Placed (xs ++ LockReleased reply ∷ []) (added (with_owed (with_work s later None) (s.owed - cost 0)) [] [] (LockReleased reply ∷ []))
+  releases_first : (xs : List Event) (s : SessionState) (later : List Work) (reply : Result Freed LockRefusal) → s.waiting ≡ ReleaseLock ∷ later → Placed xs s → Placed (xs ++ LockReleased reply ∷ []) (added (with_owed (with_work s later None) (s.owed - cost 0)) [] [] (LockReleased reply ∷ []))
   releases_first xs s later reply first p =
       let done : List Event = LockReleased reply ∷ [] in
-      let asks : asked session (exchange_history (xs ++ done)) ≡ asked session (exchange_history xs)
-      = ap (asked session) (exchange_history-append xs done) ∙ asked_still session (exchange_history xs) (exchange_history done) refl in
+      let asks : acts_requested session (exchange_history (xs ++ done)) ≡ acts_requested session (exchange_history xs)
+      = ap (acts_requested session) (exchange_history-append xs done) ∙ asked_still session (exchange_history xs) (exchange_history done) refl in
       let queue : later ++ [] ≡ later = append-nil later in
       let waits : s.releases ++ [] ≡ s.releases = append-nil s.releases in
       let one : length (released (xs ++ done)) ≡ suc (length (released xs)) = ap length (flat_map-append released_in xs done) ∙ longer (released xs) reply in
@@ -228,7 +228,7 @@ module _ (session : ℕ) where
         longer [] y = refl
         longer (z ∷ ys) y = ap suc (longer ys y)
 
-  begins_first : (xs : List Event) (s : State) (order : Order) (later : List Work) (g : Option Running) → s.waiting ≡ Execute order ∷ later → Placed xs s → Placed xs (with_work s later g)
+  begins_first : (xs : List Event) (s : SessionState) (order : Order) (later : List Work) (g : Option Running) → s.waiting ≡ Execute order ∷ later → Placed xs s → Placed xs (with_work s later g)
   begins_first xs s order later g first p = record {
     begun = p.begun ++ order ∷ [];
     are = p.are ∙ ap (λ (z : List Work). p.begun ++ orders_in z) first ∙ sym (append_assoc p.begun (order ∷ []) (orders_in later));
@@ -236,7 +236,7 @@ module _ (session : ℕ) where
     placed = subst (λ (z : List Work). ArePlaced (length (released xs)) p.begun z (all_requested xs)) first p.placed;
   }
 
-  keeps : (xs : List Event) (s : State) (done : List Event) (t : State) → Kept session (exchange_history xs) s → Step s done t → Placed xs s → Placed (xs ++ done) t
+  keeps : (xs : List Event) (s : SessionState) (done : List Event) (t : SessionState) → Kept session (exchange_history xs) s → SessionStep s done t → Placed xs s → Placed (xs ++ done) t
   keeps xs s done t k (Receives now side received_bytes h) p =
       let first : List Event = events.BytesReceived side received_bytes ∷ [] in
       same_events ((xs ++ first) ++ h.immediate) (xs ++ done) t (ap (λ (z : List Event). xs ++ z) h.are ∙ sym (append_assoc xs first h.immediate))
@@ -272,11 +272,11 @@ module _ (session : ℕ) where
       subst (Placed (xs ++ done)) (sym w.then)
       (quiet xs done (with_writes side s false) (ap (λ (z : List Event). came (exchange_history z)) w.are) (ap released w.are) (writer_placed side s false xs p))
 
-all_placed : (start : Start) (xs : List Event) (s : State) → Steps (fresh start) xs s → Placed start.session xs s
+all_placed : (start : Start) (xs : List Event) (s : SessionState) → Steps (fresh start) xs s → Placed start.session xs s
 all_placed start xs s Still = record { begun = []; are = refl; count = refl; placed = tt }
 all_placed start xs s (Then {done = done} {t = t} steps more u m) = keeps start.session done t more u (all_kept start done t steps).kept m (all_placed start done t steps)
 
-pub each_release_is_done : (start : Start) (history : List Event) (s : State) → Steps (fresh start) history s → releases_in (requested (asked start.session (exchange_history history))) ≡ length (released history) + (releases_in s.waiting + length s.releases)
+pub each_release_is_done : (start : Start) (history : List Event) (s : SessionState) → Steps (fresh start) history s → releases_in (requested (acts_requested start.session (exchange_history history))) ≡ length (released history) + (releases_in s.waiting + length s.releases)
 each_release_is_done start history s steps = (all_placed start history s steps).count
 
 -- ---- the place of one release
@@ -291,13 +291,13 @@ same_prefix {X} (x ∷ xs) (y ∷ ys) zs e =
     ap (λ (z : X). z ∷ xs) first ∙ ap (λ (z : List X). y ∷ z) (same_prefix xs ys zs rest)
 
 -- where a release is first in the queue, and nothing is in execution
-in_place : (session : ℕ) (xs : List Event) (s : State) (later : List Work) → s.running ≡ None → s.waiting ≡ ReleaseLock ∷ later → Kept session (exchange_history xs) s → Placed session xs s → IsInPlace session xs
+in_place : (session : ℕ) (xs : List Event) (s : SessionState) (later : List Work) → s.running ≡ None → s.waiting ≡ ReleaseLock ∷ later → Kept session (exchange_history xs) s → Placed session xs s → IsInPlace session xs
 in_place session xs s later none first k p =
     let ended = map order_in_turn k.ended in
     let are : orders session (exchange_history xs) ≡ ended ++ orders_in s.waiting
     = k.in_order ∙ ap (λ (z : Option Running). ended ++ (map order_in_turn (current z k.done) ++ orders_in s.waiting)) none in
     let same : ended ≡ p.begun = same_prefix ended p.begun (orders_in s.waiting) (sym are ∙ p.are) in
-    let placed = subst (λ (z : List Work). ArePlaced (length (released xs)) p.begun z (requested (asked session (exchange_history xs)))) first p.placed in
+    let placed = subst (λ (z : List Work). ArePlaced (length (released xs)) p.begun z (requested (acts_requested session (exchange_history xs)))) first p.placed in
     record {
       ended = k.ended;
       each_ended = k.ends;
@@ -316,8 +316,8 @@ only_one : (given reply : Result Freed LockRefusal) (before after : List Event) 
 only_one given reply [] after e = refl
 only_one given reply (x ∷ before) after e = let rest : [] ≡ before ++ LockReleased reply ∷ after = cc (e) in absurd (none_after before (LockReleased reply) after (sym rest))
 
-module _ (session : ℕ) (xs : List Event) (s : State) (k : Kept session (exchange_history xs) s) (p : Placed session xs s) (before after : List Event) (reply : Result Freed LockRefusal) where
-  here : (done : List Event) (t : State) → Step s done t → done ≡ before ++ LockReleased reply ∷ after → IsInPlace session (xs ++ before)
+module _ (session : ℕ) (xs : List Event) (s : SessionState) (k : Kept session (exchange_history xs) s) (p : Placed session xs s) (before after : List Event) (reply : Result Freed LockRefusal) where
+  here : (done : List Event) (t : SessionState) → SessionStep s done t → done ≡ before ++ LockReleased reply ∷ after → IsInPlace session (xs ++ before)
   here done t (Receives now side received_bytes h) is =
       absurd (no_release_in done before after reply (ap released h.are ∙ received_releases_none now side h.messages (with_channel side s h.channel) h.immediate t h.each) is)
   here done t (Notifies a) is = absurd (no_release_in done before after reply (caused_releases_none s.lock_waits done a.is) is)
@@ -331,7 +331,7 @@ module _ (session : ℕ) (xs : List Event) (s : State) (k : Kept session (exchan
   here done t (Takes side bytes taking) is = absurd (no_release_in done before after reply (ap released taking.are) is)
   here done t (Writes side w) is = absurd (no_release_in done before after reply (ap released w.are) is)
 
-pub each_release_is_in_place : (start : Start) (history : List Event) (s : State) → Steps (fresh start) history s → (before after : List Event) (reply : Result Freed LockRefusal) → history ≡ before ++ LockReleased reply ∷ after → IsInPlace start.session before
+pub each_release_is_in_place : (start : Start) (history : List Event) (s : SessionState) → Steps (fresh start) history s → (before after : List Event) (reply : Result Freed LockRefusal) → history ≡ before ++ LockReleased reply ∷ after → IsInPlace start.session before
 each_release_is_in_place start history s Still before after reply is = absurd (none_after before (LockReleased reply) after (sym is))
 each_release_is_in_place start history s (Then {done = done} {t = t} steps more u m) before after reply is = elim (within done more before after (LockReleased reply) is) [
   | Left rest at ↦ each_release_is_in_place start done t steps before rest reply at

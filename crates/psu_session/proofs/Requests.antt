@@ -3,28 +3,28 @@ use Rattle.std.proofs.Common.{◌≡◌, ◌⊎◌, ℕ, Bool, true, false, Opti
 use Rattle.std.specs.Prelude.{flat_map}
 use Rattle.std.proofs.lemmas.List.{append-nil}
 use Rattle.std.proofs.lemmas.List.Concat.{flat_map-append}
-use Rattle.psu_locks.specs.declared.grant.Grant.{Grant}
-use Rattle.psu_locks.specs.declared.kind.Kind.{Kind}
-use Rattle.psu_locks.specs.declared.lock_refusal.LockRefusal.{LockRefusal}
+use Rattle.psu_locks.specs.declared.results.Grant.{Grant}
+use Rattle.psu_locks.specs.declared.requests.Kind.{Kind}
+use Rattle.psu_locks.specs.declared.results.LockRefusal.{LockRefusal}
 use Rattle.psu_hislip.specs.Action.{Act}
 use Rattle.psu_hislip.specs.Core.{Core, outcome_of}
 use Rattle.psu_hislip.specs.LockResponses.{lock_response}
 use Rattle.psu_hislip.specs.Runs.{Arrival}
 use Rattle.psu_hislip.specs.Stream.{Received}
 use Rattle.psu_hislip.specs.declared.header.Header.{Header}
-use Rattle.psu_hislip.specs.declared.origin.Origin.{Origin}
+use Rattle.psu_hislip.specs.declared.action.Origin.{Origin}
 use Rattle.psu_hislip.specs.declared.side.Side.{Side}
 use Rattle.psu_session.specs.Locking.{kind_of}
-use Rattle.psu_session.specs.Exchange.{Done, asked, core_at}
+use Rattle.psu_session.specs.Exchange.{Done, acts_requested, core_at}
 use Rattle.psu_session.specs.Exchanged.{came}
 use Rattle.psu_session.specs.Events as events
 use Rattle.psu_session.specs.Events.{Call, Event, exchange_history, waits_after, waits_by, waits_by_call}
 use Rattle.psu_session.specs.Requests.{AreServed, immediate, serving, serving_in}
 use Rattle.psu_session.specs.Requests.AreServed.{NoneLeft, HasResult, Serves}
-use Rattle.psu_session.specs.Step.{Does, Each, EachReceived, IsLocked, IsLockGranted, IsMessageReceived, IsServiceRequested, Step, Steps, granted, happened, puts_any}
-use Rattle.psu_session.specs.Step.Step.{Receives, Notifies, Ticks, Begins, Works, ReleasesLock, Ends, Takes, Writes}
+use Rattle.psu_session.specs.Step.{Does, Each, EachReceived, IsLocked, IsLockGranted, IsMessageReceived, IsServiceRequested, SessionStep, Steps, granted, happened, puts_any}
+use Rattle.psu_session.specs.Step.SessionStep.{Receives, Notifies, Ticks, Begins, Works, ReleasesLock, Ends, Takes, Writes}
 use Rattle.psu_session.specs.Step.Steps.{Still, Then}
-use Rattle.psu_session.specs.State.{Start, State, fresh, with_channel}
+use Rattle.psu_session.specs.State.{Start, SessionState, fresh, with_channel}
 use Rattle.psu_session.proofs.ExchangeEvents.{asked_still, caused_seen, effects_no_arrivals, effects_seen, exchange_history-append, replies_no_arrivals}
 use Rattle.psu_session.proofs.Exchanging.{all_kept}
 use Rattle.psu_session.proofs.Immediate.{each_does}
@@ -92,7 +92,7 @@ effects_serve_none origin (d ∷ done) = effects_serve_none origin done
 
 module _ (session : ℕ) where
   abbrev Served : List Event → Type 0
-  Served xs = AreServed false (asked session (exchange_history xs)) (serving xs)
+  Served xs = AreServed false (acts_requested session (exchange_history xs)) (serving xs)
 
   same_events : (xs ys : List Event) → ys ≡ xs → Served xs → Served ys
   same_events xs ys e v = subst Served (sym e) v
@@ -100,31 +100,31 @@ module _ (session : ℕ) where
   -- events that no message requests
   unasked : (xs done : List Event) → came (exchange_history done) ≡ [] → AreServed (waits_after false (serving xs)) [] (serving done) → Served xs → Served (xs ++ done)
   unasked xs done none more v =
-      let asks : asked session (exchange_history (xs ++ done)) ≡ asked session (exchange_history xs)
-      = ap (asked session) (exchange_history-append xs done) ∙ asked_still session (exchange_history xs) (exchange_history done) none in
+      let asks : acts_requested session (exchange_history (xs ++ done)) ≡ acts_requested session (exchange_history xs)
+      = ap (acts_requested session) (exchange_history-append xs done) ∙ asked_still session (exchange_history xs) (exchange_history done) none in
       let did : serving (xs ++ done) ≡ serving xs ++ serving done = flat_map-append serving_in xs done in
-      subst (λ (z : List Act). AreServed false z (serving (xs ++ done))) (append-nil (asked session (exchange_history xs)) ∙ sym asks)
-      (subst (λ (z : List Event). AreServed false (asked session (exchange_history xs) ++ []) z) (sym did) (served-append v more))
+      subst (λ (z : List Act). AreServed false z (serving (xs ++ done))) (append-nil (acts_requested session (exchange_history xs)) ∙ sym asks)
+      (subst (λ (z : List Event). AreServed false (acts_requested session (exchange_history xs) ++ []) z) (sym did) (served-append v more))
 
   quiet : (xs done : List Event) → came (exchange_history done) ≡ [] → serving done ≡ [] → Served xs → Served (xs ++ done)
   quiet xs done none still v = unasked xs done none (subst (λ (z : List Event). AreServed (waits_after false (serving xs)) [] z) (sym still) NoneLeft) v
 
-  requested_one : (xs : List Event) (s : State) (now : ℕ) (side : Side) (message : Received) (done : List Event) (t : State) → s.core ≡ core_at session (exchange_history xs) → s.lock_waits ≡ waits_after false xs → Served xs
+  requested_one : (xs : List Event) (s : SessionState) (now : ℕ) (side : Side) (message : Received) (done : List Event) (t : SessionState) → s.core ≡ core_at session (exchange_history xs) → s.lock_waits ≡ waits_after false xs → Served xs
       → IsMessageReceived now side message s done t → Served (xs ++ done)
   requested_one xs s now side message done t core waits v r =
       let l = exchange_history xs in
       let acts = (outcome_of s.core side message).actions in
       let one : came (exchange_history done) ≡ arrival side message ∷ []
       = ap came (seen_of session l s now side message done t core r) ∙ ap (λ (z : List Arrival). arrival side message ∷ z) (replies_no_arrivals (frames session l side message)) in
-      let asks : asked session (exchange_history (xs ++ done)) ≡ asked session l ++ acts
-      = ap (asked session) (exchange_history-append xs done) ∙ asked_more session l side message (exchange_history done) one ∙ ap (λ (z : Core). asked session l ++ (outcome_of z side message).actions) (sym core) in
+      let asks : acts_requested session (exchange_history (xs ++ done)) ≡ acts_requested session l ++ acts
+      = ap (acts_requested session) (exchange_history-append xs done) ∙ asked_more session l side message (exchange_history done) one ∙ ap (λ (z : Core). acts_requested session l ++ (outcome_of z side message).actions) (sym core) in
       let did : serving (xs ++ done) ≡ serving xs ++ r.immediate
       = flat_map-append serving_in xs done ∙ ap (λ (z : List Event). serving xs ++ z) (ap serving r.are ∙ each_serves s.lock_waits acts r.immediate r.each) in
       let here : s.lock_waits ≡ waits_after false (serving xs) = waits ∙ sym (serving_waits false xs) in
       let each : AreServed (waits_after false (serving xs)) acts r.immediate = subst (λ (z : Bool). AreServed z acts r.immediate) here (are_served s.lock_waits acts r.immediate r.each) in
-      subst (λ (z : List Act). AreServed false z (serving (xs ++ done))) (sym asks) (subst (λ (z : List Event). AreServed false (asked session l ++ acts) z) (sym did) (served-append v each))
+      subst (λ (z : List Act). AreServed false z (serving (xs ++ done))) (sym asks) (subst (λ (z : List Event). AreServed false (acts_requested session l ++ acts) z) (sym did) (served-append v each))
 
-  requested_each : (now : ℕ) (side : Side) (messages : List Received) (xs : List Event) (s : State) (done : List Event) (t : State) → Kept session (exchange_history xs) s → s.lock_waits ≡ waits_after false xs → Served xs
+  requested_each : (now : ℕ) (side : Side) (messages : List Received) (xs : List Event) (s : SessionState) (done : List Event) (t : SessionState) → Kept session (exchange_history xs) s → s.lock_waits ≡ waits_after false xs → Served xs
       → EachReceived now side messages s done t → Served (xs ++ done)
   requested_each now side [] xs s done t k waits v (none, same) = quiet xs done (ap (λ (z : List Event). came (exchange_history z)) none) (ap serving none) v
   requested_each now side (message ∷ messages) xs s done t k waits v (mid, first, more, is, one, rest) =
@@ -142,7 +142,7 @@ module _ (session : ℕ) where
   caused waits done now (inl (grant, e)) = subst (λ (z : List Event). AreServed now [] (serving z)) (sym e) (result waits (lock_response (Ok grant)) grant now)
   caused waits done now (inr (request, e)) = subst (λ (z : List Event). AreServed now [] (serving z)) (sym e) NoneLeft
 
-  serves : (xs : List Event) (s : State) (done : List Event) (t : State) → Kept session (exchange_history xs) s → s.lock_waits ≡ waits_after false xs → Step s done t → Served xs → Served (xs ++ done)
+  serves : (xs : List Event) (s : SessionState) (done : List Event) (t : SessionState) → Kept session (exchange_history xs) s → s.lock_waits ≡ waits_after false xs → SessionStep s done t → Served xs → Served (xs ++ done)
   serves xs s done t k waits (Receives now side received_bytes h) v =
       let first : List Event = events.BytesReceived side received_bytes ∷ [] in
       same_events ((xs ++ first) ++ h.immediate) (xs ++ done) (ap (λ (z : List Event). xs ++ z) h.are ∙ sym (append_assoc xs first h.immediate))
@@ -160,7 +160,7 @@ module _ (session : ℕ) where
   serves xs s done t k waits (Takes side bytes taking) v = quiet xs done (ap (λ (z : List Event). came (exchange_history z)) taking.are) (ap serving taking.are) v
   serves xs s done t k waits (Writes side w) v = quiet xs done (ap (λ (z : List Event). came (exchange_history z)) w.are) (ap serving w.are) v
 
-pub requests_are_served : (start : Start) (history : List Event) (s : State) → Steps (fresh start) history s → AreServed false (asked start.session (exchange_history history)) (serving history)
+pub requests_are_served : (start : Start) (history : List Event) (s : SessionState) → Steps (fresh start) history s → AreServed false (acts_requested start.session (exchange_history history)) (serving history)
 requests_are_served start history s Still = NoneLeft
 requests_are_served start history s (Then {done = done} {t = t} steps more u m) =
     serves start.session done t more u (all_kept start done t steps).kept (wait_is_known start done t steps) m (requests_are_served start done t steps)
@@ -222,7 +222,7 @@ module _ (kind : Kind) (timeout : ℕ) (reply : Result Grant LockRefusal) where
     | Right rest at then ↦ ap (λ (z : List Event). waits_after waits z) at ∙ waits_after-append waits done rest ∙ asked_while_none_waits rest after p then
   ]
 
-pub one_waits : (start : Start) (history : List Event) (s : State) → Steps (fresh start) history s → (before after : List Event) (kind : Kind) (timeout : ℕ) (reply : Result Grant LockRefusal)
+pub one_waits : (start : Start) (history : List Event) (s : SessionState) → Steps (fresh start) history s → (before after : List Event) (kind : Kind) (timeout : ℕ) (reply : Result Grant LockRefusal)
     → history ≡ before ++ events.DeviceCalled (events.Locked kind timeout reply) ∷ after → waits_after false before ≡ false
 one_waits start history s steps before after kind timeout reply is =
     let split : serving history ≡ serving before ++ events.DeviceCalled (events.Locked kind timeout reply) ∷ serving after = ap serving is ∙ flat_map-append serving_in before (events.DeviceCalled (events.Locked kind timeout reply) ∷ after) in

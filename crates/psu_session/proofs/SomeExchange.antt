@@ -6,7 +6,7 @@ use Rattle.psu_lex.specs.declared.scpi_error.ScpiError.TheVariants.{TriggerIgnor
 use Rattle.psu_hislip.specs.Answer.{IsAnswer, answer_size}
 use Rattle.psu_hislip.specs.Stream.{IsStream}
 use Rattle.psu_hislip.specs.declared.message_type.MessageType.TheVariants.{AsyncInitialize, Initialize, Trigger}
-use Rattle.psu_hislip.specs.declared.origin.Origin.{Origin}
+use Rattle.psu_hislip.specs.declared.action.Origin.{Origin}
 use Rattle.psu_hislip.specs.declared.side.Side.TheVariants.{Sync, Async}
 use Rattle.psu_hislip.proofs.Channels.{none_short}
 use Rattle.psu_messages.specs.Executions.{Reaches, IsOver}

@@ -7,48 +7,48 @@ use Rattle.psu_session.specs.Exchange.{Order}
 use Rattle.psu_session.specs.Credit.{cost, cost_of}
 use Rattle.psu_session.specs.Events.{Call, Event, LockReleased, calls}
 use Rattle.psu_session.specs.Phases.{tries}
-use Rattle.psu_session.specs.Step.{IsReachable, Step, Steps, running, happened}
-use Rattle.psu_session.specs.Step.Step.{Begins, Works, Ends, ReleasesLock}
+use Rattle.psu_session.specs.Step.{IsReachable, SessionStep, Steps, running, happened}
+use Rattle.psu_session.specs.Step.SessionStep.{Begins, Works, Ends, ReleasesLock}
 use Rattle.psu_session.specs.Step.Steps.{Still, Then}
 use Rattle.psu_session.specs.Proceeding.{Counts, Frees, IsNext, IsNextRelease, LetsIn, Yields}
 use Rattle.psu_session.specs.Serving.{AdvancesOrder, PerformsStep}
 use Rattle.psu_session.specs.Shown.{one_running, running_of}
-use Rattle.psu_session.specs.declared.running.Running as declared
-use Rattle.psu_session.specs.State.{Running, State, Work, Execute, added, with_held, with_owed, with_work, with_output}
-use Rattle.psu_session.specs.declared.proceeded.Proceeded.TheVariants.{Idle, Completed, Waits}
+use Rattle.psu_session.specs.declared.queue.Running as declared
+use Rattle.psu_session.specs.State.{Running, SessionState, Work, Execute, added, with_held, with_owed, with_work, with_output}
+use Rattle.psu_session.specs.declared.proceeding.Proceeded.TheVariants.{Idle, Completed, Waits}
 use Rattle.psu_messages.specs.declared.need.Need.{Need}
 use Rattle.psu_messages.specs.declared.need.Need.TheVariants.{Flush, Lock, Room, Turn}
 use Rattle.psu_hislip.specs.declared.side.Side.TheVariants.{Sync}
 
-pub one_step : {s : State} {done : List Event} {t : State} → Step s done t → Steps s done t
+pub one_step : {s : SessionState} {done : List Event} {t : SessionState} → SessionStep s done t → Steps s done t
 one_step {s} {done} {t} m = Then Still done t m
 
-pub steps_on : {s : State} {xs : List Event} {t : State} {ys : List Event} {u : State} → Steps s xs t → Steps t ys u → Steps s (xs ++ ys) u
+pub steps_on : {s : SessionState} {xs : List Event} {t : SessionState} {ys : List Event} {u : SessionState} → Steps s xs t → Steps t ys u → Steps s (xs ++ ys) u
 steps_on {s} {xs} {t} p Still = subst (λ (z : List Event). Steps s z t) (sym (append-nil xs)) p
 steps_on {s} {xs} {t} p (Then {done = done} q more u m) = subst (λ (z : List Event). Steps s z u) (append_assoc xs done more) (Then (steps_on p q) more u m)
 
 -- a last step without events
-pub steps_then : {s : State} {xs : List Event} {t u : State} → Steps s xs t → Step t [] u → Steps s xs u
+pub steps_then : {s : SessionState} {xs : List Event} {t u : SessionState} → Steps s xs t → SessionStep t [] u → Steps s xs u
 steps_then {s} {xs} {t} {u} p m = subst (λ (z : List Event). Steps s z u) (append-nil xs) (Then p [] u m)
 
 -- ---- the next transmission
 
 -- it is in execution
-pub next_running : (s : State) (next : Running) (t : State) → s.running ≡ Some next → t ≡ s → IsNext s next t
+pub next_running : (s : SessionState) (next : Running) (t : SessionState) → s.running ≡ Some next → t ≡ s → IsNext s next t
 next_running s next t is same = record {
   later = s.waiting;
   first = inl (next.progress, is, refl);
   then = same ∙ ap (λ (z : Option Running). with_work s s.waiting z) is;
-  steps = subst (λ (z : State). Steps s [] z) (sym same) Still;
+  steps = subst (λ (z : SessionState). Steps s [] z) (sym same) Still;
 }
 
 -- it has begun
-pub next_begins : (s : State) (order : Order) (later : List Work) (t : State) → s.running ≡ None → s.waiting ≡ Execute order ∷ later → t ≡ with_work s later (Some (running order beginning)) → IsNext s (running order beginning) t
+pub next_begins : (s : SessionState) (order : Order) (later : List Work) (t : SessionState) → s.running ≡ None → s.waiting ≡ Execute order ∷ later → t ≡ with_work s later (Some (running order beginning)) → IsNext s (running order beginning) t
 next_begins s order later t none is then = record {
   later = later;
   first = inr (none, is);
   then = then;
-  steps = subst (λ (z : State). Steps s [] z) (sym then) (one_step (Begins (record { order = order; later = later; none = none; first = is; are = refl; then = refl })));
+  steps = subst (λ (z : SessionState). Steps s [] z) (sym then) (one_step (Begins (record { order = order; later = later; none = none; first = is; are = refl; then = refl })));
 }
 
 -- whether one is in execution
@@ -61,13 +61,13 @@ none_running (Some r) e = absurd (cc (e))
 none_running None e = refl
 
 -- the one in execution is next
-pub next_is : (r : Option declared.Running) (one : declared.Running) (s : State) (next : Running) (t : State) → r ≡ Some one → running_of r ≡ t.running → IsNext s next t → one_running one ≡ next
-next_is r one s next t is shown n = let e : Some (one_running one) ≡ Some next = sym (ap running_of is) ∙ shown ∙ ap (λ (z : State). z.running) n.then in cc (e)
+pub next_is : (r : Option declared.Running) (one : declared.Running) (s : SessionState) (next : Running) (t : SessionState) → r ≡ Some one → running_of r ≡ t.running → IsNext s next t → one_running one ≡ next
+next_is r one s next t is shown n = let e : Some (one_running one) ≡ Some next = sym (ap running_of is) ∙ shown ∙ ap (λ (z : SessionState). z.running) n.then in cc (e)
 
 -- ---- the result of a call
 
 -- others are let in only once a unit was tried
-yields_after : (need : Need) (done : List Event) (t : State) → (need ≡ Turn → (1 ≤ tries (calls done)) ⊎ (65536 ≤ length t.sync)) → Yields (Waits need) done t
+yields_after : (need : Need) (done : List Event) (t : SessionState) → (need ≡ Turn → (1 ≤ tries (calls done)) ⊎ (65536 ≤ length t.sync)) → Yields (Waits need) done t
 yields_after Flush done t when = tt
 yields_after Lock done t when = tt
 yields_after Room done t when = tt
@@ -77,12 +77,12 @@ tried : (units left count : ℕ) (output : List ℕ) → 0 < units → left ≡ 
 tried units left count output some counted (inl few) = inl (omega (arith, some, counted, few))
 tried units left count output some counted (inr full) = inr full
 
-module _ {X : Type 0} (does : X → Call → X → Type 0) (s : State) (next : Running) (t : State) (x : X) (n : IsNext s next t) where
+module _ {X : Type 0} (does : X → Call → X → Type 0) (s : SessionState) (next : Running) (t : SessionState) (x : X) (n : IsNext s next t) where
   in_execution : t.running ≡ Some next
-  in_execution = ap (λ (z : State). z.running) n.then
+  in_execution = ap (λ (z : SessionState). z.running) n.then
 
   -- the state once the transmission has ended
-  abbrev ended : State → State
+  abbrev ended : SessionState → SessionState
   ended u = with_held (with_work u u.waiting None) (u.held - cost_of next.order)
 
   pub dropped : (units : ℕ) → (IsCurrent t.core next.order.origin → ⊥) → PerformsStep does (Counts units Completed units) s x (ended t) x
@@ -91,7 +91,7 @@ module _ {X : Type 0} (does : X → Call → X → Type 0) (s : State) (next : R
     is = record {
       proceeds = record {
         steps = steps_then n.steps (Ends (record { order = next.order; progress = next.progress; is = in_execution; ended = inr gone; are = refl; then = refl }));
-        ends = inl (record { order = next.order; later = n.later; first = n.first; none = refl; left = ap (λ (z : State). z.waiting) n.then });
+        ends = inl (record { order = next.order; later = n.later; first = n.first; none = refl; left = ap (λ (z : SessionState). z.waiting) n.then });
         yields = tt;
       };
       counted = omega arith;
@@ -100,7 +100,7 @@ module _ {X : Type 0} (does : X → Call → X → Type 0) (s : State) (next : R
   }
 
   -- the transmission has got so far
-  abbrev reached : Progress → List ℕ → State
+  abbrev reached : Progress → List ℕ → SessionState
   reached new output = with_output Sync (with_work t t.waiting (Some (running next.order new))) output
 
   -- effects of the next transmission
@@ -129,7 +129,7 @@ module _ {X : Type 0} (does : X → Call → X → Type 0) (s : State) (next : R
     is = record {
       proceeds = record {
         steps = worked new output y units left current a;
-        ends = record { order = next.order; later = n.later; first = n.first; progress = new; same = refl; left = ap (λ (z : State). z.waiting) n.then };
+        ends = record { order = next.order; later = n.later; first = n.first; progress = new; same = refl; left = ap (λ (z : SessionState). z.waiting) n.then };
         yields = yields_after need (happened next.order.origin a.effects_done) (reached new output) (λ turn. tried units left (tries (calls (happened next.order.origin a.effects_done))) output some a.counted (lets_in turn));
       };
       counted = a.counted;
@@ -140,12 +140,12 @@ module _ {X : Type 0} (does : X → Call → X → Type 0) (s : State) (next : R
   -- it is over
   pub over : (new : Progress) (output : List ℕ) (y : X) (units left : ℕ) → IsCurrent t.core next.order.origin
       → AdvancesOrder does t.core next.order next.progress t.sync x new output y units left → IsOver next.order.source new → PerformsStep does (Counts units Completed left) s x (ended (reached new output)) y
-  over new output y units left current a is_over = record {
+  over new output y units left current a over_now = record {
     done = happened next.order.origin a.effects_done;
     is = record {
       proceeds = record {
-        steps = steps_then (worked new output y units left current a) (Ends (record { order = next.order; progress = new; is = refl; ended = inl is_over; are = refl; then = refl }));
-        ends = inl (record { order = next.order; later = n.later; first = n.first; none = refl; left = ap (λ (z : State). z.waiting) n.then });
+        steps = steps_then (worked new output y units left current a) (Ends (record { order = next.order; progress = new; is = refl; ended = inl over_now; are = refl; then = refl }));
+        ends = inl (record { order = next.order; later = n.later; first = n.first; none = refl; left = ap (λ (z : SessionState). z.waiting) n.then });
         yields = tt;
       };
       counted = a.counted;
@@ -155,16 +155,16 @@ module _ {X : Type 0} (does : X → Call → X → Type 0) (s : State) (next : R
 
 module _ {X : Type 0} (does : X → Call → X → Type 0) where
   -- a lock is released
-  pub freed : (units : ℕ) (s t u : State) (x y : X) → IsNextRelease s t → Frees does t x u y → PerformsStep does (Counts units Completed units) s x u y
+  pub freed : (units : ℕ) (s t u : SessionState) (x y : X) → IsNextRelease s t → Frees does t x u y → PerformsStep does (Counts units Completed units) s x u y
   freed units s t u x y n f =
       let done : List Event = LockReleased f.reply ∷ [] in
-      let is : u ≡ added (with_owed (with_work s n.later None) (s.owed - cost 0)) [] [] done = f.then ∙ ap (λ (z : State). added (with_owed z (z.owed - cost 0)) [] [] done) n.then in
+      let is : u ≡ added (with_owed (with_work s n.later None) (s.owed - cost 0)) [] [] done = f.then ∙ ap (λ (z : SessionState). added (with_owed z (z.owed - cost 0)) [] [] done) n.then in
       record {
         done = done;
         is = record {
           proceeds = record {
             steps = one_step (ReleasesLock (record { later = n.later; none = n.none; first = n.first; reply = f.reply; are = refl; then = is }));
-            ends = inr (record { later = n.later; none = n.none; first = n.first; still = ap (λ (z : State). z.running) is; left = ap (λ (z : State). z.waiting) is ∙ append-nil n.later });
+            ends = inr (record { later = n.later; none = n.none; first = n.first; still = ap (λ (z : SessionState). z.running) is; left = ap (λ (z : SessionState). z.waiting) is ∙ append-nil n.later });
             yields = tt;
           };
           counted = omega arith;
@@ -172,15 +172,15 @@ module _ {X : Type 0} (does : X → Call → X → Type 0) where
         runs = (y, f.call, refl);
       }
 
-  pub idle : (units : ℕ) (s t : State) (x : X) → (t ≡ s) × (s.running ≡ None) × (s.waiting ≡ []) → PerformsStep does (Counts units Idle units) s x t x
-  idle units s t x e = record { done = []; is = record { proceeds = record { steps = subst (λ (z : State). Steps s [] z) (sym e.0) Still; ends = e; yields = tt }; counted = omega arith }; runs = refl }
+  pub idle : (units : ℕ) (s t : SessionState) (x : X) → (t ≡ s) × (s.running ≡ None) × (s.waiting ≡ []) → PerformsStep does (Counts units Idle units) s x t x
+  idle units s t x e = record { done = []; is = record { proceeds = record { steps = subst (λ (z : SessionState). Steps s [] z) (sym e.0) Still; ends = e; yields = tt }; counted = omega arith }; runs = refl }
 
 -- ---- reachable states
 
-pub reached_by : {s : State} {done : List Event} {t : State} → IsReachable s → Steps s done t → IsReachable t
+pub reached_by : {s : SessionState} {done : List Event} {t : SessionState} → IsReachable s → Steps s done t → IsReachable t
 reached_by {s} {done} {t} (start, history, opening, is_history) steps = (start, history ++ done, opening, steps_on is_history steps)
 
-pub reached_on_ok : {T E P : Type 0} {s t : State} (r : Result T E) → (P → (done : List Event) × Steps s done t) → is_err r ≡ false → OnOk r P → IsReachable s → IsReachable t
+pub reached_on_ok : {T E P : Type 0} {s t : SessionState} (r : Result T E) → (P → (done : List Event) × Steps s done t) → is_err r ≡ false → OnOk r P → IsReachable s → IsReachable t
 reached_on_ok {T} {E} {P} {s} {t} (Ok x) to_steps e p reached = reached_by reached (to_steps p).1
 reached_on_ok {T} {E} {P} {s} {t} (Err x) to_steps e p reached = absurd (cc (e))
 
@@ -189,10 +189,10 @@ pub holds_on_ok : {T E P : Type 0} (r : Result T E) → is_err r ≡ false → O
 holds_on_ok (Ok x) e p = p
 holds_on_ok (Err x) e p = absurd (cc (e))
 
-pub reached_if_ok : {T E : Type 0} {P : T → Type 0} {s t : State} (r : Result T E) → ((x : T) → P x → (done : List Event) × Steps s done t) → is_err r ≡ false → IfOk r P → IsReachable s → IsReachable t
+pub reached_if_ok : {T E : Type 0} {P : T → Type 0} {s t : SessionState} (r : Result T E) → ((x : T) → P x → (done : List Event) × Steps s done t) → is_err r ≡ false → IfOk r P → IsReachable s → IsReachable t
 reached_if_ok {T} {E} {P} {s} {t} (Ok x) to_steps e p reached = reached_by reached (to_steps x p).1
 reached_if_ok {T} {E} {P} {s} {t} (Err x) to_steps e p reached = absurd (cc (e))
 
-pub reached_if_some : {T Q : Type 0} {P : T → Type 0} {s t : State} (r : Option T) → ((x : T) → P x → (done : List Event) × Steps s done t) → IfSome r P → (IsNone r → (t ≡ s) × Q) → IsReachable s → IsReachable t
+pub reached_if_some : {T Q : Type 0} {P : T → Type 0} {s t : SessionState} (r : Option T) → ((x : T) → P x → (done : List Event) × Steps s done t) → IfSome r P → (IsNone r → (t ≡ s) × Q) → IsReachable s → IsReachable t
 reached_if_some (Some x) to_steps p none reached = reached_by reached (to_steps x p).1
 reached_if_some None to_steps p none reached = subst IsReachable (sym (none refl).0) reached

@@ -17,9 +17,9 @@ use Rattle.psu_session.specs.Exchanged.{ExchangeEvent, came, came_on, on}
 use Rattle.psu_session.specs.Credit.{cost, cost_of}
 use Rattle.psu_session.specs.Events as events
 use Rattle.psu_session.specs.Events.{Event, bytes_received, exchange_history}
-use Rattle.psu_session.specs.Step.{EachReceived, Feeds, IsMessageReceived, Step, running, release_in, works_in}
-use Rattle.psu_session.specs.Step.Step.{Receives, Notifies, Ticks, Begins, Works, ReleasesLock, Ends, Takes, Writes}
-use Rattle.psu_session.specs.State.{Running, Release, State, Work, added, channel_of, numbered, settled, with_channel, with_core, with_held, with_output, with_owed, with_work, with_writes}
+use Rattle.psu_session.specs.Step.{EachReceived, Feeds, IsMessageReceived, SessionStep, running, release_in, works_in}
+use Rattle.psu_session.specs.Step.SessionStep.{Receives, Notifies, Ticks, Begins, Works, ReleasesLock, Ends, Takes, Writes}
+use Rattle.psu_session.specs.State.{Running, Release, SessionState, Work, added, channel_of, numbered, settled, with_channel, with_core, with_held, with_output, with_owed, with_work, with_writes}
 use Rattle.psu_session.proofs.ExchangeEvents.{caused_received, caused_seen, came-append, effects_receive_none, effects_seen, effects_no_arrivals, immediate_quiet, bytes_received-append, exchange_history-append, replies_no_arrivals}
 use Rattle.psu_session.proofs.Keeping.{Kept, arrival, frames}
 use Rattle.psu_session.proofs.StepKeeping.{same_history, unseen, seen_of, received_one, with_feed}
@@ -28,57 +28,57 @@ on-append : (side : Side) (xs ys : List ExchangeEvent) → came_on side (xs ++ y
 on-append side xs ys = ap (λ (z : List Arrival). flat_map (on side) z) (came-append xs ys) ∙ flat_map-append (on side) (came xs) (came ys)
 
 -- a channel was fed a stream, and the messages that it returned were received
-abbrev pub IsStreamed : Side → List ℕ → List Received → List Event → State → Type 0
+abbrev pub IsStreamed : Side → List ℕ → List Received → List Event → SessionState → Type 0
 IsStreamed side opening gave xs s = Fed (channel_of side s) (opening ++ bytes_received side xs) (gave ++ came_on side (exchange_history xs))
 
 -- what messages do not change
-settled_channel : (side : Side) (all : Bool) (now : ℕ) (s : State) → channel_of side (settled all now s) ≡ channel_of side s
+settled_channel : (side : Side) (all : Bool) (now : ℕ) (s : SessionState) → channel_of side (settled all now s) ≡ channel_of side s
 settled_channel Sync all now s = refl
 settled_channel Async all now s = refl
 
-numbered_channel : (side : Side) (number : Option ℕ) (s : State) → channel_of side (numbered s number) ≡ channel_of side s
+numbered_channel : (side : Side) (number : Option ℕ) (s : SessionState) → channel_of side (numbered s number) ≡ channel_of side s
 numbered_channel side None s = refl
 numbered_channel Sync (Some number) s = refl
 numbered_channel Async (Some number) s = refl
 
-added_channel : (side : Side) (s : State) (works : List Work) (requested : List Release) (done : List Event) → channel_of side (added s works requested done) ≡ channel_of side s
+added_channel : (side : Side) (s : SessionState) (works : List Work) (requested : List Release) (done : List Event) → channel_of side (added s works requested done) ≡ channel_of side s
 added_channel Sync s works requested done = refl
 added_channel Async s works requested done = refl
 
-core_channel : (side : Side) (s : State) (core : Core) → channel_of side (with_core s core) ≡ channel_of side s
+core_channel : (side : Side) (s : SessionState) (core : Core) → channel_of side (with_core s core) ≡ channel_of side s
 core_channel Sync s core = refl
 core_channel Async s core = refl
 
-work_channel : (side : Side) (s : State) (waiting : List Work) (g : Option Running) → channel_of side (with_work s waiting g) ≡ channel_of side s
+work_channel : (side : Side) (s : SessionState) (waiting : List Work) (g : Option Running) → channel_of side (with_work s waiting g) ≡ channel_of side s
 work_channel Sync s waiting g = refl
 work_channel Async s waiting g = refl
 
-held_channel : (side : Side) (s : State) (held : ℕ) → channel_of side (with_held s held) ≡ channel_of side s
+held_channel : (side : Side) (s : SessionState) (held : ℕ) → channel_of side (with_held s held) ≡ channel_of side s
 held_channel Sync s held = refl
 held_channel Async s held = refl
 
-owed_channel : (side : Side) (s : State) (owed : ℕ) → channel_of side (with_owed s owed) ≡ channel_of side s
+owed_channel : (side : Side) (s : SessionState) (owed : ℕ) → channel_of side (with_owed s owed) ≡ channel_of side s
 owed_channel Sync s owed = refl
 owed_channel Async s owed = refl
 
-output_channel : (side on : Side) (s : State) (bytes : List ℕ) → channel_of side (with_output on s bytes) ≡ channel_of side s
+output_channel : (side on : Side) (s : SessionState) (bytes : List ℕ) → channel_of side (with_output on s bytes) ≡ channel_of side s
 output_channel Sync Sync s bytes = refl
 output_channel Sync Async s bytes = refl
 output_channel Async Sync s bytes = refl
 output_channel Async Async s bytes = refl
 
-writer_channel : (side on : Side) (s : State) (writing : Bool) → channel_of side (with_writes on s writing) ≡ channel_of side s
+writer_channel : (side on : Side) (s : SessionState) (writing : Bool) → channel_of side (with_writes on s writing) ≡ channel_of side s
 writer_channel Sync Sync s writing = refl
 writer_channel Sync Async s writing = refl
 writer_channel Async Sync s writing = refl
 writer_channel Async Async s writing = refl
 
-record IsReceivedBy (side : Side) (messages : List Received) (s : State) (done : List Event) (t : State) : Type 0 where
+record IsReceivedBy (side : Side) (messages : List Received) (s : SessionState) (done : List Event) (t : SessionState) : Type 0 where
   channel : (on : Side) → channel_of on t ≡ channel_of on s
   none : (on : Side) → bytes_received on done ≡ []
   arrivals_are : came (exchange_history done) ≡ map (arrival side) messages
 
-received_by_one : (session : ℕ) (l : List ExchangeEvent) (now : ℕ) (side : Side) (message : Received) (s : State) (done : List Event) (t : State) → s.core ≡ core_at session l → IsMessageReceived now side message s done t → IsReceivedBy side (message ∷ []) s done t
+received_by_one : (session : ℕ) (l : List ExchangeEvent) (now : ℕ) (side : Side) (message : Received) (s : SessionState) (done : List Event) (t : SessionState) → s.core ≡ core_at session l → IsMessageReceived now side message s done t → IsReceivedBy side (message ∷ []) s done t
 received_by_one session l now side message s done t core r = record {
   channel = λ at.
       ap (channel_of at) r.then
@@ -92,7 +92,7 @@ received_by_one session l now side message s done t core r = record {
   arrivals_are = ap came (seen_of session l s now side message done t core r) ∙ ap (λ (z : List Arrival). arrival side message ∷ z) (replies_no_arrivals (frames session l side message));
 }
 
-received_by_each : (session : ℕ) (now : ℕ) (side : Side) (messages : List Received) (xs : List Event) (s : State) (done : List Event) (t : State) → Kept session (exchange_history xs) s → EachReceived now side messages s done t → IsReceivedBy side messages s done t
+received_by_each : (session : ℕ) (now : ℕ) (side : Side) (messages : List Received) (xs : List Event) (s : SessionState) (done : List Event) (t : SessionState) → Kept session (exchange_history xs) s → EachReceived now side messages s done t → IsReceivedBy side messages s done t
 received_by_each session now side [] xs s done t k (none, same) = record {
   channel = λ at. ap (channel_of at) same;
   none = λ at. ap (bytes_received at) none;
@@ -121,7 +121,7 @@ on_async_none : (messages : List Received) → flat_map (on Async) (map (arrival
 on_async_none [] = refl
 on_async_none (message ∷ messages) = on_async_none messages
 
-received_here : (side : Side) (opening : List ℕ) (gave : List Received) (xs : List Event) (s : State) (received_bytes : List ℕ) (messages : List Received) (channel : Awaited) (done : List Event) (t : State) → IsStreamed side opening gave xs s → Feeds (channel_of side s) received_bytes messages channel
+received_here : (side : Side) (opening : List ℕ) (gave : List Received) (xs : List Event) (s : SessionState) (received_bytes : List ℕ) (messages : List Received) (channel : Awaited) (done : List Event) (t : SessionState) → IsStreamed side opening gave xs s → Feeds (channel_of side s) received_bytes messages channel
     → channel_of side t ≡ channel → bytes_received side done ≡ received_bytes → flat_map (on side) (came (exchange_history done)) ≡ messages → IsStreamed side opening gave (xs ++ done) t
 received_here side opening gave xs s received_bytes messages channel done t fed feeds new bytes came_now =
     let stream : (opening ++ bytes_received side xs) ++ received_bytes ≡ opening ++ bytes_received side (xs ++ done)
@@ -134,7 +134,7 @@ received_here side opening gave xs s received_bytes messages channel done t fed 
     (subst (λ (z : List Received). Fed channel ((opening ++ bytes_received side xs) ++ received_bytes) z) given (feeds (opening ++ bytes_received side xs) (gave ++ came_on side (exchange_history xs)) fed)))
 
 -- nothing is received on this channel
-other : (side : Side) (opening : List ℕ) (gave : List Received) (xs : List Event) (s : State) (done : List Event) (t : State) → IsStreamed side opening gave xs s → channel_of side t ≡ channel_of side s → bytes_received side done ≡ []
+other : (side : Side) (opening : List ℕ) (gave : List Received) (xs : List Event) (s : SessionState) (done : List Event) (t : SessionState) → IsStreamed side opening gave xs s → channel_of side t ≡ channel_of side s → bytes_received side done ≡ []
     → flat_map (on side) (came (exchange_history done)) ≡ [] → IsStreamed side opening gave (xs ++ done) t
 other side opening gave xs s done t fed channel none no_arrival =
     let bytes : bytes_received side (xs ++ done) ≡ bytes_received side xs = bytes_received-append side xs done ∙ ap (λ (z : List ℕ). bytes_received side xs ++ z) none ∙ append-nil (bytes_received side xs) in
@@ -144,7 +144,7 @@ other side opening gave xs s done t fed channel none no_arrival =
     (subst (λ (z : List ℕ). Fed (channel_of side s) (opening ++ z) (gave ++ came_on side (exchange_history (xs ++ done)))) (sym bytes)
     (subst (λ (z : List Received). Fed (channel_of side s) (opening ++ bytes_received side xs) (gave ++ z)) (sym messages) fed))
 
-received_on : (side on : Side) (opening : List ℕ) (gave : List Received) (xs : List Event) (s : State) (received_bytes : List ℕ) (messages : List Received) (channel : Awaited) (immediate : List Event) (t : State) → IsStreamed side opening gave xs s
+received_on : (side on : Side) (opening : List ℕ) (gave : List Received) (xs : List Event) (s : SessionState) (received_bytes : List ℕ) (messages : List Received) (channel : Awaited) (immediate : List Event) (t : SessionState) → IsStreamed side opening gave xs s
     → Feeds (channel_of on s) received_bytes messages channel → IsReceivedBy on messages (with_channel on s channel) immediate t → IsStreamed side opening gave (xs ++ events.BytesReceived on received_bytes ∷ immediate) t
 received_on Sync Sync opening gave xs s received_bytes messages channel immediate t fed feeds r =
     received_here Sync opening gave xs s received_bytes messages channel (events.BytesReceived Sync received_bytes ∷ immediate) t fed feeds (r.channel Sync) (ap (λ (z : List ℕ). received_bytes ++ z) (r.none Sync) ∙ append-nil received_bytes)
@@ -157,7 +157,7 @@ received_on Sync Async opening gave xs s received_bytes messages channel immedia
 received_on Async Sync opening gave xs s received_bytes messages channel immediate t fed feeds r =
     other Async opening gave xs s (events.BytesReceived Sync received_bytes ∷ immediate) t fed (r.channel Async) (r.none Async) (ap (λ (z : List Arrival). flat_map (on Async) z) r.arrivals_are ∙ on_async_none messages)
 
-pub streamed : (session : ℕ) (side : Side) (opening : List ℕ) (gave : List Received) (xs : List Event) (s : State) (done : List Event) (t : State) → Kept session (exchange_history xs) s → Step s done t → IsStreamed side opening gave xs s
+pub streamed : (session : ℕ) (side : Side) (opening : List ℕ) (gave : List Received) (xs : List Event) (s : SessionState) (done : List Event) (t : SessionState) → Kept session (exchange_history xs) s → SessionStep s done t → IsStreamed side opening gave xs s
     → IsStreamed side opening gave (xs ++ done) t
 streamed session side opening gave xs s done t k (Receives now at received_bytes h) fed =
     let here = xs ++ events.BytesReceived at received_bytes ∷ [] in

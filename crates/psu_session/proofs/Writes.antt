@@ -2,14 +2,14 @@
 use Rattle.std.proofs.Common.{◌≡◌, ◌⊎◌, ℕ, Bool, true, false, Option, Some, None, Ok, List, [], ◌∷◌, ◌++◌, refl, sym, ap, ◌∙◌, inl, inr, append_assoc}
 use Rattle.std.specs.Prelude.{flat_map}
 use Rattle.std.proofs.lemmas.List.Concat.{flat_map-append}
-use Rattle.psu_locks.specs.declared.grant.Grant.{Grant}
+use Rattle.psu_locks.specs.declared.results.Grant.{Grant}
 use Rattle.psu_hislip.specs.Action.{Act}
 use Rattle.psu_hislip.specs.Channel.{Awaited}
 use Rattle.psu_hislip.specs.Core.{outcome_of}
 use Rattle.psu_hislip.specs.LockResponses.{lock_response}
 use Rattle.psu_hislip.specs.Stream.{Received}
 use Rattle.psu_hislip.specs.declared.header.Header.{Header}
-use Rattle.psu_hislip.specs.declared.origin.Origin.{Origin}
+use Rattle.psu_hislip.specs.declared.action.Origin.{Origin}
 use Rattle.psu_hislip.specs.declared.side.Side.{Side}
 use Rattle.psu_hislip.specs.declared.side.Side.TheVariants.{Sync, Async}
 use Rattle.psu_session.specs.Numbers.{number_on, parameter}
@@ -17,10 +17,10 @@ use Rattle.psu_session.specs.Exchange.{Done}
 use Rattle.psu_session.specs.Events as events
 use Rattle.psu_session.specs.Events.{Event, Took, Wrote}
 use Rattle.psu_session.specs.Requests.{immediate}
-use Rattle.psu_session.specs.Step.{Each, EachReceived, IsLockGranted, IsMessageReceived, IsServiceRequested, Step, Steps, granted, happened, release_in, works_in}
-use Rattle.psu_session.specs.Step.Step.{Receives, Notifies, Ticks, Begins, Works, ReleasesLock, Ends, Takes, Writes}
+use Rattle.psu_session.specs.Step.{Each, EachReceived, IsLockGranted, IsMessageReceived, IsServiceRequested, SessionStep, Steps, granted, happened, release_in, works_in}
+use Rattle.psu_session.specs.Step.SessionStep.{Receives, Notifies, Ticks, Begins, Works, ReleasesLock, Ends, Takes, Writes}
 use Rattle.psu_session.specs.Step.Steps.{Still, Then}
-use Rattle.psu_session.specs.State.{Start, State, added, fresh, numbered, settled, with_channel, with_core, with_output, with_writes, writes}
+use Rattle.psu_session.specs.State.{Start, SessionState, added, fresh, numbered, settled, with_channel, with_core, with_output, with_writes, writes}
 use Rattle.psu_session.specs.Writing.{on_same, writes_after, writes_by}
 use Rattle.psu_session.proofs.Keeping.{none_after}
 use Rattle.psu_session.proofs.Immediate.{each_does}
@@ -81,7 +81,7 @@ effects_take_none : (origin : Origin) (done : List Done) → takings (happened o
 effects_take_none origin [] = refl
 effects_take_none origin (d ∷ done) = effects_take_none origin done
 
-messages_take_none : (now : ℕ) (side : Side) (messages : List Received) (s : State) (done : List Event) (t : State) → EachReceived now side messages s done t → takings done ≡ []
+messages_take_none : (now : ℕ) (side : Side) (messages : List Received) (s : SessionState) (done : List Event) (t : SessionState) → EachReceived now side messages s done t → takings done ≡ []
 messages_take_none now side [] s done t (none, same) = ap takings none
 messages_take_none now side (message ∷ messages) s done t (mid, first, more, is, one, rest) =
     ap takings is ∙ flat_map-append taking_in first more ∙ ap (λ (z : List Event). z ++ takings more) (ap takings one.are ∙ each_takes_none s.lock_waits (outcome_of s.core side message).actions one.immediate one.each)
@@ -99,58 +99,58 @@ caused_takes_none waits done (inr (request, e)) = ap takings e
 -- ---- what a step does to the writers
 
 -- two states with the same writers
-abbrev SameWriters : State → State → Type 0
+abbrev SameWriters : SessionState → SessionState → Type 0
 SameWriters s t = (t.sync_writes ≡ s.sync_writes) × (t.async_writes ≡ s.async_writes)
 
-writer : (side : Side) (s t : State) → SameWriters s t → writes side t ≡ writes side s
+writer : (side : Side) (s t : SessionState) → SameWriters s t → writes side t ≡ writes side s
 writer Sync s t same = same.0
 writer Async s t same = same.1
 
-with_number : (number : Option ℕ) (s : State) → SameWriters s (numbered s number)
+with_number : (number : Option ℕ) (s : SessionState) → SameWriters s (numbered s number)
 with_number None s = (refl, refl)
 with_number (Some number) s = (refl, refl)
 
-with_feed : (side : Side) (s : State) (channel : Awaited) → SameWriters s (with_channel side s channel)
+with_feed : (side : Side) (s : SessionState) (channel : Awaited) → SameWriters s (with_channel side s channel)
 with_feed Sync s channel = (refl, refl)
 with_feed Async s channel = (refl, refl)
 
-one_message : (now : ℕ) (side : Side) (message : Received) (s : State) (done : List Event) (t : State) → IsMessageReceived now side message s done t → SameWriters s t
+one_message : (now : ℕ) (side : Side) (message : Received) (s : SessionState) (done : List Event) (t : SessionState) → IsMessageReceived now side message s done t → SameWriters s t
 one_message now side message s done t r =
     let out = outcome_of s.core side message in
     let more = added (with_core s out.core) (flat_map works_in out.actions) (flat_map (release_in now (parameter message)) out.actions) r.immediate in
     let counted = with_number (number_on side message) more in
-    (ap (λ (z : State). z.sync_writes) r.then ∙ counted.0, ap (λ (z : State). z.async_writes) r.then ∙ counted.1)
+    (ap (λ (z : SessionState). z.sync_writes) r.then ∙ counted.0, ap (λ (z : SessionState). z.async_writes) r.then ∙ counted.1)
 
-each_message : (now : ℕ) (side : Side) (messages : List Received) (s : State) (done : List Event) (t : State) → EachReceived now side messages s done t → SameWriters s t
-each_message now side [] s done t (none, same) = (ap (λ (z : State). z.sync_writes) same, ap (λ (z : State). z.async_writes) same)
+each_message : (now : ℕ) (side : Side) (messages : List Received) (s : SessionState) (done : List Event) (t : SessionState) → EachReceived now side messages s done t → SameWriters s t
+each_message now side [] s done t (none, same) = (ap (λ (z : SessionState). z.sync_writes) same, ap (λ (z : SessionState). z.async_writes) same)
 each_message now side (message ∷ messages) s done t (mid, first, more, is, one, rest) =
     let a = one_message now side message s first mid one in
     let b = each_message now side messages mid more t rest in
     (b.0 ∙ a.0, b.1 ∙ a.1)
 
 -- the writers of a state are those after its events
-abbrev IsKnown : Side → State → List Event → State → Type 0
+abbrev IsKnown : Side → SessionState → List Event → SessionState → Type 0
 IsKnown side s done t = writes side t ≡ writes_after side (writes side s) done
 
-still : (side : Side) (s : State) (done : List Event) (t : State) → takings done ≡ [] → SameWriters s t → IsKnown side s done t
+still : (side : Side) (s : SessionState) (done : List Event) (t : SessionState) → takings done ≡ [] → SameWriters s t → IsKnown side s done t
 still side s done t none same = writer side s t same ∙ sym (leave side (writes side s) done none)
 
-same_by : (s t u : State) → t ≡ u → SameWriters s u → SameWriters s t
-same_by s t u e same = (ap (λ (z : State). z.sync_writes) e ∙ same.0, ap (λ (z : State). z.async_writes) e ∙ same.1)
+same_by : (s t u : SessionState) → t ≡ u → SameWriters s u → SameWriters s t
+same_by s t u e same = (ap (λ (z : SessionState). z.sync_writes) e ∙ same.0, ap (λ (z : SessionState). z.async_writes) e ∙ same.1)
 
-taken_by_one : (side on : Side) (s : State) → writes side (with_writes on (with_output on s []) true) ≡ on_same side on true (writes side s)
+taken_by_one : (side on : Side) (s : SessionState) → writes side (with_writes on (with_output on s []) true) ≡ on_same side on true (writes side s)
 taken_by_one Sync Sync s = refl
 taken_by_one Sync Async s = refl
 taken_by_one Async Sync s = refl
 taken_by_one Async Async s = refl
 
-written_by_one : (side on : Side) (s : State) → writes side (with_writes on s false) ≡ on_same side on false (writes side s)
+written_by_one : (side on : Side) (s : SessionState) → writes side (with_writes on s false) ≡ on_same side on false (writes side s)
 written_by_one Sync Sync s = refl
 written_by_one Sync Async s = refl
 written_by_one Async Sync s = refl
 written_by_one Async Async s = refl
 
-step_writes : (side : Side) (s : State) (done : List Event) (t : State) → Step s done t → IsKnown side s done t
+step_writes : (side : Side) (s : SessionState) (done : List Event) (t : SessionState) → SessionStep s done t → IsKnown side s done t
 step_writes side s done t (Receives now on received_bytes h) =
     let fed = with_feed on s h.channel in
     let all = each_message now on h.messages (with_channel on s h.channel) h.immediate t h.each in
@@ -168,19 +168,19 @@ at_first : (start : Start) (side : Side) → writes side (fresh start) ≡ false
 at_first start Sync = refl
 at_first start Async = refl
 
-pub writer_is_known : (start : Start) (history : List Event) (s : State) → Steps (fresh start) history s → (side : Side) → writes side s ≡ writes_after side false history
+pub writer_is_known : (start : Start) (history : List Event) (s : SessionState) → Steps (fresh start) history s → (side : Side) → writes side s ≡ writes_after side false history
 writer_is_known start history s Still side = at_first start side
 writer_is_known start history s (Then {done = done} {t = t} steps more u m) side =
     step_writes side t more u m ∙ ap (λ (z : Bool). writes_after side z more) (writer_is_known start done t steps side) ∙ sym (writes_after-append side false done more)
 
 -- ---- one event that takes bytes
 
-module _ (side : Side) (s : State) (before after : List Event) (bytes : List ℕ) where
+module _ (side : Side) (s : SessionState) (before after : List Event) (bytes : List ℕ) where
   no_taking : (done : List Event) → takings done ≡ [] → done ≡ before ++ Took side bytes ∷ after → ⊥
   no_taking done none is =
       none_after (takings before) (Took side bytes) (takings after) (sym (flat_map-append taking_in before (Took side bytes ∷ after)) ∙ ap takings (sym is) ∙ none)
 
-  is_free : (done : List Event) (t : State) → Step s done t → done ≡ before ++ Took side bytes ∷ after → writes_after side (writes side s) before ≡ false
+  is_free : (done : List Event) (t : SessionState) → SessionStep s done t → done ≡ before ++ Took side bytes ∷ after → writes_after side (writes side s) before ≡ false
   is_free done t (Receives now on received_bytes h) is =
       absurd (no_taking done (ap takings h.are ∙ messages_take_none now on h.messages (with_channel on s h.channel) h.immediate t h.each) is)
   is_free done t (Notifies a) is = absurd (no_taking done (caused_takes_none s.lock_waits done a.is) is)
@@ -198,7 +198,7 @@ module _ (side : Side) (s : State) (before after : List Event) (bytes : List ℕ
     only [] e = absurd (cc (e))
     only (x ∷ xs) e = let rest : [] ≡ xs ++ Took side bytes ∷ after = cc (e) in absurd (none_after xs (Took side bytes) after (sym rest))
 
-free_before : (start : Start) (history : List Event) (s : State) → Steps (fresh start) history s → (side : Side) (before after : List Event) (bytes : List ℕ) → history ≡ before ++ Took side bytes ∷ after → writes_after side false before ≡ false
+free_before : (start : Start) (history : List Event) (s : SessionState) → Steps (fresh start) history s → (side : Side) (before after : List Event) (bytes : List ℕ) → history ≡ before ++ Took side bytes ∷ after → writes_after side false before ≡ false
 free_before start history s Still side before after bytes is = absurd (none_after before (Took side bytes) after (sym is))
 free_before start history s (Then {done = done} {t = t} steps more u m) side before after bytes is = elim (within done more before after (Took side bytes) is) [
   | Left rest at ↦ free_before start done t steps side before rest bytes at
@@ -238,7 +238,7 @@ taken_then : (side : Side) (writing : Bool) (bytes : List ℕ) (between : List E
 taken_then Sync writing bytes between = refl
 taken_then Async writing bytes between = refl
 
-pub each_take_is_written : (start : Start) (history : List Event) (s : State) → Steps (fresh start) history s → (side : Side) (before between after : List Event) (first second : List ℕ)
+pub each_take_is_written : (start : Start) (history : List Event) (s : SessionState) → Steps (fresh start) history s → (side : Side) (before between after : List Event) (first second : List ℕ)
     → history ≡ before ++ Took side first ∷ (between ++ Took side second ∷ after) → IsWrittenIn side between
 each_take_is_written start history s steps side before between after first second is =
     let split : history ≡ (before ++ Took side first ∷ between) ++ Took side second ∷ after = is ∙ sym (append_assoc before (Took side first ∷ between) (Took side second ∷ after)) in

@@ -6,9 +6,9 @@ use Rattle.psu_lex.specs.declared.scpi_error.ScpiError.TheVariants.{TooMuchData}
 use Rattle.psu_hislip.specs.Answer.{IsAnswerCutAnywhere, IsPart, answer_size}
 use Rattle.psu_hislip.specs.Runs.{Arrival, begins_clear, origins}
 use Rattle.psu_hislip.specs.Stream.{IsStream, Received}
-use Rattle.psu_hislip.specs.Transmitted.{IsStretch, Stretch, Transmission, piece_in, pieces_of, run_of, text_kept}
+use Rattle.psu_hislip.specs.Transmitted.{IsStretch, Stretch, SentTransmission, piece_in, pieces_of, run_of, text_kept}
 use Rattle.psu_hislip.specs.Transmitted.Piece.{More}
-use Rattle.psu_hislip.specs.declared.origin.Origin.{Origin}
+use Rattle.psu_hislip.specs.declared.action.Origin.{Origin}
 use Rattle.psu_hislip.specs.declared.side.Side.TheVariants.{Sync, Async}
 use Rattle.psu_messages.specs.Response.{are_some, joined, response}
 use Rattle.psu_messages.specs.Answers.{answers}
@@ -16,7 +16,7 @@ use Rattle.psu_messages.specs.Executions.{IsOver}
 use Rattle.psu_messages.specs.Effects.{Effect}
 use Rattle.psu_messages.specs.Messages.{IsMessage}
 use Rattle.psu_messages.specs.Units.{Fault, Source, Text}
-use Rattle.psu_session.specs.Exchange.{Done, IsExchange, IsGone, Turn, asked, core_at, effects, frames}
+use Rattle.psu_session.specs.Exchange.{Done, IsExchange, IsGone, Turn, acts_requested, core_at, effects, frames}
 use Rattle.psu_session.specs.Exchanged.{ExchangeEvent, Came, Did, came, came_on, replied, written}
 
 -- ---- responses
@@ -92,7 +92,7 @@ abbrev pub NothingOfBeforeAClear : Type 0
 NothingOfBeforeAClear = (session : ℕ) (sync async : List ℕ) (history : List ExchangeEvent) (turns : List Turn) → IsExchange session sync async history turns → length (came history) < 2 ^ 64
     → (before between after : List ExchangeEvent) (clear : Received) (origin : Origin) (effect : Effect) (frames : List ℕ)
     → history ≡ before ++ Came Async clear ∷ (between ++ Did origin effect frames ∷ after) → begins_clear (record { side = Async; message = clear }) ≡ true
-    → All (λ o. o ≡ origin → ⊥) (origins (asked session before))
+    → All (λ o. o ≡ origin → ⊥) (origins (acts_requested session before))
 
 -- ---- the client's transmissions
 
@@ -104,10 +104,10 @@ text_in (Fault TooMuchData) = None ∷ []
 text_in (Fault error) = []
 
 -- In a session whose messages come in their order, the transmissions that are executed are those that the client sent,
--- in order and once each; one that a device clear cut off is none of them.
+-- in order and once each; one that a device clear cut off is not one of them.
 abbrev pub TransmissionsAreTheClients : Type 0
 TransmissionsAreTheClients = (session : ℕ) (sync async : List ℕ) (history : List ExchangeEvent) (turns : List Turn) → IsExchange session sync async history turns
-    → (stretches : List Stretch) (last : List Arrival) (whole : List Transmission) (rest : List (List ℕ)) → came history ≡ flat_map run_of stretches ++ last → All IsStretch stretches
+    → (stretches : List Stretch) (last : List Arrival) (whole : List SentTransmission) (rest : List (List ℕ)) → came history ≡ flat_map run_of stretches ++ last → All IsStretch stretches
     → list_any begins_clear last ≡ false → flat_map piece_in last ≡ flat_map pieces_of whole ++ map More rest → (core_at session history).failed ≡ false
     → (waiting : List (Option (List ℕ))) × (map text_kept (flat_map (λ (s : Stretch). s.whole) stretches ++ whole) ≡ flat_map (λ turn. text_in turn.order.source) turns ++ waiting)
 

@@ -1,20 +1,20 @@
 -- The events of a session. Source: IVI-6.1 (the two channels of a session, and what is sent on each).
 use Rattle.std.specs.Prelude.{ℕ, Bool, true, false, Option, Some, None, Result, Ok, List, [], ◌∷◌, flat_map}
-use Rattle.psu_locks.specs.declared.freed.Freed.{Freed}
-use Rattle.psu_locks.specs.declared.grant.Grant.{Grant}
-use Rattle.psu_locks.specs.declared.info.Info.{Info}
-use Rattle.psu_locks.specs.declared.kind.Kind.{Kind}
-use Rattle.psu_locks.specs.declared.lock_refusal.LockRefusal.{LockRefusal}
+use Rattle.psu_locks.specs.declared.results.Freed.{Freed}
+use Rattle.psu_locks.specs.declared.results.Grant.{Grant}
+use Rattle.psu_locks.specs.declared.results.Info.{Info}
+use Rattle.psu_locks.specs.declared.requests.Kind.{Kind}
+use Rattle.psu_locks.specs.declared.results.LockRefusal.{LockRefusal}
 use Rattle.psu_hislip.specs.Frame.{header_of}
 use Rattle.psu_hislip.specs.Header.{header_bytes}
 use Rattle.psu_hislip.specs.LockResponses.{lock_response, release_response}
 use Rattle.psu_hislip.specs.Stream.{Received}
 use Rattle.psu_hislip.specs.declared.header.Header.{Header}
 use Rattle.psu_hislip.specs.declared.message_type.MessageType.TheVariants.{AsyncServiceRequest}
-use Rattle.psu_hislip.specs.declared.origin.Origin.{Origin}
+use Rattle.psu_hislip.specs.declared.action.Origin.{Origin}
 use Rattle.psu_hislip.specs.declared.side.Side.{Side}
 use Rattle.psu_hislip.specs.declared.side.Side.TheVariants.{Sync, Async}
-use Rattle.psu_tree.specs.declared.unit_request.Request.{Request}
+use Rattle.psu_tree.specs.declared.command.Request.{Request}
 use Rattle.psu_exec.specs.Device.{Reply}
 use Rattle.psu_messages.specs.Effects as messages
 use Rattle.psu_messages.specs.Effects.{Effect}

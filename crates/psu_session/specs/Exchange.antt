@@ -7,7 +7,7 @@ use Rattle.psu_hislip.specs.Answer.{IsAnswer, IsPart, answer_size}
 use Rattle.psu_hislip.specs.Core.{Core, IsCurrent}
 use Rattle.psu_hislip.specs.Runs.{actions_of, core_after, origins, started}
 use Rattle.psu_hislip.specs.Stream.{IsStream, Received}
-use Rattle.psu_hislip.specs.declared.origin.Origin.{Origin}
+use Rattle.psu_hislip.specs.declared.action.Origin.{Origin}
 use Rattle.psu_hislip.specs.declared.side.Side.TheVariants.{Sync, Async}
 use Rattle.psu_messages.specs.Executions.{Reaches, Progress, IsOver}
 use Rattle.psu_messages.specs.Effects.{Effect, Executed, Settled, Sent}
@@ -19,8 +19,8 @@ abbrev pub core_at : ℕ → List ExchangeEvent → Core
 core_at session history = core_after (started session) (came history)
 
 -- what the messages request
-abbrev pub asked : ℕ → List ExchangeEvent → List Act
-asked session history = actions_of (started session) (came history)
+abbrev pub acts_requested : ℕ → List ExchangeEvent → List Act
+acts_requested session history = actions_of (started session) (came history)
 
 -- ---- what is to be executed
 
@@ -36,7 +36,7 @@ order_in (Act.Trigger origin) = record { origin = origin; source = Fault Trigger
 order_in act = []
 
 abbrev pub orders : ℕ → List ExchangeEvent → List Order
-orders session history = flat_map order_in (asked session history)
+orders session history = flat_map order_in (acts_requested session history)
 
 -- an effect, and the frames that are sent with it
 pub record Done : Type 0 where
@@ -64,7 +64,7 @@ pub record IsGone (session : ℕ) (history : List ExchangeEvent) (origin : Origi
   pub before : List ExchangeEvent
   pub after : List ExchangeEvent
   pub is : history ≡ before ++ after
-  pub has_come : (first : List Origin) × (others : List Origin) × (origins (asked session before) ≡ first ++ origin ∷ others)
+  pub has_come : (first : List Origin) × (others : List Origin) × (origins (acts_requested session before) ≡ first ++ origin ∷ others)
   pub gone : IsCurrent (core_at session before) origin → ⊥
 
 -- a transmission is over, or a device clear or a FatalError has ended it
@@ -90,7 +90,7 @@ IsFramed size id (Sent text true) frames = IsAnswer size id text frames
 -- What is done for a transmission is done after the message that requested it, and not after a device clear or a
 -- FatalError that has ended it. Payloads are as long as the client accepts at that time.
 pub record IsDone (session : ℕ) (before : List ExchangeEvent) (origin : Origin) (effect : Effect) (frames : List ℕ) : Type 0 where
-  pub has_come : (first : List Origin) × (others : List Origin) × (origins (asked session before) ≡ first ++ origin ∷ others)
+  pub has_come : (first : List Origin) × (others : List Origin) × (origins (acts_requested session before) ≡ first ++ origin ∷ others)
   pub current : IsCurrent (core_at session before) origin
   pub framed : IsFramed (answer_size (core_at session before).size) origin.id effect frames
 
@@ -104,7 +104,7 @@ reply_of (Act.Send Sync frames) = frames ∷ []
 reply_of act = []
 
 abbrev pub replies : ℕ → List ExchangeEvent → List (List ℕ)
-replies session history = flat_map reply_of (asked session history)
+replies session history = flat_map reply_of (acts_requested session history)
 
 -- at each moment the first of the replies that were requested by then are sent
 abbrev pub EachIsReplied : ℕ → List ExchangeEvent → Type 0

@@ -8,11 +8,11 @@ use Rattle.psu_session.specs.Exchange.{IsExchange, Turn, core_at, orders}
 use Rattle.psu_session.specs.Exchanged.{written}
 use Rattle.psu_session.specs.Events.{Event, bytes_received, exchange_history, put, taken}
 use Rattle.psu_session.specs.Step.{IsOpening, IsHistory, Steps}
-use Rattle.psu_session.specs.State.{Start, State, orders_in, output}
+use Rattle.psu_session.specs.State.{Start, SessionState, orders_in, output}
 
 -- The history is an exchange of the session's two streams of bytes, the first of which begins with the bytes that
 -- opened the session; and it determines the state.
-pub record IsExchangeHistory (start : Start) (history : List Event) (s : State) : Type 0 where
+pub record IsExchangeHistory (start : Start) (history : List Event) (s : SessionState) : Type 0 where
   pub turns : List Turn
   pub exchange : (opening : List ℕ) (first : Received) → Fed start.sync opening (first ∷ []) → Fed start.async [] [] → IsExchange start.session (opening ++ bytes_received Sync history) (bytes_received Async history) (exchange_history history) turns
   pub core : s.core ≡ core_at start.session (exchange_history history)
@@ -24,12 +24,12 @@ pub record IsExchangeHistory (start : Start) (history : List Event) (s : State) 
   pub outputs : (side : Side) → put side history ≡ taken side history ++ output side s
 
 abbrev pub HistoriesAreExchanges : Type 0
-HistoriesAreExchanges = (start : Start) (history : List Event) (s : State) → IsHistory start history s → IsExchangeHistory start history s
+HistoriesAreExchanges = (start : Start) (history : List Event) (s : SessionState) → IsHistory start history s → IsExchangeHistory start history s
 
 -- a history leads to this state, and it is an exchange
-abbrev pub HasExchangeHistory : State → Type 0
+abbrev pub HasExchangeHistory : SessionState → Type 0
 HasExchangeHistory s = (start : Start) × (history : List Event) × IsOpening start × IsHistory start history s × IsExchangeHistory start history s
 
 -- steps from a state extend each history that leads to it
 abbrev pub HistoriesExtend : Type 0
-HistoriesExtend = (start : Start) (history : List Event) (s : State) (done : List Event) (t : State) → IsHistory start history s → Steps s done t → IsHistory start (history ++ done) t
+HistoriesExtend = (start : Start) (history : List Event) (s : SessionState) (done : List Event) (t : SessionState) → IsHistory start history s → Steps s done t → IsHistory start (history ++ done) t

@@ -6,13 +6,13 @@ use Rattle.psu_session.specs.Events.{Call, Executed, Settled, Sent, Delivered, Q
 use Rattle.psu_session.specs.declared.phase.EndCause.TheVariants.{Disconnected}
 use Rattle.psu_session.specs.declared.phase.Phase.{Phase}
 use Rattle.psu_session.specs.declared.phase.Phase.TheVariants.{Open, Ending, Over}
-use Rattle.psu_session.specs.declared.proceeded.Proceeded.{Proceeded}
-use Rattle.psu_session.specs.declared.proceeded.Proceeded.TheVariants.{Idle, Completed, Waits}
+use Rattle.psu_session.specs.declared.proceeding.Proceeded.{Proceeded}
+use Rattle.psu_session.specs.declared.proceeding.Proceeded.TheVariants.{Idle, Completed, Waits}
 
-abbrev pub is_over : Phase → Bool
-is_over Open = false
-is_over (Ending left) = false
-is_over (Over cause) = true
+abbrev pub phase_ended : Phase → Bool
+phase_ended Open = false
+phase_ended (Ending left) = false
+phase_ended (Over cause) = true
 
 -- A connection has ended: 65,536 units more are tried of what was sent before.
 abbrev pub disconnected : Phase → Phase

@@ -1,13 +1,13 @@
 -- Releases of locks, over whole histories. Source: IVI-6.1 (a lock is released after the messages that its client sent
 -- before it requested the release).
 use Rattle.std.specs.Prelude.{◌≡◌, ℕ, zero, suc, ◌+◌, All, Result, List, [], ◌∷◌, ◌++◌, flat_map, map, length}
-use Rattle.psu_locks.specs.declared.freed.Freed.{Freed}
-use Rattle.psu_locks.specs.declared.lock_refusal.LockRefusal.{LockRefusal}
+use Rattle.psu_locks.specs.declared.results.Freed.{Freed}
+use Rattle.psu_locks.specs.declared.results.LockRefusal.{LockRefusal}
 use Rattle.psu_hislip.specs.Action.{Act}
-use Rattle.psu_session.specs.Exchange.{HasEnded, Order, Turn, asked, orders}
+use Rattle.psu_session.specs.Exchange.{HasEnded, Order, Turn, acts_requested, orders}
 use Rattle.psu_session.specs.Events.{Event, BytesReceived, LockGranted, ServiceRequested, LockReleased, Came, DeviceCalled, Put, Did, Took, Wrote, exchange_history}
 use Rattle.psu_session.specs.Step.{IsHistory, works_in}
-use Rattle.psu_session.specs.State.{Start, State, Work, Execute, ReleaseLock}
+use Rattle.psu_session.specs.State.{Start, SessionState, Work, Execute, ReleaseLock}
 
 -- the replies of the device to the releases of a history
 abbrev pub released_in : Event → List (Result Freed LockRefusal)
@@ -47,8 +47,8 @@ before_release (suc number) (ReleaseLock ∷ works) = before_release number work
 
 -- Each release that was requested was done once, is in the queue, or waits for its message.
 abbrev pub EachReleaseIsDone : Type 0
-EachReleaseIsDone = (start : Start) (history : List Event) (s : State) → IsHistory start history s
-    → releases_in (requested (asked start.session (exchange_history history))) ≡ length (released history) + (releases_in s.waiting + length s.releases)
+EachReleaseIsDone = (start : Start) (history : List Event) (s : SessionState) → IsHistory start history s
+    → releases_in (requested (acts_requested start.session (exchange_history history))) ≡ length (released history) + (releases_in s.waiting + length s.releases)
 
 -- After these events a release is in its place: the transmissions that were received before its request have ended.
 pub record IsInPlace (session : ℕ) (before : List Event) : Type 0 where
@@ -57,8 +57,8 @@ pub record IsInPlace (session : ℕ) (before : List Event) : Type 0 where
   pub others : List Order
   pub are : orders session (exchange_history before) ≡ map (λ turn. turn.order) ended ++ others
   pub later : List Order
-  pub first : map (λ turn. turn.order) ended ≡ before_release (length (released before)) (requested (asked session (exchange_history before))) ++ later
+  pub first : map (λ turn. turn.order) ended ≡ before_release (length (released before)) (requested (acts_requested session (exchange_history before))) ++ later
 
 abbrev pub EachReleaseIsInPlace : Type 0
-EachReleaseIsInPlace = (start : Start) (history : List Event) (s : State) → IsHistory start history s → (before after : List Event) (reply : Result Freed LockRefusal) → history ≡ before ++ LockReleased reply ∷ after
+EachReleaseIsInPlace = (start : Start) (history : List Event) (s : SessionState) → IsHistory start history s → (before after : List Event) (reply : Result Freed LockRefusal) → history ≡ before ++ LockReleased reply ∷ after
     → IsInPlace start.session before

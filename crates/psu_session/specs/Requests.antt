@@ -2,12 +2,12 @@
 -- channel has one response, and these are sent in the order of the requests; that of a lock request that waits is sent
 -- once it has a result).
 use Rattle.std.specs.Prelude.{Bool, false, List, [], ◌∷◌, ◌++◌, flat_map}
-use Rattle.psu_locks.specs.declared.grant.Grant.{Grant}
+use Rattle.psu_locks.specs.declared.results.Grant.{Grant}
 use Rattle.psu_hislip.specs.Action.{Act}
-use Rattle.psu_session.specs.Exchange.{asked}
+use Rattle.psu_session.specs.Exchange.{acts_requested}
 use Rattle.psu_session.specs.Events.{Event, BytesReceived, LockGranted, ServiceRequested, LockReleased, Came, DeviceCalled, Put, Did, Took, Wrote, exchange_history, waits_after}
 use Rattle.psu_session.specs.Step.{Does, IsHistory}
-use Rattle.psu_session.specs.State.{Start, State}
+use Rattle.psu_session.specs.State.{Start, SessionState}
 
 -- what is done immediately for a message
 abbrev pub immediate_in : Event → List Event
@@ -51,4 +51,4 @@ pub data AreServed : Bool → List Act → List Event → Type 0 where
 -- What is done immediately in a history is what the messages request, each request once and in order: a status query, a
 -- lock request and a lock info query are answered by the reply of the device to that very call.
 abbrev pub EachRequestIsServed : Type 0
-EachRequestIsServed = (start : Start) (history : List Event) (s : State) → IsHistory start history s → AreServed false (asked start.session (exchange_history history)) (serving history)
+EachRequestIsServed = (start : Start) (history : List Event) (s : SessionState) → IsHistory start history s → AreServed false (acts_requested start.session (exchange_history history)) (serving history)

@@ -4,25 +4,25 @@ use Rattle.std.specs.List.{list_any}
 use Rattle.psu_hislip.specs.Channel.{Fed}
 use Rattle.psu_hislip.specs.Runs.{Arrival, begins_clear, origins}
 use Rattle.psu_hislip.specs.Stream.{Received}
-use Rattle.psu_hislip.specs.Transmitted.{IsStretch, Stretch, Transmission, piece_in, pieces_of, run_of, text_kept}
+use Rattle.psu_hislip.specs.Transmitted.{IsStretch, Stretch, SentTransmission, piece_in, pieces_of, run_of, text_kept}
 use Rattle.psu_hislip.specs.Transmitted.Piece.{More}
-use Rattle.psu_hislip.specs.declared.origin.Origin.{Origin}
+use Rattle.psu_hislip.specs.declared.action.Origin.{Origin}
 use Rattle.psu_hislip.specs.declared.side.Side.TheVariants.{Sync, Async}
 use Rattle.psu_messages.specs.Effects.{Effect}
 use Rattle.psu_session.specs.Answered.{AreTheStreams, EachIsWholeOrEnded, IsAnswered, TakesAtMost, Weaves, pieces, text_in}
-use Rattle.psu_session.specs.Exchange.{Turn, asked}
+use Rattle.psu_session.specs.Exchange.{Turn, acts_requested}
 use Rattle.psu_session.specs.Exchanged.{came, replied}
 use Rattle.psu_session.specs.Events.{Event, Came, Did, bytes_received, exchange_history, taken}
 use Rattle.psu_session.specs.Step.{IsHistory}
-use Rattle.psu_session.specs.State.{Start, State}
+use Rattle.psu_session.specs.State.{Start, SessionState}
 
-pub record AnswersInOrder (start : Start) (opening : List ℕ) (history : List Event) (s : State) : Type 0 where
+pub record AnswersInOrder (start : Start) (opening : List ℕ) (history : List Event) (s : SessionState) : Type 0 where
   pub turns : List Turn
   -- the messages that the core received are those of the bytes of the two connections
   pub streams : AreTheStreams (opening ++ bytes_received Sync history) (bytes_received Async history) (exchange_history history)
   -- where the messages come in their order, the transmissions that are executed are those that the client sent, in
   -- order and once each, and none that a device clear cut off
-  pub transmissions : (stretches : List Stretch) (last : List Arrival) (whole : List Transmission) (rest : List (List ℕ)) → came (exchange_history history) ≡ flat_map run_of stretches ++ last → All IsStretch stretches
+  pub transmissions : (stretches : List Stretch) (last : List Arrival) (whole : List SentTransmission) (rest : List (List ℕ)) → came (exchange_history history) ≡ flat_map run_of stretches ++ last → All IsStretch stretches
       → list_any begins_clear last ≡ false → flat_map piece_in last ≡ flat_map pieces_of whole ++ map More rest → s.core.failed ≡ false
       → (waiting : List (Option (List ℕ))) × (map text_kept (flat_map (λ (stretch : Stretch). stretch.whole) stretches ++ whole) ≡ flat_map (λ turn. text_in turn.order.source) turns ++ waiting)
   -- each transmission that is over is answered, message by message, under its MessageID; of another, a prefix of this
@@ -31,10 +31,10 @@ pub record AnswersInOrder (start : Start) (opening : List ℕ) (history : List E
   -- after an AsyncDeviceClear nothing is done for what was received before it (clears are counted modulo 2^64)
   pub cleared : length (came (exchange_history history)) < 2 ^ 64 → (before between after : List Event) (clear : Received) (origin : Origin) (effect : Effect) (frames : List ℕ)
       → history ≡ before ++ Came Async clear ∷ (between ++ Did origin effect frames ∷ after) → begins_clear (record { side = Async; message = clear }) ≡ true
-      → All (λ o. o ≡ origin → ⊥) (origins (asked start.session (exchange_history before)))
+      → All (λ o. o ≡ origin → ⊥) (origins (acts_requested start.session (exchange_history before)))
   -- the bytes that were taken for the synchronous connection, then its output, are the core's replies and the frames of
   -- the transmissions, each in their order
   pub sent : Weaves (replied (exchange_history history)) (pieces turns) (taken Sync history ++ s.sync)
 
 abbrev pub EachSessionAnswersInOrder : Type 0
-EachSessionAnswersInOrder = (start : Start) (opening : List ℕ) (first : Received) (history : List Event) (s : State) → Fed start.sync opening (first ∷ []) → Fed start.async [] [] → IsHistory start history s → AnswersInOrder start opening history s
+EachSessionAnswersInOrder = (start : Start) (opening : List ℕ) (first : Received) (history : List Event) (s : SessionState) → Fed start.sync opening (first ∷ []) → Fed start.async [] [] → IsHistory start history s → AnswersInOrder start opening history s

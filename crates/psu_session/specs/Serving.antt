@@ -2,14 +2,14 @@
 use Rattle.std.specs.Prelude.{◌≡◌, ℕ, ◌-◌, List, [], ◌∷◌, ◌++◌}
 use Rattle.psu_hislip.specs.Answer.{answer_size}
 use Rattle.psu_hislip.specs.Core.{Core}
-use Rattle.psu_hislip.specs.declared.origin.Origin.{Origin}
+use Rattle.psu_hislip.specs.declared.action.Origin.{Origin}
 use Rattle.psu_messages.specs.Executions.{Reaches, Progress}
 use Rattle.psu_messages.specs.Effects.{Effect}
 use Rattle.psu_session.specs.Exchange.{Done, IsFramed, Order, effects, frames}
 use Rattle.psu_session.specs.Events.{Call, Event, calls}
 use Rattle.psu_session.specs.Phases.{tries}
 use Rattle.psu_session.specs.Step.{AreFramed, happened}
-use Rattle.psu_session.specs.State.{Release, State, Work, added}
+use Rattle.psu_session.specs.State.{Release, SessionState, Work, added}
 
 -- calls of the device, one after another, each leading from one of its states to another
 abbrev pub Runs : {X : Type 0} → (X → Call → X → Type 0) → X → List Call → X → Type 0
@@ -17,14 +17,14 @@ Runs does x [] y = y ≡ x
 Runs {X} does x (call ∷ calls) y = (mid : X) × does x call mid × Runs does mid calls y
 
 -- The events are such, by these calls of the device; their frames, and what is queued, are appended to the state.
-pub record Appends {X : Type 0} (does : X → Call → X → Type 0) (Are : List Event → Type 0) (works : List Work) (requested : List Release) (s : State) (x : X) (t : State) (y : X) : Type 0 where
+pub record Appends {X : Type 0} (does : X → Call → X → Type 0) (Are : List Event → Type 0) (works : List Work) (requested : List Release) (s : SessionState) (x : X) (t : SessionState) (y : X) : Type 0 where
   pub done : List Event
   pub are : Are done
   pub runs : Runs does x (calls done) y
   pub then : t ≡ added s works requested done
 
 -- The events are a step of the session, by these calls of the device.
-pub record PerformsStep {X : Type 0} (does : X → Call → X → Type 0) (Is : State → List Event → State → Type 0) (s : State) (x : X) (t : State) (y : X) : Type 0 where
+pub record PerformsStep {X : Type 0} (does : X → Call → X → Type 0) (Is : SessionState → List Event → SessionState → Type 0) (s : SessionState) (x : X) (t : SessionState) (y : X) : Type 0 where
   pub done : List Event
   pub is : Is s done t
   pub runs : Runs does x (calls done) y

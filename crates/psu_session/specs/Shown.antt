@@ -3,11 +3,11 @@ use Rattle.std.specs.Prelude.{Option, Some, None, List, map}
 use Rattle.psu_messages.specs.Units.{source_of}
 use Rattle.psu_session.specs.Exchange as exchange
 use Rattle.psu_session.specs.State as state
-use Rattle.psu_session.specs.declared.order.Order.{Order}
-use Rattle.psu_session.specs.declared.release.Release.{Release}
-use Rattle.psu_session.specs.declared.work.Work.{Work}
-use Rattle.psu_session.specs.declared.work.Work.TheVariants as work
-use Rattle.psu_session.specs.declared.running.Running.{Running}
+use Rattle.psu_session.specs.declared.queue.Order.{Order}
+use Rattle.psu_session.specs.declared.queue.Release.{Release}
+use Rattle.psu_session.specs.declared.queue.Work.{Work}
+use Rattle.psu_session.specs.declared.queue.Work.TheVariants as work
+use Rattle.psu_session.specs.declared.queue.Running.{Running}
 use Rattle.psu_session.specs.declared.parts.Parts.{Parts}
 
 abbrev pub order_of : Order → exchange.Order
@@ -36,7 +36,7 @@ abbrev pub running_of : Option Running → Option state.Running
 running_of None = None
 running_of (Some running) = Some (one_running running)
 
-abbrev pub state_of : Parts → state.State
+abbrev pub state_of : Parts → state.SessionState
 state_of parts = record {
   sync_channel = parts.sync_channel;
   async_channel = parts.async_channel;

@@ -47,7 +47,7 @@ owed_with (release ∷ releases) owed = owed_with releases (owed + cost 0)
 -- transmission in execution; whether a lock request waits for its result; the bytes that are to be sent on each
 -- connection; whether a thread writes bytes there that were taken before; and how much the transmissions that are
 -- queued or in execution count as, and the releases that are queued or wait.
-pub record State : Type 0 where
+pub record SessionState : Type 0 where
   pub sync_channel : Awaited
   pub async_channel : Awaited
   pub core : Core
@@ -71,7 +71,7 @@ pub record Start : Type 0 where
 
 -- A session that has only its synchronous connection, after its Initialize. A client's first message has the number
 -- ffffff00.
-abbrev pub fresh : Start → State
+abbrev pub fresh : Start → SessionState
 fresh start = record {
   sync_channel = start.sync;
   async_channel = start.async;
@@ -89,16 +89,16 @@ fresh start = record {
   owed = 0;
 }
 
-abbrev pub channel_of : Side → State → Awaited
+abbrev pub channel_of : Side → SessionState → Awaited
 channel_of Sync s = s.sync_channel
 channel_of Async s = s.async_channel
 
-abbrev pub with_channel : Side → State → Awaited → State
+abbrev pub with_channel : Side → SessionState → Awaited → SessionState
 with_channel Sync s channel = record s { sync_channel = channel }
 with_channel Async s channel = record s { async_channel = channel }
 
 -- with items, releases and the frames of events appended, and the lock request that waits after these events
-abbrev pub added : State → List Work → List Release → List Event → State
+abbrev pub added : SessionState → List Work → List Release → List Event → SessionState
 added s works requested done = record s {
   waiting = s.waiting ++ works;
   releases = s.releases ++ requested;
@@ -109,46 +109,46 @@ added s works requested done = record s {
   owed = owed_with requested s.owed;
 }
 
-abbrev pub with_core : State → Core → State
+abbrev pub with_core : SessionState → Core → SessionState
 with_core s core = record s { core = core }
 
 -- with this queue and this transmission in execution
-abbrev pub with_work : State → List Work → Option Running → State
+abbrev pub with_work : SessionState → List Work → Option Running → SessionState
 with_work s waiting running = record s { waiting = waiting; running = running }
 
-abbrev pub with_held : State → ℕ → State
+abbrev pub with_held : SessionState → ℕ → SessionState
 with_held s held = record s { held = held }
 
-abbrev pub with_owed : State → ℕ → State
+abbrev pub with_owed : SessionState → ℕ → SessionState
 with_owed s owed = record s { owed = owed }
 
-abbrev pub with_releases : State → List Work → List Release → State
+abbrev pub with_releases : SessionState → List Work → List Release → SessionState
 with_releases s waiting releases = record s { waiting = waiting; releases = releases }
 
 -- the message of a number counts as received
-abbrev pub numbered : State → Option ℕ → State
+abbrev pub numbered : SessionState → Option ℕ → SessionState
 numbered s None = s
 numbered s (Some number) = record s { last = number }
 
-abbrev pub output : Side → State → List ℕ
+abbrev pub output : Side → SessionState → List ℕ
 output Sync s = s.sync
 output Async s = s.async
 
-abbrev pub with_output : Side → State → List ℕ → State
+abbrev pub with_output : Side → SessionState → List ℕ → SessionState
 with_output Sync s bytes = record s { sync = bytes }
 with_output Async s bytes = record s { async = bytes }
 
 -- whether a thread writes on a connection
-abbrev pub writes : Side → State → Bool
+abbrev pub writes : Side → SessionState → Bool
 writes Sync s = s.sync_writes
 writes Async s = s.async_writes
 
-abbrev pub with_writes : Side → State → Bool → State
+abbrev pub with_writes : Side → SessionState → Bool → SessionState
 with_writes Sync s writing = record s { sync_writes = writing }
 with_writes Async s writing = record s { async_writes = writing }
 
 -- something is to be executed
-abbrev pub HasWork : State → Type 0
+abbrev pub HasWork : SessionState → Type 0
 HasWork s = (s.running ≢ None) ⊎ (s.waiting ≢ [])
 
 -- ---- releases
@@ -167,19 +167,19 @@ left all now last [] = []
 left all now last (release ∷ releases) = if is_due all now last release then left all now last releases else release ∷ releases
 
 -- the first releases, as far as their waits are over, are queued
-abbrev pub settled : Bool → ℕ → State → State
+abbrev pub settled : Bool → ℕ → SessionState → SessionState
 settled all now s = with_releases s (s.waiting ++ due all now s.last s.releases) (left all now s.last s.releases)
 
 -- a session as contracts see it: its phase and its state
 pub record Shown : Type 0 where
   pub phase : Phase
-  pub state : State
+  pub state : SessionState
 
 -- Memory is refused for the next reply: only where the output of the asynchronous connection has changed, so that room for
 -- that had to be made.
-abbrev pub IsRefusedRoom : State → Phase → State → Type 0
+abbrev pub IsRefusedRoom : SessionState → Phase → SessionState → Type 0
 IsRefusedRoom s phase t = (phase ≡ Over Memory) × (t.async ≡ s.async → ⊥)
 
 -- A step that was completed leaves the session in its phase, unless memory is refused for the next reply.
-abbrev pub Continues : Shown → Shown → Type 0
-Continues old new = (new.phase ≡ old.phase) ⊎ IsRefusedRoom old.state new.phase new.state
+abbrev pub KeepsPhase : Shown → Shown → Type 0
+KeepsPhase old new = (new.phase ≡ old.phase) ⊎ IsRefusedRoom old.state new.phase new.state

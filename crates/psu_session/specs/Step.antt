@@ -2,11 +2,11 @@
 -- is done; a response has the MessageID of its transmission, and a device clear discards it) and IEEE 488.2, 6
 -- (messages are executed in the order of their arrival).
 use Rattle.std.specs.Prelude.{◌≡◌, ◌⊎◌, ℕ, ◌-◌, Bool, true, false, Option, Some, None, Result, Ok, List, [], ◌∷◌, ◌++◌, map, flat_map}
-use Rattle.psu_locks.specs.declared.freed.Freed.{Freed}
-use Rattle.psu_locks.specs.declared.grant.Grant.{Grant}
-use Rattle.psu_locks.specs.declared.info.Info.{Info}
-use Rattle.psu_locks.specs.declared.kind.Kind.{Kind}
-use Rattle.psu_locks.specs.declared.lock_refusal.LockRefusal.{LockRefusal}
+use Rattle.psu_locks.specs.declared.results.Freed.{Freed}
+use Rattle.psu_locks.specs.declared.results.Grant.{Grant}
+use Rattle.psu_locks.specs.declared.results.Info.{Info}
+use Rattle.psu_locks.specs.declared.requests.Kind.{Kind}
+use Rattle.psu_locks.specs.declared.results.LockRefusal.{LockRefusal}
 use Rattle.psu_hislip.specs.Action.{Act}
 use Rattle.psu_hislip.specs.Answer.{answer_size}
 use Rattle.psu_hislip.specs.Channel.{Awaited, Fed}
@@ -18,7 +18,7 @@ use Rattle.psu_hislip.specs.Stream.{Received}
 use Rattle.psu_hislip.specs.declared.header.Header.{Header}
 use Rattle.psu_hislip.specs.declared.lock_responses.LockResponse.TheVariants.{Error}
 use Rattle.psu_hislip.specs.declared.message_type.MessageType.TheVariants.{AsyncStatusResponse}
-use Rattle.psu_hislip.specs.declared.origin.Origin.{Origin}
+use Rattle.psu_hislip.specs.declared.action.Origin.{Origin}
 use Rattle.psu_hislip.specs.declared.side.Side.{Side}
 use Rattle.psu_hislip.specs.declared.side.Side.TheVariants.{Sync, Async}
 use Rattle.psu_session.specs.Locking.{kind_of}
@@ -28,7 +28,7 @@ use Rattle.psu_messages.specs.Effects.{Effect}
 use Rattle.psu_session.specs.Exchange.{Done, IsFramed, Order, effects, frames, order_in}
 use Rattle.psu_session.specs.Credit.{cost, cost_of}
 use Rattle.psu_session.specs.Events.{Delivered, Queried, Informed, Locked, Cleared, Event, BytesReceived, LockGranted, ServiceRequested, LockReleased, Came, DeviceCalled, Put, Did, Took, Wrote, waits_after}
-use Rattle.psu_session.specs.State.{Running, Release, Start, State, Work, Execute, ReleaseLock, added, channel_of, fresh, numbered, output, settled, with_channel, with_core, with_held, with_output, with_owed, with_work, with_writes, writes}
+use Rattle.psu_session.specs.State.{Running, Release, Start, SessionState, Work, Execute, ReleaseLock, added, channel_of, fresh, numbered, output, settled, with_channel, with_core, with_held, with_output, with_owed, with_work, with_writes, writes}
 
 -- ---- what a message requests
 
@@ -88,29 +88,29 @@ release_in now number act = []
 
 -- The transmissions of a message are queued after what was received before, and after them the releases that have
 -- waited for this message; at a device clear all releases are queued.
-abbrev pub arrived : ℕ → Side → Received → List Act → State → List Event → State
+abbrev pub arrived : ℕ → Side → Received → List Act → SessionState → List Event → SessionState
 arrived now side message acts s immediate =
     settled (clears acts) now (numbered (added s (flat_map works_in acts) (flat_map (release_in now (parameter message)) acts) immediate) (number_on side message))
 
 -- A message is passed to the core at a time in milliseconds, and what it requests is done or queued.
-pub record IsMessageReceived (now : ℕ) (side : Side) (message : Received) (s : State) (done : List Event) (t : State) : Type 0 where
+pub record IsMessageReceived (now : ℕ) (side : Side) (message : Received) (s : SessionState) (done : List Event) (t : SessionState) : Type 0 where
   pub immediate : List Event
   pub each : Each s.lock_waits (outcome_of s.core side message).actions immediate
   pub are : done ≡ Came side message ∷ immediate
   pub then : t ≡ arrived now side message (outcome_of s.core side message).actions (with_core s (outcome_of s.core side message).core) immediate
 
 -- messages, one after another
-abbrev pub EachReceived : ℕ → Side → List Received → State → List Event → State → Type 0
+abbrev pub EachReceived : ℕ → Side → List Received → SessionState → List Event → SessionState → Type 0
 EachReceived now side [] s done t = (done ≡ []) × (t ≡ s)
 EachReceived now side (message ∷ messages) s done t =
-    (mid : State) × (first : List Event) × (more : List Event) × (done ≡ first ++ more) × IsMessageReceived now side message s first mid × EachReceived now side messages mid more t
+    (mid : SessionState) × (first : List Event) × (more : List Event) × (done ≡ first ++ more) × IsMessageReceived now side message s first mid × EachReceived now side messages mid more t
 
 -- a channel returns the messages that the next bytes of its stream complete
 abbrev pub Feeds : Awaited → List ℕ → List Received → Awaited → Type 0
 Feeds old received_bytes messages new = (stream : List ℕ) (given : List Received) → Fed old stream given → Fed new (stream ++ received_bytes) (given ++ messages)
 
 -- The next bytes of a channel's stream are received, with the messages that they complete.
-pub record IsReceived (now : ℕ) (side : Side) (received_bytes : List ℕ) (s : State) (done : List Event) (t : State) : Type 0 where
+pub record IsReceived (now : ℕ) (side : Side) (received_bytes : List ℕ) (s : SessionState) (done : List Event) (t : SessionState) : Type 0 where
   pub messages : List Received
   pub channel : Awaited
   pub feeds : Feeds (channel_of side s) received_bytes messages channel
@@ -119,7 +119,7 @@ pub record IsReceived (now : ℕ) (side : Side) (received_bytes : List ℕ) (s :
   pub each : EachReceived now side messages (with_channel side s channel) immediate t
 
 -- time passes
-pub record IsTicked (now : ℕ) (s : State) (done : List Event) (t : State) : Type 0 where
+pub record IsTicked (now : ℕ) (s : SessionState) (done : List Event) (t : SessionState) : Type 0 where
   pub are : done ≡ []
   pub then : t ≡ settled false now s
 
@@ -139,7 +139,7 @@ abbrev pub IsServiceRequested : List Event → Type 0
 IsServiceRequested done = (request : Option ℕ) × (done ≡ ServiceRequested request ∷ [])
 
 -- what other sessions cause is reported on the asynchronous connection
-pub record IsNotified (s : State) (done : List Event) (t : State) : Type 0 where
+pub record IsNotified (s : SessionState) (done : List Event) (t : SessionState) : Type 0 where
   pub is : ((grant : Grant) × IsLockGranted s.lock_waits grant done) ⊎ IsServiceRequested done
   pub then : t ≡ added s [] [] done
 
@@ -157,7 +157,7 @@ AreFramed size id [] = Unit {0}
 AreFramed size id (d ∷ done) = IsFramed size id d.effect d.frames × AreFramed size id done
 
 -- the first transmission of the queue begins
-pub record IsBegun (s : State) (done : List Event) (t : State) : Type 0 where
+pub record IsBegun (s : SessionState) (done : List Event) (t : SessionState) : Type 0 where
   pub order : Order
   pub later : List Work
   pub none : s.running ≡ None
@@ -166,7 +166,7 @@ pub record IsBegun (s : State) (done : List Event) (t : State) : Type 0 where
   pub then : t ≡ with_work s later (Some (running order beginning))
 
 -- a lock is released, once all that is queued before is done; the reply of the device is the response
-pub record IsLockReleased (s : State) (done : List Event) (t : State) : Type 0 where
+pub record IsLockReleased (s : SessionState) (done : List Event) (t : SessionState) : Type 0 where
   pub later : List Work
   pub none : s.running ≡ None
   pub first : s.waiting ≡ ReleaseLock ∷ later
@@ -176,7 +176,7 @@ pub record IsLockReleased (s : State) (done : List Event) (t : State) : Type 0 w
 
 -- Effects advance the transmission in execution. Nothing has ended it, and its responses are framed for the message
 -- size that the client accepts.
-pub record IsWorked (s : State) (done : List Event) (t : State) : Type 0 where
+pub record IsWorked (s : SessionState) (done : List Event) (t : SessionState) : Type 0 where
   pub order : Order
   pub progress : Progress
   pub new : Progress
@@ -189,7 +189,7 @@ pub record IsWorked (s : State) (done : List Event) (t : State) : Type 0 where
   pub then : t ≡ with_output Sync (with_work s s.waiting (Some (running order new))) (s.sync ++ frames effects_done)
 
 -- the transmission in execution is over, or a device clear or a FatalError has ended it
-pub record IsEnded (s : State) (done : List Event) (t : State) : Type 0 where
+pub record IsEnded (s : SessionState) (done : List Event) (t : SessionState) : Type 0 where
   pub order : Order
   pub progress : Progress
   pub is : s.running ≡ Some (running order progress)
@@ -200,7 +200,7 @@ pub record IsEnded (s : State) (done : List Event) (t : State) : Type 0 where
 -- ---- the output
 
 -- All bytes of the output of a connection are taken. No thread wrote there, and the thread that takes them writes them.
-pub record IsTaken (side : Side) (bytes : List ℕ) (s : State) (done : List Event) (t : State) : Type 0 where
+pub record IsTaken (side : Side) (bytes : List ℕ) (s : SessionState) (done : List Event) (t : SessionState) : Type 0 where
   pub free : writes side s ≡ false
   pub all : output side s ≡ bytes
   pub some : bytes ≡ [] → ⊥
@@ -208,31 +208,31 @@ pub record IsTaken (side : Side) (bytes : List ℕ) (s : State) (done : List Eve
   pub then : t ≡ with_writes side (with_output side s []) true
 
 -- the bytes that were taken for a connection are written, by the thread that writes there
-pub record IsWritten (side : Side) (s : State) (done : List Event) (t : State) : Type 0 where
+pub record IsWritten (side : Side) (s : SessionState) (done : List Event) (t : SessionState) : Type 0 where
   pub was : writes side s ≡ true
   pub are : done ≡ Wrote side ∷ []
   pub then : t ≡ with_writes side s false
 
 -- ---- a session
 
-pub data Step (s : State) (done : List Event) (t : State) : Type 0 where
-  Receives : (now : ℕ) (side : Side) (received_bytes : List ℕ) → IsReceived now side received_bytes s done t → Step s done t
-  Notifies : IsNotified s done t → Step s done t
-  Ticks : (now : ℕ) → IsTicked now s done t → Step s done t
-  Begins : IsBegun s done t → Step s done t
-  Works : IsWorked s done t → Step s done t
-  ReleasesLock : IsLockReleased s done t → Step s done t
-  Ends : IsEnded s done t → Step s done t
-  Takes : (side : Side) (bytes : List ℕ) → IsTaken side bytes s done t → Step s done t
-  Writes : (side : Side) → IsWritten side s done t → Step s done t
+pub data SessionStep (s : SessionState) (done : List Event) (t : SessionState) : Type 0 where
+  Receives : (now : ℕ) (side : Side) (received_bytes : List ℕ) → IsReceived now side received_bytes s done t → SessionStep s done t
+  Notifies : IsNotified s done t → SessionStep s done t
+  Ticks : (now : ℕ) → IsTicked now s done t → SessionStep s done t
+  Begins : IsBegun s done t → SessionStep s done t
+  Works : IsWorked s done t → SessionStep s done t
+  ReleasesLock : IsLockReleased s done t → SessionStep s done t
+  Ends : IsEnded s done t → SessionStep s done t
+  Takes : (side : Side) (bytes : List ℕ) → IsTaken side bytes s done t → SessionStep s done t
+  Writes : (side : Side) → IsWritten side s done t → SessionStep s done t
 
 -- steps one after another
-pub data Steps (s : State) : List Event → State → Type 0 where
+pub data Steps (s : SessionState) : List Event → SessionState → Type 0 where
   Still : Steps s [] s
-  Then : {done : List Event} {t : State} → Steps s done t → (more : List Event) (u : State) → Step t more u → Steps s (done ++ more) u
+  Then : {done : List Event} {t : SessionState} → Steps s done t → (more : List Event) (u : SessionState) → SessionStep t more u → Steps s (done ++ more) u
 
 -- the events of a session since it began, and the state to which they lead
-abbrev pub IsHistory : Start → List Event → State → Type 0
+abbrev pub IsHistory : Start → List Event → SessionState → Type 0
 IsHistory start history s = Steps (fresh start) history s
 
 -- the synchronous channel has returned one message, and the asynchronous one none
@@ -240,5 +240,5 @@ abbrev pub IsOpening : Start → Type 0
 IsOpening start = ((stream : List ℕ) × (first : Received) × Fed start.sync stream (first ∷ [])) × Fed start.async [] []
 
 -- a history leads to this state
-abbrev pub IsReachable : State → Type 0
+abbrev pub IsReachable : SessionState → Type 0
 IsReachable s = (start : Start) × (history : List Event) × IsOpening start × IsHistory start history s

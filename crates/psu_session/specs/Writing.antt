@@ -4,7 +4,7 @@ use Rattle.psu_hislip.specs.declared.side.Side.{Side}
 use Rattle.psu_hislip.specs.declared.side.Side.TheVariants.{Sync, Async}
 use Rattle.psu_session.specs.Events.{Event, BytesReceived, LockGranted, ServiceRequested, LockReleased, Came, DeviceCalled, Put, Did, Took, Wrote}
 use Rattle.psu_session.specs.Step.{IsHistory}
-use Rattle.psu_session.specs.State.{Start, State, writes}
+use Rattle.psu_session.specs.State.{Start, SessionState, writes}
 
 -- the first where both connections are the same, otherwise the second
 abbrev pub on_same : Side → Side → Bool → Bool → Bool
@@ -32,9 +32,9 @@ writes_after side writing (event ∷ events) = writes_after side (writes_by side
 
 -- The state says who writes: a thread writes on a connection where the last event of the two is that bytes are taken.
 abbrev pub TheWriterIsKnown : Type 0
-TheWriterIsKnown = (start : Start) (history : List Event) (s : State) → IsHistory start history s → (side : Side) → writes side s ≡ writes_after side false history
+TheWriterIsKnown = (start : Start) (history : List Event) (s : SessionState) → IsHistory start history s → (side : Side) → writes side s ≡ writes_after side false history
 
 -- Bytes are taken only while no thread writes: between two such events of a connection the first bytes are written.
 abbrev pub EachTakeIsWritten : Type 0
-EachTakeIsWritten = (start : Start) (history : List Event) (s : State) → IsHistory start history s → (side : Side) (before between after : List Event) (first second : List ℕ)
+EachTakeIsWritten = (start : Start) (history : List Event) (s : SessionState) → IsHistory start history s → (side : Side) (before between after : List Event) (first second : List ℕ)
     → history ≡ before ++ Took side first ∷ (between ++ Took side second ∷ after) → (some : List Event) × (more : List Event) × (between ≡ some ++ Wrote side ∷ more)

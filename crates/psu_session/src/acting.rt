@@ -1,4 +1,4 @@
-// What is done immediately for an action of a message.
+//! What is done immediately for an action of a message.
 ghost use Rattle.std.specs.Prelude.{◌≡◌, ◌+◌, ◌<◌, IfErr, OnOk, OnErr, [], ◌∷◌, Some, false};
 ghost use Rattle.psu_hislip.specs.Action.{act};
 ghost use Rattle.psu_hislip.specs.Header.{header_bytes};

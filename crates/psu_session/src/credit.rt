@@ -1,23 +1,14 @@
-// How much a session holds of what it has received and not executed.
+//! How much a session holds of what it has received and not executed.
 ghost use Rattle.std.specs.Prelude.{◌≡◌, ◌+◌, ◌-◌, ◌≤◌, ◌<◌, ◌↔◌, IsTrue, IfErr, OnOk};
 ghost use Rattle.psu_session.specs.Credit.{cost};
 ghost use Rattle.psu_session.specs.declared.phase.EndCause.TheVariants.{TooMuchHeld};
 
 use crate::EndCause;
-
-/// How much may be held before a reader waits, in bytes.
-const LIMIT: usize = 1_048_576;
-
-/// The most that is ever held, in bytes. What the next 65,536 received bytes complete fits in beside the limit: at most
-/// 4,096 items, with the text of one transmission that was received before.
-const MOST: usize = 4_194_304;
-
-/// What an item counts as beside its bytes.
-const EACH: usize = 128;
+use crate::limits::{HELD_BEFORE_WAIT, HELD_MOST, ITEM_COST};
 
 /// How much is held, in bytes.
 #[derive(Drop)]
-pub struct Credit {
+pub(crate) struct Credit {
     out: usize,
     pub ghost bounded: { out ≤ 4194304 },
 }
@@ -31,10 +22,10 @@ impl Credit {
     }
 
     /// Whether a reader waits before it reads more.
-    pub fn is_over(&self) -> bool
+    pub fn is_exceeded(&self) -> bool
         ensures { IsTrue result ↔ (1048576 < self.now.out) }
     {
-        LIMIT < self.out
+        HELD_BEFORE_WAIT < self.out
     }
 
     /// Counts an item of so many bytes, if it fits.
@@ -42,8 +33,8 @@ impl Credit {
         ensures taken { OnOk result (self.new.out ≡ self.old.out + cost bytes) }
         ensures refused { IfErr result (λ cause. (cause ≡ TooMuchHeld) × (4194304 < self.old.out + cost bytes) × (self.new ≡ self.old)) }
     {
-        let size = bytes.saturating_add(EACH);
-        if size > MOST - self.out {
+        let size = bytes.saturating_add(ITEM_COST);
+        if size > HELD_MOST - self.out {
             return Err(EndCause::TooMuchHeld);
         }
         self.out += size;
@@ -54,6 +45,6 @@ impl Credit {
     pub fn give_back(&mut self, bytes: usize)
         ensures { self.new.out ≡ self.old.out - cost bytes }
     {
-        self.out = self.out.saturating_sub(bytes.saturating_add(EACH));
+        self.out = self.out.saturating_sub(bytes.saturating_add(ITEM_COST));
     }
 }

@@ -1,4 +1,4 @@
-// The execution of a transmission's units on a device. Their responses are appended to the output.
+//! The execution of a transmission's units on a device. Their responses are appended to the output.
 ghost use Rattle.std.specs.Prelude.{◌≡◌, ◌⊎◌, ◌≤◌, IfErr, IfOk, IfSome, None, OnErr, length};
 ghost use Rattle.psu_hislip.specs.Core.{IsCurrent};
 ghost use Rattle.psu_messages.specs.Executions.{IsOver};
@@ -10,15 +10,12 @@ ghost use Rattle.psu_session.specs.Shown.{one_running};
 ghost use Rattle.psu_session.specs.Stopping.{CallsAdvancing};
 ghost use Rattle.psu_session.specs.declared.phase.EndCause.TheVariants.{Memory};
 
-use crate::phase::UNITS;
+use crate::limits::{OUTPUT_ROOM, UNITS_AT_ONCE};
 use crate::{Device, EndCause, Running};
 use psu_exec::{Outcome, Request};
 use psu_hislip::{Origin, SessionCore};
-use psu_messages::{Executor, Need, Refused, Transmission};
+use psu_messages::{Executor, MemoryRefused, Need, Transmission};
 use std::alloc::Global;
-
-/// The number of bytes of output at which others are let in.
-const OUTPUT: usize = 65_536;
 
 /// The executor of a transmission: the device, and the output for its responses.
 #[derive(Drop)]
@@ -49,7 +46,7 @@ impl<'a, 'b, 'c, D: Device> Executor<Global> for Execution<'a, 'b, 'c, D> {
     } };
 
     fn may_continue(&self) -> bool {
-        self.left > self.until && self.output.len() < OUTPUT
+        self.left > self.until && self.output.len() < OUTPUT_ROOM
     }
 
     fn execute(&mut self, request: &Request<'_>) -> Result<Outcome<Global>, EndCause> {
@@ -78,7 +75,7 @@ impl<'a, 'b, 'c, D: Device> Executor<Global> for Execution<'a, 'b, 'c, D> {
         Ok(())
     }
 
-    fn out_of_memory(&self, _: Refused) -> EndCause {
+    fn out_of_memory(&self, _: MemoryRefused) -> EndCause {
         EndCause::Memory
     }
 }
@@ -133,7 +130,7 @@ pub(crate) fn advance<D: Device>(
         output: &mut *output,
         device: &mut *device,
         left: *left,
-        until: left.saturating_sub(UNITS),
+        until: left.saturating_sub(UNITS_AT_ONCE),
     };
     let advanced = execution.advance(alloc, &mut running.transmission);
     *left = execution.left;

@@ -1,4 +1,4 @@
-// The bytes of a channel.
+//! The bytes of a channel.
 ghost use Rattle.std.specs.Prelude.{◌≡◌, List, IfErr, OnOk, [], ◌++◌, map};
 ghost use Rattle.psu_hislip.specs.Stream.{received};
 ghost use Rattle.psu_session.specs.Feeding.{IsFed};

@@ -1,4 +1,4 @@
-// The lock that an AsyncLock requests.
+//! The lock that an AsyncLock requests.
 ghost use Rattle.std.specs.Prelude.{◌≡◌};
 ghost use Rattle.psu_session.specs.Locking.{kind_of};
 

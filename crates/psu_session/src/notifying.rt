@@ -1,4 +1,4 @@
-// Notifications of what other sessions cause.
+//! Notifications of what other sessions cause.
 ghost use Rattle.std.specs.Prelude.{◌≡◌, []};
 ghost use Rattle.psu_session.specs.Room.{HasReplyRoom, KeepsCapacity};
 ghost use Rattle.psu_session.specs.Step.{IsServiceRequested, IsLockGranted};

@@ -1,18 +1,16 @@
-// The numbers of messages.
+//! The numbers of messages.
 ghost use Rattle.std.specs.Prelude.{◌≡◌};
 ghost use Rattle.std.specs.List.{list_any};
 ghost use Rattle.psu_hislip.specs.Action.{act, acts};
 ghost use Rattle.psu_hislip.specs.Stream.{received};
 ghost use Rattle.psu_session.specs.Numbers.{clears, is_ahead, is_clear, number, number_on, parameter};
 
+use crate::limits::AHEAD_MOST;
 use psu_hislip::{Action, Message, MessageType, Side};
 use std::alloc::Global;
 
 /// The number before that of a client's first message (IVI-6.1: they begin at ffffff00, in steps of 2).
 pub(crate) const BEFORE_FIRST: u32 = 0xffff_fefe;
-
-/// How far ahead of the last message that was received one may be.
-const FAR: u32 = 65_536;
 
 // Returns the number of a message of the synchronous channel, if it has one. Numbers restart after a device clear.
 fn number(message: &Message<Global>) -> Option<u32>
@@ -54,7 +52,7 @@ pub(crate) fn is_ahead(last: u32, number: u32) -> bool
     ensures { result ≡ is_ahead last number }
 {
     let steps = number.wrapping_sub(last);
-    steps > 0 && steps <= FAR
+    steps > 0 && steps <= AHEAD_MOST
 }
 
 // Whether an action is a device clear.

@@ -1,4 +1,4 @@
-// The start of a session.
+//! The start of a session.
 ghost use Rattle.std.specs.Prelude.{◌≡◌, IfErr, IfOk, [], ◌∷◌};
 ghost use Rattle.psu_hislip.specs.Channel.{Awaited, Fed};
 ghost use Rattle.psu_hislip.specs.Stream.{IsStream, Received};

@@ -1,4 +1,4 @@
-// The parts of a session.
+//! The parts of a session.
 ghost use Rattle.std.specs.Prelude.{◌≡◌, []};
 ghost use Rattle.psu_hislip.specs.Channel.{Awaited, Fed};
 ghost use Rattle.psu_session.specs.Shown.{state_of};
@@ -13,7 +13,7 @@ use std::collections::VecDeque;
 
 /// The parts of a session.
 #[derive(Drop)]
-pub struct Parts {
+pub(crate) struct Parts {
     pub alloc: Global,
     /// The frame readers of the two channels.
     pub sync_channel: Channel<Global>,

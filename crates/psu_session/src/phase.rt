@@ -1,17 +1,11 @@
-// The phase of a session, and why a session is over.
+//! The phase of a session, and why a session is over.
 ghost use Rattle.std.specs.Prelude.{◌≡◌, IfOk};
 ghost use Rattle.psu_session.specs.Phases.{disconnected, phase_after, units_in, with_left};
 
 use crate::Proceeded;
+use crate::limits::{UNITS_AFTER_END, UNITS_AT_ONCE};
 use psu_messages::Need;
 use std::alloc::AllocError;
-
-/// The number of units that a call tries before others are let in.
-pub(crate) const UNITS: u32 = 64;
-
-/// How many units of what a session was sent before its end are tried after that, in all: as many as a transmission has
-/// bytes, so one without macros is executed.
-const LAST_UNITS: u32 = 65_536;
 
 /// Why a session is over.
 #[derive(Clone, Copy, Debug, PartialEq, Eq)]
@@ -52,7 +46,7 @@ impl Phase {
         ensures { result ≡ units_in self }
     {
         match self {
-            Phase::Open => UNITS,
+            Phase::Open => UNITS_AT_ONCE,
             Phase::Ending(left) => left,
             Phase::Over(_) => 0,
         }
@@ -63,7 +57,7 @@ impl Phase {
         ensures { result ≡ disconnected self }
     {
         match self {
-            Phase::Open => Phase::Ending(LAST_UNITS),
+            Phase::Open => Phase::Ending(UNITS_AFTER_END),
             Phase::Ending(_) | Phase::Over(_) => self,
         }
     }

@@ -1,4 +1,4 @@
-// The execution of what is queued.
+//! The execution of what is queued.
 ghost use Rattle.std.specs.Prelude.{◌≡◌, ◌↔◌, ◌-◌, ◌<◌, IsTrue, Some, None, IfErr, IfOk, OnErr};
 ghost use Rattle.psu_messages.specs.Executions.{beginning};
 ghost use Rattle.psu_session.specs.Credit.{cost_of};
@@ -8,16 +8,27 @@ ghost use Rattle.psu_session.specs.Serving.{PerformsStep};
 ghost use Rattle.psu_session.specs.Shown.{order_of, state_of};
 ghost use Rattle.psu_session.specs.Stopping.{StopsNext};
 ghost use Rattle.psu_session.specs.State as state;
-ghost use Rattle.psu_session.specs.State.{HasWork, State, with_held, with_work};
+ghost use Rattle.psu_session.specs.State.{HasWork, SessionState, with_held, with_work};
 ghost use Rattle.psu_session.specs.Step.{running};
 ghost use Rattle.psu_session.specs.declared.phase.EndCause.TheVariants.{Memory};
 
 use crate::execution::advance;
-use crate::next::Next;
-use crate::{Device, EndCause, Order, Parts, Proceeded, Running, Work};
+use crate::queue::NextWork;
+use crate::{Device, EndCause, Order, Parts, Running, Work};
 use psu_hislip::release_response;
-use psu_messages::{ResponseBuffer, Transmission};
+use psu_messages::{Need, ResponseBuffer, Transmission};
 use std::mem;
+
+/// The result of a call that continues the execution.
+#[derive(Clone, Copy, Debug, PartialEq, Eq)]
+pub enum Proceeded {
+    /// Nothing is to be executed.
+    Idle,
+    /// A transmission is over or was dropped, or a release is done. There may be more.
+    Completed,
+    /// The next unit waits for this need, or others are let in before it.
+    Waits(Need),
+}
 
 impl Parts {
     // Begins the execution of a transmission.
@@ -36,21 +47,21 @@ impl Parts {
 
     // Returns what is executed next. Where nothing is in execution, it is the first item of the queue, which is taken.
     #[inline(always)]
-    fn begin_next(&mut self) -> Next
+    fn begin_next(&mut self) -> NextWork
         ensures next { IsNextWork (state_of self.old) result (state_of self.new) }
         ensures room { HasReplyRoom self.old → HasReplyRoom self.new }
         ensures capacity { KeepsCapacity self.old self.new }
     {
         if self.running.is_some() {
-            return Next::Transmission;
+            return NextWork::Transmission;
         }
         match self.waiting.pop_front() {
-            None => Next::Nothing,
+            None => NextWork::Nothing,
             Some(Work::Execute(order)) => {
                 self.begin(order);
-                Next::Transmission
+                NextWork::Transmission
             }
-            Some(Work::Release) => Next::Release,
+            Some(Work::Release) => NextWork::Release,
         }
     }
 
@@ -86,8 +97,8 @@ impl Parts {
     fn execute<D: Device>(&mut self, device: &mut D, left: &mut u32) -> Result<Proceeded, EndCause>
         requires { 0 < left.old }
         ensures waits { IfOk result (λ proceeded. Awaits D.does proceeded device.new) }
-        ensures done { IfOk result (λ proceeded. (s : State) (next : state.Running) → IsNext s next (state_of self.old) → PerformsStep D.does (Counts left.old proceeded left.new) s device.old (state_of self.new) device.new) }
-        ensures stopped { OnErr result ((s : State) (next : state.Running) → IsNext s next (state_of self.old) → StopsNext D.does s device.old device.new) }
+        ensures done { IfOk result (λ proceeded. (s : SessionState) (next : state.Running) → IsNext s next (state_of self.old) → PerformsStep D.does (Counts left.old proceeded left.new) s device.old (state_of self.new) device.new) }
+        ensures stopped { OnErr result ((s : SessionState) (next : state.Running) → IsNext s next (state_of self.old) → StopsNext D.does s device.old device.new) }
         ensures cause { IfErr result (λ cause. cause ≡ Memory) }
         ensures capacity { KeepsCapacity self.old self.new }
     {
@@ -139,9 +150,9 @@ impl Parts {
         ensures capacity { KeepsCapacity self.old self.new }
     {
         match self.begin_next() {
-            Next::Nothing => Ok(Proceeded::Idle),
-            Next::Transmission => self.execute(device, left),
-            Next::Release => {
+            NextWork::Nothing => Ok(Proceeded::Idle),
+            NextWork::Transmission => self.execute(device, left),
+            NextWork::Release => {
                 self.release_lock(device);
                 Ok(Proceeded::Completed)
             }

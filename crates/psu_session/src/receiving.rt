@@ -1,4 +1,4 @@
-// The messages of a channel.
+//! The messages of a channel.
 ghost use Rattle.std.specs.Prelude.{◌≡◌, IfErr, OnOk, OnErr, flat_map};
 ghost use Rattle.psu_hislip.specs.Action.{acts};
 ghost use Rattle.psu_hislip.specs.Stream.{received};

@@ -1,4 +1,4 @@
-// Releases of locks, each after the message that its client sent last.
+//! Releases of locks, each after the message that its client sent last.
 ghost use Rattle.std.specs.Prelude.{◌≡◌, IfErr, OnOk};
 ghost use Rattle.psu_session.specs.Releasing.{due_at, is_first_due};
 ghost use Rattle.psu_session.specs.Room.{KeepsCapacity};
@@ -6,18 +6,17 @@ ghost use Rattle.psu_session.specs.Shown.{release_of, releases_of, state_of};
 ghost use Rattle.psu_session.specs.State.{is_due, settled};
 ghost use Rattle.psu_session.specs.declared.phase.EndCause.TheVariants.{Memory};
 
+use crate::limits::RELEASE_PATIENCE;
 use crate::numbers::is_ahead;
 use crate::{EndCause, Parts, Release, Work};
-
-/// The time that a release waits for a message, in milliseconds.
-const PATIENCE: u64 = 100;
 
 impl Release {
     // Whether its wait is over at a time, after the message of a number.
     fn is_due(self, all: bool, now: u64, last: u32) -> bool
         ensures { result ≡ is_due all now last (release_of self) }
     {
-        all || !is_ahead(last, self.number) || now.saturating_sub(self.requested_at) >= PATIENCE
+        all || !is_ahead(last, self.number)
+            || now.saturating_sub(self.requested_at) >= RELEASE_PATIENCE
     }
 }
 
@@ -37,7 +36,7 @@ impl Parts {
         ensures { result ≡ due_at (releases_of self.now.releases.items) }
     {
         let release = self.releases.front()?;
-        Some(release.requested_at.saturating_add(PATIENCE))
+        Some(release.requested_at.saturating_add(RELEASE_PATIENCE))
     }
 
     /// Queues the releases whose wait is over.

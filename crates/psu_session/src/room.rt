@@ -1,17 +1,12 @@
-// Room that a session has before a step, so that the step itself cannot fail.
+//! Room that a session has before a step, so that the step itself cannot fail.
 ghost use Rattle.std.specs.Prelude.{◌≡◌, ◌⊎◌, ◌↔◌, IfErr, IsTrue, OnOk, OnErr};
 ghost use Rattle.psu_session.specs.Room.{HasReplyRoom, HasRoom, KeepsCapacity};
 ghost use Rattle.psu_session.specs.Shown.{state_of};
 ghost use Rattle.psu_session.specs.declared.phase.EndCause.TheVariants.{Memory};
 ghost use Rattle.psu_session.specs.declared.phase.Phase.TheVariants.{Over};
 
+use crate::limits::{REPLIES_ROOM, REPLY_SIZE};
 use crate::{EndCause, Parts, Phase};
-
-/// The size of a message without payload, in bytes.
-const FRAME: usize = 16;
-
-/// How much room for such messages is allocated at once, in bytes.
-const FRAMES: usize = 64;
 
 impl Parts {
     // Whether there is room for a reply.
@@ -20,7 +15,7 @@ impl Parts {
         ensures { IsTrue result ↔ HasReplyRoom self.now }
     {
         let output = &self.async_output;
-        FRAME <= output.capacity().saturating_sub(output.len())
+        REPLY_SIZE <= output.capacity().saturating_sub(output.len())
     }
 
     // Whether there is room for a reply, a transmission and a release.
@@ -40,7 +35,7 @@ impl Parts {
         ensures cause { IfErr result (λ cause. cause ≡ Memory) }
         ensures capacity { KeepsCapacity self.old self.new }
     {
-        self.async_output.reserve(FRAMES)?;
+        self.async_output.reserve(REPLIES_ROOM)?;
         self.waiting.reserve(1)?;
         self.releases.reserve(1)?;
         Ok(())
@@ -55,7 +50,7 @@ impl Parts {
         ensures needed { OnErr result (HasReplyRoom self.old → ⊥) }
     {
         if !self.has_reply_room() {
-            self.async_output.reserve(FRAMES)?;
+            self.async_output.reserve(REPLIES_ROOM)?;
         }
         Ok(())
     }

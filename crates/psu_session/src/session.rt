@@ -1,4 +1,4 @@
-// A session.
+//! A session.
 ghost use Rattle.std.specs.Prelude.{◌≡◌, ◌⊎◌, ◌↔◌, ◌+◌, IsTrue, true, false, [], ◌∷◌, IfErr, IfOk, OnOk, OnErr, IfSome, IsNone};
 ghost use Rattle.psu_hislip.specs.Channel.{Fed};
 ghost use Rattle.psu_hislip.specs.Frame.{header_of};
@@ -7,13 +7,13 @@ ghost use Rattle.psu_hislip.specs.declared.message_type.MessageType.TheVariants.
 ghost use Rattle.psu_session.specs.Events.{Took, Wrote};
 ghost use Rattle.psu_session.specs.History.{HasExchangeHistory};
 ghost use Rattle.psu_session.specs.Holding.{IsBounded, IsFull};
-ghost use Rattle.psu_session.specs.Phases.{disconnected, is_over};
+ghost use Rattle.psu_session.specs.Phases.{disconnected, phase_ended};
 ghost use Rattle.psu_session.specs.Releasing.{due_at};
 ghost use Rattle.psu_session.specs.Step.{IsServiceRequested, IsReceived, IsTaken, IsTicked, IsLockGranted, IsWritten};
 ghost use Rattle.psu_session.specs.Proceeding.{Awaits, PassesTo};
 ghost use Rattle.psu_session.specs.Serving.{Appends, PerformsStep};
 ghost use Rattle.psu_session.specs.Stopping.{StopsNext, StopsReceiving};
-ghost use Rattle.psu_session.specs.State.{Continues, HasWork, Start, fresh, output, writes};
+ghost use Rattle.psu_session.specs.State.{KeepsPhase, HasWork, Start, fresh, output, writes};
 ghost use Rattle.psu_session.specs.declared.opening.OpeningError.TheVariants.{NotOneMessage};
 ghost use Rattle.psu_session.specs.declared.phase.EndCause.TheVariants.{Memory};
 ghost use Rattle.psu_session.specs.declared.phase.Phase.TheVariants.{Open, Over};
@@ -35,31 +35,31 @@ use std::marker::Model;
 /// leaves the session over only where it has changed the output of the asynchronous connection and memory for the next
 /// reply is refused.
 #[derive(Drop)]
-pub struct Session {
+pub struct HislipSession {
     parts: Parts,
     phase: Phase,
 }
 
-impl Model for Session {
+impl Model for HislipSession {
     ghost use Rattle.std.specs.Prelude.{◌≡◌, ◌<◌, false};
     ghost use Rattle.psu_session.specs.State.{Shown};
 
     ghost Value = { Shown };
 
-    ghost use Rattle.psu_session.specs.Phases.{is_over, units_in};
+    ghost use Rattle.psu_session.specs.Phases.{phase_ended, units_in};
     ghost use Rattle.psu_session.specs.Room.{HasReplyRoom};
     ghost use Rattle.psu_session.specs.Step.{IsReachable};
     ghost use Rattle.psu_session.specs.Shown.{state_of};
 
     ghost view = { λ s. record { phase = s.phase; state = state_of s.parts } };
 
-    ghost invariant = { λ s. is_over s.phase ≡ false → IsReachable (state_of s.parts) × HasReplyRoom s.parts × (0 < units_in s.phase) };
+    ghost invariant = { λ s. phase_ended s.phase ≡ false → IsReachable (state_of s.parts) × HasReplyRoom s.parts × (0 < units_in s.phase) };
 }
 
-impl Session {
+impl HislipSession {
     /// Returns a session of this number, which has only its synchronous connection. The bytes received there are one
     /// message, its Initialize; other bytes are refused.
-    pub fn open(alloc: Global, session: u16, opening: &[u8]) -> Result<Session, OpeningError>
+    pub fn open(alloc: Global, session: u16, opening: &[u8]) -> Result<HislipSession, OpeningError>
         ensures opened { IfOk result (λ opened. (start : Start) × (first : Received) × Fed start.sync opening.now (first ∷ []) × Fed start.async [] [] × (start.session ≡ session)
             × (opened ≡ record { phase = Open; state = fresh start })) }
         ensures refused { IfErr result (λ error. error ≡ NotOneMessage → (first : Received) → IsStream opening.now (first ∷ []) → ⊥) }
@@ -69,7 +69,7 @@ impl Session {
         if parts.make_reply_room().is_err() {
             return Err(OpeningError::Memory);
         }
-        Ok(Session {
+        Ok(HislipSession {
             parts,
             phase: Phase::Open,
         })
@@ -79,7 +79,7 @@ impl Session {
     /// streams of bytes.
     pub fn phase(&self) -> Phase
         ensures is { result ≡ self.now.phase }
-        ensures history { is_over self.now.phase ≡ false → HasExchangeHistory self.now.state }
+        ensures history { phase_ended self.now.phase ≡ false → HasExchangeHistory self.now.state }
     {
         histories_are_exchanges();
         self.phase
@@ -108,12 +108,12 @@ impl Session {
         received_bytes: &[u8],
         device: &mut D,
     ) -> Result<(), EndCause>
-        ensures was { OnOk result (is_over self.old.phase ≡ false) }
+        ensures was { OnOk result (phase_ended self.old.phase ≡ false) }
         ensures done { OnOk result (PerformsStep D.does (IsReceived now side received_bytes.now) self.old.state device.old self.new.state device.new) }
-        ensures continues { OnOk result (Continues self.old self.new) }
+        ensures continues { OnOk result (KeepsPhase self.old self.new) }
         ensures ended { IfErr result (λ cause. self.new.phase ≡ Over cause) }
-        ensures stopped { IfErr result (λ cause. is_over self.old.phase ≡ false → StopsReceiving D.does now side received_bytes.now cause self.old.state device.old device.new) }
-        ensures over { is_over self.old.phase ≡ true → (self.new ≡ self.old) × (device.new ≡ device.old) }
+        ensures stopped { IfErr result (λ cause. phase_ended self.old.phase ≡ false → StopsReceiving D.does now side received_bytes.now cause self.old.state device.old device.new) }
+        ensures over { phase_ended self.old.phase ≡ true → (self.new ≡ self.old) × (device.new ≡ device.old) }
     {
         if let Phase::Over(cause) = self.phase {
             return Err(cause);
@@ -125,9 +125,9 @@ impl Session {
 
     /// Answers the lock request that waits, if there is one, with its result. Where the session is over, nothing is done.
     pub fn lock_granted<D: Device>(&mut self, grant: Grant, device: &mut D)
-        ensures done { is_over self.old.phase ≡ false → Appends D.does (IsLockGranted self.old.state.lock_waits grant) [] [] self.old.state device.old self.new.state device.new }
-        ensures continues { is_over self.old.phase ≡ false → Continues self.old self.new }
-        ensures over { is_over self.old.phase ≡ true → self.new ≡ self.old }
+        ensures done { phase_ended self.old.phase ≡ false → Appends D.does (IsLockGranted self.old.state.lock_waits grant) [] [] self.old.state device.old self.new.state device.new }
+        ensures continues { phase_ended self.old.phase ≡ false → KeepsPhase self.old self.new }
+        ensures over { phase_ended self.old.phase ≡ true → self.new ≡ self.old }
         ensures uncalled { device.new ≡ device.old }
     {
         if let Phase::Over(_) = self.phase {
@@ -139,9 +139,9 @@ impl Session {
 
     /// Sends the session's service request, if the device has one. Where the session is over, nothing is done.
     pub fn service_requested<D: Device>(&mut self, device: &mut D)
-        ensures done { is_over self.old.phase ≡ false → Appends D.does IsServiceRequested [] [] self.old.state device.old self.new.state device.new }
-        ensures continues { is_over self.old.phase ≡ false → Continues self.old self.new }
-        ensures over { is_over self.old.phase ≡ true → (self.new ≡ self.old) × (device.new ≡ device.old) }
+        ensures done { phase_ended self.old.phase ≡ false → Appends D.does IsServiceRequested [] [] self.old.state device.old self.new.state device.new }
+        ensures continues { phase_ended self.old.phase ≡ false → KeepsPhase self.old self.new }
+        ensures over { phase_ended self.old.phase ≡ true → (self.new ≡ self.old) × (device.new ≡ device.old) }
     {
         if let Phase::Over(_) = self.phase {
             return;
@@ -155,12 +155,12 @@ impl Session {
     /// first in the queue is done. After the end of a connection at most so many units are tried as the phase says, in
     /// all calls together, and the session is over once they are tried, or where a unit has to wait.
     pub fn proceed<D: Device>(&mut self, device: &mut D) -> Result<Proceeded, EndCause>
-        ensures was { OnOk result (is_over self.old.phase ≡ false) }
+        ensures was { OnOk result (phase_ended self.old.phase ≡ false) }
         ensures waits { IfOk result (λ proceeded. Awaits D.does proceeded device.new) }
         ensures done { IfOk result (λ proceeded. PerformsStep D.does (PassesTo self.old.phase proceeded self.new.phase) self.old.state device.old self.new.state device.new) }
         ensures ended { IfErr result (λ cause. self.new.phase ≡ Over cause) }
-        ensures stopped { IfErr result (λ cause. is_over self.old.phase ≡ false → (cause ≡ Memory) × StopsNext D.does self.old.state device.old device.new) }
-        ensures over { is_over self.old.phase ≡ true → (self.new ≡ self.old) × (device.new ≡ device.old) }
+        ensures stopped { IfErr result (λ cause. phase_ended self.old.phase ≡ false → (cause ≡ Memory) × StopsNext D.does self.old.state device.old device.new) }
+        ensures over { phase_ended self.old.phase ≡ true → (self.new ≡ self.old) × (device.new ≡ device.old) }
     {
         if let Phase::Over(cause) = self.phase {
             return Err(cause);
@@ -174,12 +174,12 @@ impl Session {
 
     /// Queues the releases that have waited long enough at this time in milliseconds.
     pub fn tick(&mut self, now: u64) -> Result<(), EndCause>
-        ensures was { OnOk result (is_over self.old.phase ≡ false) }
+        ensures was { OnOk result (phase_ended self.old.phase ≡ false) }
         ensures done { OnOk result (IsTicked now self.old.state [] self.new.state) }
         ensures continues { OnOk result (self.new.phase ≡ self.old.phase) }
         ensures ended { IfErr result (λ cause. self.new.phase ≡ Over cause) }
-        ensures stopped { IfErr result (λ cause. is_over self.old.phase ≡ false → cause ≡ Memory) }
-        ensures over { is_over self.old.phase ≡ true → self.new ≡ self.old }
+        ensures stopped { IfErr result (λ cause. phase_ended self.old.phase ≡ false → cause ≡ Memory) }
+        ensures over { phase_ended self.old.phase ≡ true → self.new ≡ self.old }
     {
         if let Phase::Over(cause) = self.phase {
             return Err(cause);
@@ -245,10 +245,10 @@ impl Session {
     /// Takes all bytes that are to be sent on a connection, for the caller to write. There are none where a thread
     /// still writes there, until `written` is called, or where nothing is to be sent.
     pub fn take_output(&mut self, side: Side) -> Result<Option<Vec<u8>>, EndCause>
-        ensures was { OnOk result (is_over self.old.phase ≡ false) }
+        ensures was { OnOk result (phase_ended self.old.phase ≡ false) }
         ensures some { IfOk result (λ taken. IfSome taken (λ bytes. IsTaken side bytes.items self.old.state (Took side bytes.items ∷ []) self.new.state)) }
         ensures none { IfOk result (λ taken. IsNone taken → (self.new.state ≡ self.old.state) × ((writes side self.old.state ≡ true) ⊎ (output side self.old.state ≡ []))) }
-        ensures continues { OnOk result (Continues self.old self.new) }
+        ensures continues { OnOk result (KeepsPhase self.old self.new) }
         ensures ended { IfErr result (λ cause. (self.old.phase ≡ Over cause) × (self.new ≡ self.old)) }
     {
         if let Phase::Over(cause) = self.phase {
@@ -262,9 +262,9 @@ impl Session {
     /// The bytes that were taken for a connection are written. Where no thread writes there, or the session is over,
     /// nothing changes.
     pub fn written(&mut self, side: Side)
-        ensures done { is_over self.old.phase ≡ false → writes side self.old.state ≡ true → IsWritten side self.old.state (Wrote side ∷ []) self.new.state }
+        ensures done { phase_ended self.old.phase ≡ false → writes side self.old.state ≡ true → IsWritten side self.old.state (Wrote side ∷ []) self.new.state }
         ensures none { writes side self.old.state ≡ false → self.new ≡ self.old }
-        ensures over { is_over self.old.phase ≡ true → self.new ≡ self.old }
+        ensures over { phase_ended self.old.phase ≡ true → self.new ≡ self.old }
         ensures phase { self.new.phase ≡ self.old.phase }
     {
         if let Phase::Over(_) = self.phase {

@@ -1,4 +1,4 @@
-// The output, and who writes it.
+//! The output, and who writes it.
 ghost use Rattle.std.specs.Prelude.{◌≡◌, ◌⊎◌, ◌↔◌, true, false, [], ◌∷◌, IfSome, IsNone};
 ghost use Rattle.psu_session.specs.Events.{Took, Wrote};
 ghost use Rattle.psu_hislip.specs.declared.side.Side.TheVariants.{Sync, Async};

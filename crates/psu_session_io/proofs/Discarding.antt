@@ -3,10 +3,10 @@ use Rattle.std.proofs.Common.{◌≡◌, ◌⊎◌, ◌∙◌, inl, inr, ℕ, Bo
 use Rattle.std.specs.Prelude.{IfSome, IsNone}
 use Rattle.psu_hislip.specs.declared.side.Side.{Side}
 use Rattle.psu_session.specs.Events.{Call, Took, Wrote, calls}
-use Rattle.psu_session.specs.Phases.{is_over}
-use Rattle.psu_session.specs.State.{Continues, Shown, State, writes}
+use Rattle.psu_session.specs.Phases.{phase_ended}
+use Rattle.psu_session.specs.State.{KeepsPhase, Shown, SessionState, writes}
 use Rattle.psu_session.specs.Step.{IsTaken, IsWritten, Steps}
-use Rattle.psu_session.specs.Step.Step.{Takes, Writes}
+use Rattle.psu_session.specs.Step.SessionStep.{Takes, Writes}
 use Rattle.psu_session.specs.Step.Steps.{Still, Then}
 use Rattle.psu_session.specs.declared.phase.EndCause.{EndCause}
 use Rattle.psu_session.specs.declared.phase.EndCause.TheVariants.{Memory}
@@ -22,7 +22,7 @@ abbrev pub to : Shared → Shown → Shared
 to s shown = with_value s shown.phase shown.state
 
 same_discards : (s : Shared) (shown : Shown) → shown.state ≡ s.state → shown.phase ≡ s.phase → Discards s (to s shown)
-same_discards s shown state phase = record { done = []; steps = subst (λ (z : State). Steps s.state [] z) (sym state) Still; uncalled = refl; phase = inl phase; rest = refl }
+same_discards s shown state phase = record { done = []; steps = subst (λ (z : SessionState). Steps s.state [] z) (sym state) Still; uncalled = refl; phase = inl phase; rest = refl }
 
 -- ---- a write ends
 
@@ -32,24 +32,24 @@ write_ends_if side s shown true writing done none over phase = same_discards s s
 write_ends_if side s shown false false done none over phase = same_discards s shown (none refl) phase
 write_ends_if side s shown false true done none over phase = record { done = Wrote side ∷ []; steps = Then Still (Wrote side ∷ []) shown.state (Writes side (done refl refl)); uncalled = refl; phase = inl phase; rest = refl }
 
-pub write_ends : (side : Side) (s : Shared) (old shown : Shown) → old ≡ record { phase = s.phase; state = s.state } → (is_over old.phase ≡ false → writes side old.state ≡ true → IsWritten side old.state (Wrote side ∷ []) shown.state)
-    → (writes side old.state ≡ false → shown ≡ old) → (is_over old.phase ≡ true → shown ≡ old) → shown.phase ≡ old.phase → Discards s (to s shown)
+pub write_ends : (side : Side) (s : Shared) (old shown : Shown) → old ≡ record { phase = s.phase; state = s.state } → (phase_ended old.phase ≡ false → writes side old.state ≡ true → IsWritten side old.state (Wrote side ∷ []) shown.state)
+    → (writes side old.state ≡ false → shown ≡ old) → (phase_ended old.phase ≡ true → shown ≡ old) → shown.phase ≡ old.phase → Discards s (to s shown)
 write_ends side s old shown is done none over phase =
-    write_ends_if side s shown (is_over s.phase) (writes side s.state)
-    (subst (λ (z : Shown). is_over z.phase ≡ false → writes side z.state ≡ true → IsWritten side z.state (Wrote side ∷ []) shown.state) is done)
+    write_ends_if side s shown (phase_ended s.phase) (writes side s.state)
+    (subst (λ (z : Shown). phase_ended z.phase ≡ false → writes side z.state ≡ true → IsWritten side z.state (Wrote side ∷ []) shown.state) is done)
     (λ e. ap (λ (z : Shown). z.state) (subst (λ (z : Shown). writes side z.state ≡ false → shown ≡ z) is none e))
-    (λ e. ap (λ (z : Shown). z.state) (subst (λ (z : Shown). is_over z.phase ≡ true → shown ≡ z) is over e))
+    (λ e. ap (λ (z : Shown). z.state) (subst (λ (z : Shown). phase_ended z.phase ≡ true → shown ≡ z) is over e))
     (subst (λ (z : Shown). shown.phase ≡ z.phase) is phase)
 
 -- ---- output is taken, and dropped
 
-kept_or_over : (s : Shared) (shown : Shown) → Continues (record { phase = s.phase; state = s.state }) shown → (shown.phase ≡ s.phase) ⊎ (shown.phase ≡ Over Memory)
+kept_or_over : (s : Shared) (shown : Shown) → KeepsPhase (record { phase = s.phase; state = s.state }) shown → (shown.phase ≡ s.phase) ⊎ (shown.phase ≡ Over Memory)
 kept_or_over s shown (inl kept) = inl kept
 kept_or_over s shown (inr refused) = inr refused.0
 
 pub output_dropped : {B : Type 0} (Q : Type 0) (C : EndCause → Type 0) (items : B → List ℕ) (side : Side) (s : Shared) (shown : Shown) (taken : Result (Option B) EndCause)
     → IfOk taken (λ (some : Option B). IfSome some (λ (bytes : B). IsTaken side (items bytes) s.state (Took side (items bytes) ∷ []) shown.state))
-    → IfOk taken (λ (some : Option B). IsNone some → (shown.state ≡ s.state) × Q) → OnOk taken (Continues (record { phase = s.phase; state = s.state }) shown)
+    → IfOk taken (λ (some : Option B). IsNone some → (shown.state ≡ s.state) × Q) → OnOk taken (KeepsPhase (record { phase = s.phase; state = s.state }) shown)
     → IfErr taken (λ (cause : EndCause). C cause × (shown ≡ record { phase = s.phase; state = s.state })) → Discards s (to s shown)
 output_dropped Q C items side s shown (Ok (Some bytes)) some none continues failed = record {
   done = Took side (items bytes) ∷ [];
@@ -60,7 +60,7 @@ output_dropped Q C items side s shown (Ok (Some bytes)) some none continues fail
 }
 output_dropped Q C items side s shown (Ok None) some none continues failed = record {
   done = [];
-  steps = subst (λ (z : State). Steps s.state [] z) (sym (none refl).0) Still;
+  steps = subst (λ (z : SessionState). Steps s.state [] z) (sym (none refl).0) Still;
   uncalled = refl;
   phase = kept_or_over s shown continues;
   rest = refl;

@@ -8,8 +8,8 @@ use Rattle.psu_session.specs.Stopping.{StopsNext}
 use Rattle.psu_session.specs.declared.phase.EndCause.TheVariants.{Memory}
 use Rattle.psu_session.specs.declared.phase.Phase.{Phase}
 use Rattle.psu_session.specs.declared.phase.Phase.TheVariants.{Open, Ending, Over}
-use Rattle.psu_session.specs.declared.proceeded.Proceeded.{Proceeded}
-use Rattle.psu_session.specs.declared.proceeded.Proceeded.TheVariants.{Idle}
+use Rattle.psu_session.specs.declared.proceeding.Proceeded.{Proceeded}
+use Rattle.psu_session.specs.declared.proceeding.Proceeded.TheVariants.{Idle}
 use Rattle.psu_session_io.specs.declared.ending.Drained.{Drained}
 use Rattle.psu_session_io.specs.declared.ending.Drained.TheVariants.{More, AllDone}
 use Rattle.psu_session_io.specs.Shared.{Shared, with_value}

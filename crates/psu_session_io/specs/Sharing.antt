@@ -2,23 +2,23 @@
 use Rattle.std.specs.Prelude.{◌≡◌, ◌⊎◌, ◌↔◌, ◌&&◌, not, IsTrue, ℕ, Bool, true, false, Option, Some, None, List, []}
 use Rattle.psu_hislip.specs.declared.side.Side.{Side}
 use Rattle.psu_hislip.specs.declared.side.Side.TheVariants.{Sync, Async}
-use Rattle.psu_locks.specs.declared.grant.Grant.{Grant}
-use Rattle.psu_locks.specs.declared.grant.Grant.TheVariants as grant
+use Rattle.psu_locks.specs.declared.results.Grant.{Grant}
+use Rattle.psu_locks.specs.declared.results.Grant.TheVariants as grant
 use Rattle.psu_messages.specs.declared.need.Need.{Need}
 use Rattle.psu_messages.specs.declared.need.Need.TheVariants.{Flush, Lock, Room, Turn}
 use Rattle.psu_session.specs.Events.{Call}
-use Rattle.psu_session.specs.Phases.{is_over}
+use Rattle.psu_session.specs.Phases.{phase_ended}
 use Rattle.psu_session.specs.Proceeding.{Proceeds}
 use Rattle.psu_session.specs.Serving.{Appends, PerformsStep}
-use Rattle.psu_session.specs.State.{State, HasWork, writes}
+use Rattle.psu_session.specs.State.{SessionState, HasWork, writes}
 use Rattle.psu_session.specs.Holding.{IsFull}
 use Rattle.psu_session.specs.Stopping.{StopsNext, StopsReceiving}
 use Rattle.psu_session.specs.Step.{IsLockGranted, IsReceived, IsServiceRequested, IsTicked}
 use Rattle.psu_session.specs.declared.phase.EndCause.{EndCause}
 use Rattle.psu_session.specs.declared.phase.EndCause.TheVariants.{Memory}
 use Rattle.psu_session.specs.declared.phase.Phase.TheVariants.{Open, Over}
-use Rattle.psu_session.specs.declared.proceeded.Proceeded.{Proceeded}
-use Rattle.psu_session.specs.declared.proceeded.Proceeded.TheVariants.{Idle, Completed, Waits}
+use Rattle.psu_session.specs.declared.proceeding.Proceeded.{Proceeded}
+use Rattle.psu_session.specs.declared.proceeding.Proceeded.TheVariants.{Idle, Completed, Waits}
 use Rattle.psu_session_io.specs.declared.ending.Drained.TheVariants.{More, AllDone}
 use Rattle.psu_session_io.specs.declared.notice.Notice.{Notice}
 use Rattle.psu_session_io.specs.declared.notice.Notice.TheVariants as notice
@@ -38,9 +38,9 @@ MayRequestService does false s x t y = (t ≡ s) × (y ≡ x)
 
 -- these bytes have joined the asynchronous connection to the session, which is not over
 abbrev pub has_joined : Bool → Shared → Bool
-has_joined was s = not was && s.state.core.joined && not (is_over s.phase)
+has_joined was s = not was && s.state.core.joined && not (phase_ended s.phase)
 
--- The bytes are received. Where they join the asynchronous connection, a service request of before is sent behind them.
+-- The bytes are received. Where they join the asynchronous connection, a service request of before is sent after them.
 pub record ReceivesAll {X : Type 0} (does : X → Call → X → Type 0) (now : ℕ) (side : Side) (bytes : List ℕ) (s : Shared) (x : X) (t : Shared) (y : X) : Type 0 where
   pub room : IsFull side s.state → ⊥
   pub mid : Shared
@@ -61,7 +61,7 @@ Receives does now side bytes (Again returned) s x t y = IsFull side s.state × (
 -- also once what need not wait was executed.
 abbrev pub EndsReceiving : {X : Type 0} → (X → Call → X → Type 0) → ℕ → Side → List ℕ → Shared → X → Shared → X → Type 0
 EndsReceiving does now side bytes s x t y =
-    ((is_over s.phase ≡ true) × (t ≡ s) × (y ≡ x))
+    ((phase_ended s.phase ≡ true) × (t ≡ s) × (y ≡ x))
     ⊎ ((IsFull side s.state → ⊥) × (cause : EndCause) × StopsReceiving does now side bytes cause s.state x y × (t ≡ with_value s (Over cause) t.state))
     ⊎ (IsFull side s.state × IsEnding s.phase × (side ≡ Async) × (t ≡ s) × (y ≡ x))
     ⊎ (IsFull side s.state × IsEnding s.phase × (side ≡ Sync) × Drains does AllDone s x t y)
@@ -70,7 +70,7 @@ EndsReceiving does now side bytes s x t y =
 
 -- Whether a thread executes more at once. Where others are let in, it leaves that to the thread that writes, if there is
 -- one.
-abbrev pub HasMore : Proceeded → State → Type 0
+abbrev pub HasMore : Proceeded → SessionState → Type 0
 HasMore Idle s = ⊥
 HasMore Completed s = HasWork s
 HasMore (Waits Flush) s = ⊥
@@ -88,13 +88,13 @@ waits_for (Waits Room) = Some Room
 waits_for (Waits Turn) = None
 
 -- the execution is continued
-abbrev pub Continues : {X : Type 0} → (X → Call → X → Type 0) → Proceeded → Shared → X → Shared → X → Type 0
-Continues does proceeded s x t y = PerformsStep does (Proceeds proceeded) s.state x t.state y × Keeps s t × (t ≡ record s { phase = t.phase; state = t.state; waits = waits_for proceeded })
+abbrev pub ContinuesExecution : {X : Type 0} → (X → Call → X → Type 0) → Proceeded → Shared → X → Shared → X → Type 0
+ContinuesExecution does proceeded s x t y = PerformsStep does (Proceeds proceeded) s.state x t.state y × Keeps s t × (t ≡ record s { phase = t.phase; state = t.state; waits = waits_for proceeded })
 
 -- The execution is continued, unless a unit waits and is not to be tried again.
 abbrev pub MayContinue : {X : Type 0} → (X → Call → X → Type 0) → Bool → Proceeded → Option Need → Shared → X → Shared → X → Type 0
-MayContinue does again proceeded None s x t y = Continues does proceeded s x t y
-MayContinue does true proceeded (Some need) s x t y = Continues does proceeded s x t y
+MayContinue does again proceeded None s x t y = ContinuesExecution does proceeded s x t y
+MayContinue does true proceeded (Some need) s x t y = ContinuesExecution does proceeded s x t y
 MayContinue does false proceeded (Some need) s x t y = (t ≡ s) × (y ≡ x) × (proceeded ≡ Idle)
 
 -- The execution is continued, and what is to be written on the synchronous connection is taken. Meanwhile writes of other

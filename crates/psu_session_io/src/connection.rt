@@ -1,11 +1,12 @@
-// A connection of a session: what is read from it and written on it.
+//! A connection of a session: what is read from it and written on it.
 ghost use Rattle.std.specs.Prelude.{◌≡◌, ◌≢◌, ◌≤◌, ◌↔◌, ◌++◌, ℕ, IfOk, IsTrue, [], length, take};
 ghost use Rattle.psu_session_io.specs.Reading.{IsFirstOf};
 ghost use Rattle.psu_session_io.specs.declared.link.ReadResult.TheVariants.{Bytes};
 
 use crate::Token;
-use crate::linear::{BytesRead, Disconnected, Duty, Outgoing, Written};
+use crate::linear::{BytesRead, Disconnected, Outgoing, Written};
 use crate::link::{Link, ReadResult};
+use psu_exec::CannotDrop;
 use std::marker::{Model, PhantomData};
 use std::sync::Arc;
 
@@ -95,12 +96,12 @@ impl<S> Connection<S> {
         match self.read_next(space) {
             ReadResult::Bytes(count) => Incoming::Bytes(BytesRead {
                 bytes: &space[..count],
-                duty: Duty::begin(),
+                duty: CannotDrop::begin(),
                 side: PhantomData,
             }),
             ReadResult::Nothing => Incoming::Nothing,
             ReadResult::End => Incoming::End(Disconnected {
-                duty: Duty::begin(),
+                duty: CannotDrop::begin(),
             }),
         }
     }
@@ -109,7 +110,7 @@ impl<S> Connection<S> {
     pub fn end(&self) -> Disconnected {
         self.link.shut();
         Disconnected {
-            duty: Duty::begin(),
+            duty: CannotDrop::begin(),
         }
     }
 

@@ -1,4 +1,4 @@
-// A session after the end of a connection: what it was sent before is received and executed.
+//! A session after the end of a connection: what it was sent before is received and executed.
 ghost use Rattle.std.specs.Prelude.{◌≡◌, ◌↔◌, IsTrue, IfOk, OnErr};
 ghost use Rattle.psu_session.specs.Holding.{IsFull};
 ghost use Rattle.psu_session.specs.declared.phase.Phase.TheVariants.{Open};

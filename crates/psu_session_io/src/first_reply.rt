@@ -1,4 +1,4 @@
-// The first message that is sent on a connection.
+//! The first message that is sent on a connection.
 ghost use Rattle.std.specs.Prelude.{◌≡◌, ◌+◌};
 ghost use Rattle.psu_hislip.specs.Faults.{fatal_code};
 ghost use Rattle.psu_hislip.specs.Frame.{header_of};
@@ -6,7 +6,7 @@ ghost use Rattle.psu_hislip.specs.Header.{header_bytes};
 ghost use Rattle.psu_hislip.specs.declared.message_type.MessageType.TheVariants.{FatalError, InitializeResponse};
 
 use psu_hislip::{FatalCode, Header, MessageType};
-use psu_session::Session;
+use psu_session::HislipSession;
 
 /// The first message that is sent on a connection: a session's response to its Initialize, or the FatalError by which
 /// what a client has sent first is refused (IVI-6.1, 3.1 and 6.1). All else that is sent is a session's output.
@@ -17,7 +17,7 @@ pub struct FirstReply {
 
 impl FirstReply {
     /// Returns the response to the Initialize of a session.
-    pub fn initialized(session: &Session) -> FirstReply
+    pub fn initialized(session: &HislipSession) -> FirstReply
         ensures { result.bytes ≡ header_bytes (header_of InitializeResponse 0 (16777216 + session.now.state.core.session) 0) }
     {
         FirstReply {

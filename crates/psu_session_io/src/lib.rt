@@ -28,7 +28,7 @@ pub use connection::{Connection, Incoming};
 pub use ending::Drained;
 pub use first_reply::FirstReply;
 pub use linear::{
-    Arrived, BytesRead, Closed, Closing, Disconnected, Next, Outgoing, Pending, Received,
+    Arrived, BytesRead, Closed, Closing, Disconnected, NextTask, Outgoing, Pending, Received,
     Remainder, Written,
 };
 pub use link::{Link, ReadResult};

@@ -1,4 +1,4 @@
-// A channel of notices to one thread.
+//! A channel of notices to one thread.
 use crate::Notice;
 use crossbeam_channel::{Receiver, RecvTimeoutError, Sender, bounded};
 use std::alloc::{AllocError, Global};

@@ -1,26 +1,12 @@
-// What must not be forgotten. These types have no `Drop`, but for `Closed`; `AfterWrite` is only a part of some of them.
+//! What must not be forgotten. These types have no `Drop`, but for `Closed`; `AfterWrite` is only a part of some of them.
 use crate::Notice;
+use psu_exec::CannotDrop;
 use std::marker::PhantomData;
-
-/// A part of each value that must not be forgotten. It can't be dropped, and only this crate makes and ends it.
-pub(crate) struct Duty(());
-
-impl Duty {
-    /// Begins a duty.
-    pub(crate) fn begin() -> Duty {
-        Duty(())
-    }
-
-    /// Ends a duty that is done.
-    pub(crate) fn end(self) {
-        let Duty(()) = self;
-    }
-}
 
 /// Bytes that were read from a connection. The session must receive them.
 pub struct BytesRead<'a, S> {
     pub(crate) bytes: &'a [u8],
-    pub(crate) duty: Duty,
+    pub(crate) duty: CannotDrop,
     pub(crate) side: PhantomData<S>,
 }
 
@@ -39,7 +25,7 @@ pub enum Received<'a, S> {
 pub struct Pending<S> {
     // Whether a unit that waits is tried again.
     pub(crate) again: bool,
-    pub(crate) duty: Duty,
+    pub(crate) duty: CannotDrop,
     pub(crate) side: PhantomData<S>,
 }
 
@@ -60,12 +46,12 @@ pub struct Remainder<S> {
     pub(crate) async_room: bool,
     /// When the first release that waits is due, in milliseconds.
     pub(crate) due: Option<u64>,
-    pub(crate) duty: Duty,
+    pub(crate) duty: CannotDrop,
     pub(crate) side: PhantomData<S>,
 }
 
 /// What a thread does once the others are notified.
-pub enum Next<S> {
+pub enum NextTask<S> {
     /// It writes these bytes.
     Write(Outgoing<S>),
     /// It continues the session.
@@ -89,32 +75,32 @@ pub(crate) struct AfterWrite {
 pub struct Outgoing<S> {
     pub(crate) bytes: Vec<u8>,
     pub(crate) after: AfterWrite,
-    pub(crate) duty: Duty,
+    pub(crate) duty: CannotDrop,
     pub(crate) side: PhantomData<S>,
 }
 
 /// Bytes that are written. The session's lock must be notified.
 pub struct Written<S> {
     pub(crate) after: AfterWrite,
-    pub(crate) duty: Duty,
+    pub(crate) duty: CannotDrop,
     pub(crate) side: PhantomData<S>,
 }
 
 /// A notice that arrived. The session must be notified.
 pub struct Arrived<S> {
     pub(crate) notice: Notice,
-    pub(crate) duty: Duty,
+    pub(crate) duty: CannotDrop,
     pub(crate) side: PhantomData<S>,
 }
 
 /// A connection has ended, or is to end. The session must be notified.
 pub struct Disconnected {
-    pub(crate) duty: Duty,
+    pub(crate) duty: CannotDrop,
 }
 
 /// The session is not open any more. Its connections must be shut, and its threads notified.
 pub struct Closing {
-    pub(crate) duty: Duty,
+    pub(crate) duty: CannotDrop,
 }
 
 /// The session is not open, its connections are shut and its threads notified. Only with this value a thread may end.

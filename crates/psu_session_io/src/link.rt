@@ -1,4 +1,4 @@
-// A connection as a stream of bytes.
+//! A connection as a stream of bytes.
 ghost use Rattle.std.specs.Prelude.{◌≡◌, ◌≤◌, ℕ, Ok, length};
 ghost use Rattle.psu_session_io.specs.declared.link.ReadResult.TheVariants.{Bytes};
 

@@ -1,11 +1,12 @@
-// The lock of a session.
+//! The lock of a session.
 ghost use Rattle.psu_session_io.specs.Leaving.{IsAfter, IsAfterWrite};
 
-use crate::linear::{AfterWrite, Closing, Disconnected, Duty, Next, Pending, Written};
+use crate::linear::{AfterWrite, Closing, Disconnected, NextTask, Pending, Written};
 use crate::writes::Writes;
 use crate::{ConnectionSide, SharedSession, Token};
+use psu_exec::CannotDrop;
 use psu_hislip::Side;
-use psu_session::Session;
+use psu_session::HislipSession;
 use std::alloc::{AllocError, Global};
 use std::sync::{Arc, Mutex, MutexGuard, Wait};
 
@@ -18,7 +19,7 @@ pub struct SessionLock {
 
 impl SessionLock {
     /// Returns the lock of a session that no thread serves yet.
-    pub fn new(alloc: Global, session: Session) -> Result<SessionLock, AllocError> {
+    pub fn new(alloc: Global, session: HislipSession) -> Result<SessionLock, AllocError> {
         let writes = Arc::new(alloc, Writes::new())?;
         let shared = SharedSession::new(session, Arc::try_clone(&writes)?);
         Ok(SessionLock {
@@ -47,7 +48,7 @@ impl SessionLock {
         rt: &R,
         token: &mut Token<S>,
         write: Result<Written<S>, Disconnected>,
-    ) -> Result<Next<S>, Closing>
+    ) -> Result<NextTask<S>, Closing>
         ensures { IsAfter write result }
     {
         let _ = token;
@@ -66,24 +67,24 @@ impl SessionLock {
     }
 
     // Ends a write. Returns what its thread does then.
-    fn end_write<S: ConnectionSide>(&self, written: Written<S>) -> Next<S>
+    fn end_write<S: ConnectionSide>(&self, written: Written<S>) -> NextTask<S>
         ensures { IsAfterWrite written.after result }
     {
         let Written { after, duty, side } = written;
         let AfterWrite { more, again, due } = after;
         let awaited = self.writes.end(S::SIDE);
         if more || awaited {
-            return Next::Continue(Pending { again, duty, side });
+            return NextTask::Continue(Pending { again, duty, side });
         }
         duty.end();
-        Next::Wait(due)
+        NextTask::Wait(due)
     }
 
     // Ends the session.
     pub(crate) fn abandon<R: Wait>(&self, rt: &R) -> Closing {
         let mut session = self.session.lock(rt);
         session.disconnect(Disconnected {
-            duty: Duty::begin(),
+            duty: CannotDrop::begin(),
         })
     }
 }

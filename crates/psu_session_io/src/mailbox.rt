@@ -1,11 +1,10 @@
-// The notices to the threads of a session.
+//! The notices to the threads of a session.
 ghost use Rattle.psu_session_io.specs.Leaving.{IsNext};
 
 use crate::line::Line;
-use crate::linear::{
-    AfterWrite, Arrived, Closed, Closing, Duty, Next, Outgoing, Pending, Remainder,
-};
+use crate::linear::{AfterWrite, Arrived, Closed, Closing, NextTask, Outgoing, Pending, Remainder};
 use crate::{Asynchronous, ConnectionSide, Notice, Synchronous, Token};
+use psu_exec::CannotDrop;
 use psu_hislip::Side;
 use psu_locks::Grant;
 use std::alloc::{AllocError, Global};
@@ -105,11 +104,12 @@ impl Mailbox {
     }
 
     /// Notifies the other threads of what a thread leaves to them. Returns what the thread does then.
+    #[inline(always)]
     pub fn notify_others<R: Wait, S: ConnectionSide>(
         &self,
         rt: &R,
         remainder: Remainder<S>,
-    ) -> Next<S>
+    ) -> NextTask<S>
         ensures { IsNext remainder result }
     {
         let Remainder {
@@ -131,7 +131,7 @@ impl Mailbox {
         let more = more || again;
         if let Some(bytes) = bytes {
             let after = AfterWrite { more, again, due };
-            return Next::Write(Outgoing {
+            return NextTask::Write(Outgoing {
                 bytes,
                 after,
                 duty,
@@ -139,17 +139,17 @@ impl Mailbox {
             });
         }
         if more {
-            return Next::Continue(Pending { again, duty, side });
+            return NextTask::Continue(Pending { again, duty, side });
         }
         duty.end();
-        Next::Wait(due)
+        NextTask::Wait(due)
     }
 
     // Returns a notice that must be passed to the session.
     fn arrived<S>(notice: Notice) -> Arrived<S> {
         Arrived {
             notice,
-            duty: Duty::begin(),
+            duty: CannotDrop::begin(),
             side: PhantomData,
         }
     }

@@ -1,4 +1,5 @@
-// Notices to the threads of a session.
+//! Notices to the threads of a session.
+
 /// A notice to a thread of a session.
 #[derive(Clone, Copy, Debug, PartialEq, Eq)]
 pub enum Notice {

@@ -1,12 +1,12 @@
-// A session that threads serve.
+//! A session that threads serve.
 ghost use Rattle.std.specs.Prelude.{◌≡◌, IfOk};
 
 use crate::linear::{Closed, Closing};
 use crate::link::Link;
 use crate::{Mailbox, SessionLock};
 use psu_hislip::Side;
-use psu_locks::Session as Number;
-use psu_session::Session;
+use psu_locks::Session;
+use psu_session::HislipSession;
 use std::alloc::{AllocError, Global};
 use std::io::{self, ErrorKind};
 use std::rt::Clock;
@@ -15,7 +15,7 @@ use std::thread;
 use std::time::Duration;
 
 /// How long the first connection of a session that is closed may still be read, in milliseconds.
-const GRACE: u64 = 50;
+const CLOSING_GRACE: u64 = 50;
 
 // The second connection of a session.
 #[derive(Drop)]
@@ -35,7 +35,7 @@ pub struct NotAwaited;
 /// A session that threads serve: its number, its value behind a mutex, the notices to its threads, and its connections.
 #[derive(Drop)]
 pub struct ServedSession {
-    pub number: Number,
+    pub number: Session,
     pub session: SessionLock,
     pub mailbox: Mailbox,
     first: Arc<Link>,
@@ -47,8 +47,8 @@ impl ServedSession {
     /// Returns the session of a number, which waits for its second connection.
     pub fn new(
         alloc: Global,
-        number: Number,
-        session: Session,
+        number: Session,
+        session: HislipSession,
         first: Arc<Link>,
     ) -> Result<ServedSession, AllocError>
         requires number { session.state.core.session ≡ number }
@@ -110,7 +110,7 @@ impl ServedSession {
     /// Ends the first connection once its reader has had the time to read what was sent there before: so it returns also
     /// where it waited already.
     pub fn end_first<R: Clock>(&self, rt: &R) {
-        thread::sleep(rt, Duration::from_millis(GRACE));
+        thread::sleep(rt, Duration::from_millis(CLOSING_GRACE));
         self.first.shut();
     }
 

@@ -1,23 +1,22 @@
-// The value of a session that threads share.
+//! The value of a session that threads share.
 ghost use Rattle.std.specs.Prelude.{◌≡◌, ◌↔◌, ◌&&◌, not, false, None, IsTrue, IfOk, OnOk, OnErr, IfSome, IsNone};
 ghost use Rattle.psu_session.specs.Holding.{IsFull};
-ghost use Rattle.psu_session.specs.Phases.{disconnected, is_over};
+ghost use Rattle.psu_session.specs.Phases.{disconnected, phase_ended};
 ghost use Rattle.psu_session.specs.Stopping.{StopsNext};
 ghost use Rattle.psu_session.specs.declared.phase.EndCause.TheVariants.{Memory};
 ghost use Rattle.psu_session.specs.declared.phase.Phase.TheVariants.{Open, Over};
 ghost use Rattle.psu_session_io.specs.Shared.{Shared, with_phase, with_reader, with_value};
 ghost use Rattle.psu_session_io.specs.Sharing.{EndsExecuting, EndsNotified, EndsReceiving, EndsResponding, Executes, HasMore, MayContinue, MayRequestService, Notifies, Receives, ReceivesAll, Responds, waits_for};
 
-use crate::linear::{
-    Arrived, BytesRead, Closing, Disconnected, Duty, Pending, Received, Remainder,
-};
+use crate::linear::{Arrived, BytesRead, Closing, Disconnected, Pending, Received, Remainder};
 use crate::notice::Notice;
 use crate::writes::Writes;
 use crate::{Asynchronous, ConnectionSide, StepDevice, Synchronous};
+use psu_exec::CannotDrop;
 use psu_hislip::Side;
 use psu_locks::Grant;
 use psu_messages::Need;
-use psu_session::{Device, Phase, Proceeded, Session};
+use psu_session::{Device, HislipSession, Phase, Proceeded};
 use std::marker::Model;
 use std::sync::Arc;
 
@@ -25,7 +24,7 @@ use std::sync::Arc;
 /// what its next unit waits for, and which readers wait for room.
 #[derive(Drop)]
 pub struct SharedSession {
-    pub(crate) session: Session,
+    pub(crate) session: HislipSession,
     // What the next unit waits for. It is tried again once that may have come.
     pub(crate) waits: Option<Need>,
     // Whether the readers wait for room.
@@ -55,7 +54,7 @@ fn need_of(proceeded: Proceeded) -> Option<Need>
 
 impl SharedSession {
     /// Returns a session that no thread serves yet.
-    pub(crate) fn new(session: Session, writes: Arc<Writes>) -> SharedSession
+    pub(crate) fn new(session: HislipSession, writes: Arc<Writes>) -> SharedSession
         ensures { result ≡ record { phase = session.phase; state = session.state; waits = None; sync_waits = false; async_waits = false } }
     {
         SharedSession {
@@ -75,7 +74,7 @@ impl SharedSession {
     }
 
     // Ends the session, since a connection has ended or is to end.
-    pub(crate) fn end(&mut self, duty: Duty) -> Closing
+    pub(crate) fn end(&mut self, duty: CannotDrop) -> Closing
         ensures { self.new ≡ with_phase self.old (disconnected self.old.phase) }
     {
         self.session.disconnect();
@@ -92,9 +91,9 @@ impl SharedSession {
         }
     }
 
-    // Sends the session's service request behind the response that has joined the asynchronous connection.
+    // Sends the session's service request after the response that has joined the asynchronous connection.
     fn request_at_join<D: Device>(&mut self, was_joined: bool, device: &mut D)
-        ensures { MayRequestService D.does (not was_joined && self.old.state.core.joined && not (is_over self.old.phase)) self.old device.old self.new device.new }
+        ensures { MayRequestService D.does (not was_joined && self.old.state.core.joined && not (phase_ended self.old.phase)) self.old device.old self.new device.new }
     {
         if !was_joined && self.session.is_joined() {
             self.session.service_requested(device);
@@ -165,7 +164,7 @@ impl SharedSession {
             return Ok(());
         }
         Err(Closing {
-            duty: Duty::begin(),
+            duty: CannotDrop::begin(),
         })
     }
 

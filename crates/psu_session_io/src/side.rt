@@ -1,4 +1,4 @@
-// The connections of a session, as types.
+//! The connections of a session, as types.
 ghost use Rattle.psu_hislip.specs.declared.side.Side.{Side};
 ghost use Rattle.psu_hislip.specs.declared.side.Side.TheVariants.{Sync, Async};
 

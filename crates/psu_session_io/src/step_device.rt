@@ -1,4 +1,4 @@
-// A device that threads share, in a step of its session.
+//! A device that threads share, in a step of its session.
 ghost use Rattle.std.specs.Prelude.{◌≡◌};
 
 use psu_session::Device;

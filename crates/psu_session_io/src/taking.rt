@@ -1,11 +1,12 @@
-// The output of a session that threads share: what is to be written, by whom, and what is left to other threads.
+//! The output of a session that threads share: what is to be written, by whom, and what is left to other threads.
 ghost use Rattle.std.specs.Prelude.{◌≡◌, ◌≢◌, ◌↔◌, true, None, [], IsTrue, IfOk, OnErr};
 ghost use Rattle.psu_session.specs.State.{HasWork, writes};
-ghost use Rattle.psu_session_io.specs.Leaving.{EndsTaking, HasRoom, HasSent, HasSentAll, IsAwaited, IsForOthers, IsUnwritten, Leaves, MayBeNoted, Notes, Takes};
+ghost use Rattle.psu_session_io.specs.Leaving.{EndsTaking, HasRoom, HasSent, HasSentAll, IsAwaited, IsForOthers, IsUnwritten, LeavesToOthers, MayBeNoted, Notes, Takes};
 ghost use Rattle.psu_session_io.specs.Shared.{with_value};
 
-use crate::linear::{Closing, Duty, Remainder};
+use crate::linear::{Closing, Remainder};
 use crate::{ConnectionSide, SharedSession};
+use psu_exec::CannotDrop;
 use psu_hislip::Side;
 use psu_messages::Need;
 use std::marker::PhantomData;
@@ -122,9 +123,9 @@ impl SharedSession {
         &mut self,
         bytes: Option<Vec<u8>>,
         more: bool,
-        duty: Duty,
+        duty: CannotDrop,
     ) -> Remainder<S>
-        ensures leaves { Leaves S.SIDE more result self.old self.new }
+        ensures leaves { LeavesToOthers S.SIDE more result self.old self.new }
         ensures bytes { result.bytes ≡ bytes }
     {
         let sync_room = self.has_room(self.sync_reader_waits, Side::Sync);
@@ -163,7 +164,7 @@ impl SharedSession {
     pub(crate) fn take<S: ConnectionSide>(
         &mut self,
         more: bool,
-        duty: Duty,
+        duty: CannotDrop,
     ) -> Result<Remainder<S>, Closing>
         ensures takes { IfOk result (λ remainder. Takes S.SIDE more remainder self.old self.new) }
         ensures ended { OnErr result (EndsTaking self.old self.new) }

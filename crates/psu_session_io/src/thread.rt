@@ -1,4 +1,4 @@
-// The threads of a session.
+//! The threads of a session.
 use crate::Closed;
 use std::marker::PhantomData;
 use std::rt::Clock;

@@ -1,4 +1,4 @@
-// Whether the bytes that were taken are written.
+//! Whether the bytes that were taken are written.
 use psu_hislip::Side;
 use std::sync::atomic::{AtomicU8, Ordering};
 

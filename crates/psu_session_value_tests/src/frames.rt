@@ -1,10 +1,10 @@
-// Frames as they are spelled in a script: `DataEnd 1 xffffff00 *IDN?\n`.
-//
-// The words are the message type, by its name in IVI-6.1 or by its number; the control code; the message parameter, in
-// hexadecimal digits after an `x`; and the payload, whose bytes are spelled in hexadecimal after `= `. What is omitted
-// at the end is 0 or empty. A frame that is `= ` and bytes is just these bytes. Frames are separated by ` & `, and no
-// frame is `nothing`.
-use psu_tables::{bytes, written};
+//! Frames as they are spelled in a script: `DataEnd 1 xffffff00 *IDN?\n`.
+//!
+//! The words are the message type, by its name in IVI-6.1 or by its number; the control code; the message parameter, in
+//! hexadecimal digits after an `x`; and the payload, whose bytes are spelled in hexadecimal after `= `. What is omitted
+//! at the end is 0 or empty. A frame that is `= ` and bytes is just these bytes. Frames are separated by ` & `, and no
+//! frame is `nothing`.
+use psu_tables::{bytes, header, parted, written};
 use std::alloc::Global;
 
 // The message types in the order of their numbers (IVI-6.1, the table of message types).
@@ -14,11 +14,6 @@ DeviceClearComplete DeviceClearAcknowledge AsyncRemoteLocalControl AsyncRemoteLo
 AsyncInterrupted AsyncMaximumMessageSize AsyncMaximumMessageSizeResponse AsyncInitialize AsyncInitializeResponse
 AsyncDeviceClear AsyncServiceRequest AsyncStatusQuery AsyncStatusResponse AsyncDeviceClearAcknowledge AsyncLockInfo
 AsyncLockInfoResponse";
-
-/// Returns the first word of a text, and the rest.
-pub fn parted(text: &str) -> (&str, &str) {
-    text.split_once(" ").unwrap_or((text, ""))
-}
 
 // Returns the number of a message type.
 fn message_type(name: &str) -> Option<u8> {
@@ -39,15 +34,6 @@ fn number(word: &str) -> Option<u32> {
         Some(digits) => u32::from_str_radix(digits, 16).ok(),
         None => word.parse().ok(),
     }
-}
-
-// Returns the header of a frame.
-fn header(kind: u8, control: u8, parameter: u32, length: u64) -> [u8; 16] {
-    let [p, q, r, s] = parameter.to_be_bytes();
-    let [a, b, c, d, e, f, g, h] = length.to_be_bytes();
-    [
-        0x48, 0x53, kind, control, p, q, r, s, a, b, c, d, e, f, g, h,
-    ]
 }
 
 // Returns the bytes of a payload.
@@ -76,7 +62,7 @@ fn add_spelled(alloc: Global, all: &mut Vec<u8>, cell: &str) -> Option<()> {
 }
 
 /// Returns the bytes of frames; `None` where they are not spelled so, or memory is refused.
-pub fn frames(alloc: Global, cell: &str) -> Option<Vec<u8>> {
+pub(crate) fn frames(alloc: Global, cell: &str) -> Option<Vec<u8>> {
     let mut all = Vec::new(alloc);
     if cell == "nothing" {
         return Some(all);

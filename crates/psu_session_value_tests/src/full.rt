@@ -1,5 +1,5 @@
-// How much a session holds before its readers wait: a mebibyte, each item counting as its bytes and 128, and 65,536
-// bytes that are to be sent.
+//! How much a session holds before its readers wait: a mebibyte, each item counting as its bytes and 128, and 65,536
+//! bytes that are to be sent.
 use crate::plays::{play, play_at_once};
 use std::alloc::{AllocError, Global};
 
@@ -8,24 +8,9 @@ const RECEIVED: &str = r#"
 1 opens
 1 joins
 1 room sync
-1 sync DataEnd 0 xffffff00 {x*65408}
-1 sync DataEnd 0 xffffff00 {x*65408}
-1 sync DataEnd 0 xffffff00 {x*65408}
-1 sync DataEnd 0 xffffff00 {x*65408}
-1 sync DataEnd 0 xffffff00 {x*65408}
-1 sync DataEnd 0 xffffff00 {x*65408}
-1 sync DataEnd 0 xffffff00 {x*65408}
-1 sync DataEnd 0 xffffff00 {x*65408}
-1 sync DataEnd 0 xffffff00 {x*65408}
-1 sync DataEnd 0 xffffff00 {x*65408}
-1 sync DataEnd 0 xffffff00 {x*65408}
-1 sync DataEnd 0 xffffff00 {x*65408}
-1 sync DataEnd 0 xffffff00 {x*65408}
-1 sync DataEnd 0 xffffff00 {x*65408}
-1 sync DataEnd 0 xffffff00 {x*65408}
-1 sync DataEnd 0 xffffff00 {x*65408}
+16 times 1 sends DataEnd 0 xffffff00 {x*65408}
 1 room sync
-1 sync DataEnd 0 xffffff00
+1 sends DataEnd 0 xffffff00
 1 full sync
 1 room async
 1 proceeds completed
@@ -36,25 +21,9 @@ const RECEIVED: &str = r#"
 == What a device clear discards is not held, once it is dropped
 1 opens
 1 joins
-1 sync DataEnd 0 xffffff00 {x*65408}
-1 sync DataEnd 0 xffffff00 {x*65408}
-1 sync DataEnd 0 xffffff00 {x*65408}
-1 sync DataEnd 0 xffffff00 {x*65408}
-1 sync DataEnd 0 xffffff00 {x*65408}
-1 sync DataEnd 0 xffffff00 {x*65408}
-1 sync DataEnd 0 xffffff00 {x*65408}
-1 sync DataEnd 0 xffffff00 {x*65408}
-1 sync DataEnd 0 xffffff00 {x*65408}
-1 sync DataEnd 0 xffffff00 {x*65408}
-1 sync DataEnd 0 xffffff00 {x*65408}
-1 sync DataEnd 0 xffffff00 {x*65408}
-1 sync DataEnd 0 xffffff00 {x*65408}
-1 sync DataEnd 0 xffffff00 {x*65408}
-1 sync DataEnd 0 xffffff00 {x*65408}
-1 sync DataEnd 0 xffffff00 {x*65408}
-1 sync DataEnd 0 xffffff00 {x*65408}
+17 times 1 sends DataEnd 0 xffffff00 {x*65408}
 1 full sync
-1 async AsyncDeviceClear
+1 async-sends AsyncDeviceClear
 1 runs idle
 1 room sync
 "#;
@@ -85,8 +54,8 @@ fn with_many(
 // A response without payload has 16 bytes, 4,096 of them 65,536.
 #[test]
 fn responses_that_wait(rt: HostRuntime) {
-    let begin = "\n== Responses\n1 opens\n1 joins\n1 room async\n1 async ";
-    let end = "\n1 room async\n1 async AsyncLockInfo\n1 full async\n1 room sync\n";
+    let begin = "\n== Responses\n1 opens\n1 joins\n1 room async\n1 async-sends ";
+    let end = "\n1 room async\n1 async-sends AsyncLockInfo\n1 full async\n1 room sync\n";
     let script = with_many(rt.alloc(), begin, "AsyncLockInfo", 4_096, end).expect(&rt, "memory");
     play(&rt, rt.alloc(), &script);
 }
@@ -94,9 +63,9 @@ fn responses_that_wait(rt: HostRuntime) {
 // 8,192 releases count as 1,048,576 bytes.
 #[test]
 fn releases_that_wait(rt: HostRuntime) {
-    let begin = "\n== Releases\n1 opens\n1 joins\n1 room async\n1 async ";
+    let begin = "\n== Releases\n1 opens\n1 joins\n1 room async\n1 async-sends ";
     let release = "AsyncLock 0 xffffff00";
-    let end = "\n1 room async\n1 async AsyncLock 0 xffffff00\n1 full async\n1 room sync\n";
+    let end = "\n1 room async\n1 async-sends AsyncLock 0 xffffff00\n1 full async\n1 room sync\n";
     let script = with_many(rt.alloc(), begin, release, 8_192, end).expect(&rt, "memory");
     play(&rt, rt.alloc(), &script);
 }
@@ -104,7 +73,7 @@ fn releases_that_wait(rt: HostRuntime) {
 // 64 transmissions that count as 65,536 bytes each are four mebibytes.
 #[test]
 fn more_than_is_ever_held(rt: HostRuntime) {
-    let begin = "\n== Transmissions\n1 opens\n1 joins\n1 sync ";
+    let begin = "\n== Transmissions\n1 opens\n1 joins\n1 sends ";
     let message = "DataEnd 0 xffffff00 {x*65408}";
     let end = "\n1 full sync\n1 overflows DataEnd 0 xffffff00\n1 over\n";
     let script = with_many(rt.alloc(), begin, message, 64, end).expect(&rt, "memory");

@@ -1,20 +1,20 @@
-// The device of a script's sessions.
+//! The device of a script's sessions.
 use psu_disk::MemDisk;
 use psu_exec::{Exec, Freed, Grant, Info, Kind, LockRefusal, Outcome, Request, Session, Sessions};
 use psu_session::Device;
 use std::alloc::Global;
 
 /// A device on a disk in memory.
-pub type Power = Exec<MemDisk<Global>, Global>;
+pub(crate) type Power = Exec<MemDisk<Global>, Global>;
 
 /// A device in memory, for the session that calls it now.
 #[derive(Drop)]
-pub struct MemDevice<'a> {
-    pub exec: &'a mut Power,
+pub(crate) struct MemDevice<'a> {
+    pub(crate) exec: &'a mut Power,
     /// The session that calls it. It is open; otherwise a call has no effect.
-    pub session: Session,
+    pub(crate) session: Session,
     /// The sessions that were granted a lock when one was released.
-    pub granted: Sessions,
+    pub(crate) granted: Sessions,
 }
 
 impl<'a> Device for MemDevice<'a> {

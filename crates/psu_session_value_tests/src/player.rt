@@ -1,22 +1,23 @@
-// The sessions of a script, over one device.
-use crate::frames::{frames, parted};
+//! The sessions of a script, over one device.
+use crate::frames::frames;
 use crate::mem_device::{MemDevice, Power};
 use crate::session_steps::{Setting, session_step};
 use psu_call_steps::step_holds;
-use psu_exec::{Session as Number, Sessions};
-use psu_session::Session;
+use psu_exec::{Session, Sessions};
+use psu_session::HislipSession;
+use psu_tables::{parted, repeated};
 use std::alloc::Global;
 
 /// A session, and its number on the device.
 #[derive(Drop)]
 struct Member {
-    number: Number,
-    session: Session,
+    number: Session,
+    session: HislipSession,
 }
 
-/// The sessions of a script, over one device.
+///! The sessions of a script, over one device.
 #[derive(Drop)]
-pub struct Player<'a> {
+pub(crate) struct Player<'a> {
     device: MemDevice<'a>,
     setting: Setting,
     members: Vec<Member>,
@@ -24,7 +25,12 @@ pub struct Player<'a> {
 
 impl<'a> Player<'a> {
     /// Returns a player without sessions, which will receive at most this many bytes at once.
-    pub fn new(alloc: Global, exec: &'a mut Power, first: Number, size: usize) -> Player<'a> {
+    pub(crate) fn new(
+        alloc: Global,
+        exec: &'a mut Power,
+        first: Session,
+        size: usize,
+    ) -> Player<'a> {
         Player {
             device: MemDevice {
                 exec,
@@ -41,7 +47,7 @@ impl<'a> Player<'a> {
     }
 
     // Returns the place of the session with a number.
-    fn place(&self, number: Number) -> Option<usize> {
+    fn place(&self, number: Session) -> Option<usize> {
         for (at, member) in self.members.iter().enumerate() {
             if member.number == number {
                 return Some(at);
@@ -51,17 +57,21 @@ impl<'a> Player<'a> {
     }
 
     // Opens a session, which has its synchronous connection, and returns whether it has this number.
-    fn opens(&mut self, number: Number) -> Option<bool> {
+    fn opens(&mut self, number: Session) -> Option<bool> {
         let alloc = self.setting.alloc;
         let opened = self.device.exec.open_session().ok()?;
         let opening = frames(alloc, "Initialize 0 x01000000 hislip0")?;
-        let session = Session::open(alloc, u16::from(opened.number()), opening.as_slice()).ok()?;
+        let session = HislipSession::open(
+            alloc,
+            u16::from(opened.number()),
+            opening.as_slice(),
+        ).ok()?;
         self.members.push(Member { number, session }).ok()?;
         Some(opened == number)
     }
 
     // Whether a step of a session holds; `None` where it is not a step.
-    fn session_step(&mut self, number: Number, step: &str) -> Option<bool> {
+    fn session_step(&mut self, number: Session, step: &str) -> Option<bool> {
         if step == "opens" {
             return self.opens(number);
         }
@@ -77,14 +87,25 @@ impl<'a> Player<'a> {
         Some(())
     }
 
-    /// Whether a line is a step that holds.
-    pub fn step(&mut self, line: &str) -> bool {
+    /// Whether a line is a step that holds, each time that it is made.
+    pub(crate) fn line(&mut self, line: &str) -> bool {
+        let (count, step) = repeated(line);
+        for _ in 0..count {
+            if !self.step(step) {
+                return false;
+            }
+        }
+        true
+    }
+
+    // Whether a step holds.
+    fn step(&mut self, line: &str) -> bool {
         let (who, rest) = parted(line);
         if who == "at" {
             return self.set_time(rest).is_some();
         }
         let number = match who.parse() {
-            Ok(number) => Number::new(number),
+            Ok(number) => Session::new(number),
             Err(_) => None,
         };
         match number {

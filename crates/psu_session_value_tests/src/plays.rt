@@ -1,8 +1,9 @@
-// Scripts of what clients send, and of what is then to be sent to them.
+//! Scripts of what clients send, and of what is then to be sent to them.
 use crate::mem_device::Power;
 use crate::player::Player;
 use psu_call_steps::{image, powered_on};
 use psu_exec::Session;
+use psu_tables::is_step;
 use std::alloc::Global;
 use std::process::Abort;
 
@@ -12,18 +13,13 @@ const SIZES: [usize; 3] = [usize::MAX, 7, 1];
 // The number of pages of the devices' images.
 const PAGES: u16 = 136;
 
-// Whether a line is to be played.
-fn is_played(line: &str) -> bool {
-    !line.is_empty() && !line.starts_with("#")
-}
-
 // Plays a script, which begins with its title, on a device, with this many bytes at once.
 fn play_on(rt: &impl Abort, exec: &mut Power, alloc: Global, size: usize, script: &str) {
     let (title, steps) = script.split_once("\n").unwrap_or((script, ""));
     let first = Session::new(1).expect(rt, "a number");
     let mut player = Player::new(alloc, exec, first, size);
     for line in steps.lines() {
-        let is_so = !is_played(line) || player.step(line);
+        let is_so = !is_step(line) || player.line(line);
         assert!(rt; is_so, "{title}: {line} ({size})");
     }
 }
@@ -47,11 +43,11 @@ fn play_sizes(rt: &impl Abort, alloc: Global, scripts: &str, sizes: &[usize]) {
 }
 
 /// Plays scripts, each of which begins with a line `== ` and its title, on new devices.
-pub fn play(rt: &impl Abort, alloc: Global, scripts: &str) {
+pub(crate) fn play(rt: &impl Abort, alloc: Global, scripts: &str) {
     play_sizes(rt, alloc, scripts, &SIZES);
 }
 
 /// Plays scripts as `play` does, but each step's bytes are received at once, since they are many.
-pub fn play_at_once(rt: &impl Abort, alloc: Global, scripts: &str) {
+pub(crate) fn play_at_once(rt: &impl Abort, alloc: Global, scripts: &str) {
     play_sizes(rt, alloc, scripts, &[usize::MAX]);
 }

@@ -1,40 +1,41 @@
-// The steps of a session, a line each.
-//
-// | step | holds where |
-// |---|---|
-// | `1 opens` | session 1 opens, with its synchronous connection |
-// | `1 joins` | it gets its asynchronous connection, on which AsyncInitialize is answered |
-// | `1 sync FRAMES`, `1 async FRAMES` | these frames are received on a connection |
-// | `1 proceeds lock` | one call that continues the execution has this result, one of those below |
-// | `1 runs idle` | such calls are made while they complete something or let others in, and end with this result |
-// | `1 sends FRAMES` | these frames are to be sent on the synchronous connection, and are written |
-// | `1 reports FRAMES` | these frames are to be sent on the asynchronous connection, and are written |
-// | `1 takes FRAMES` | these frames are taken from the synchronous connection, and not yet written |
-// | `1 written` | what was taken from the synchronous connection is written |
-// | `1 full sync`, `1 full async` | so much is held of a connection that its reader waits |
-// | `1 overflows FRAMES` | these frames, received on the synchronous connection, are more than is ever held: it is over for that |
-// | `1 room sync`, `1 room async` | its reader does not wait |
-// | `1 holds` | bytes are to be sent on the synchronous connection |
-// | `1 asks *IDN?` | a query is received in one DataEnd, and executed |
-// | `1 answers 0` | its response is to be sent in one DataEnd, and nothing else |
-// | `at 50` | the time, in milliseconds |
-// | `1 ticks` | the time is passed to the session |
-// | `2 granted`, `2 refused` | a release granted the session a lock, its request failed; this is passed to it |
-// | `1 due 150`, `1 due never` | this is when the first release that waits is due at the latest, none waits |
-// | `1 requested` | a service request is looked for |
-// | `1 failed`, `1 serves` | it has failed with a FatalError, it has not |
-// | `1 ends` | a connection has ended: what was sent before may still be executed |
-// | `1 over` | the session is over: calls return an error |
-//
-// Any other line is a step of the device, of psu_call_steps. The result of a call is `idle`, `completed`, the need for
-// which a unit waits, as `flush`, `lock` or `room`, `turn`, where others are let in, or why the session is over:
-// `memory`, `held` for too much that is held, or `disconnected`. Empty lines, and those that begin with `#`, are not steps.
-use crate::frames::{frames, parted};
+//! The steps of a session, a line each. Who sends and gets, says and hears, is the client, as over sockets.
+//!
+//! | step | holds where |
+//! |---|---|
+//! | `1 opens` | session 1 opens, with its synchronous connection |
+//! | `1 joins` | it gets its asynchronous connection, on which AsyncInitialize is answered |
+//! | `1 sends FRAMES`, `1 async-sends FRAMES` | the client's frames are received on the synchronous, the asynchronous connection |
+//! | `1 gets FRAMES`, `1 async-gets FRAMES` | these frames are taken to be sent on a connection, and are written |
+//! | `1 fetches FRAMES` | these frames are taken to be sent on the synchronous connection, and not yet written |
+//! | `1 written` | what was taken from the synchronous connection is written |
+//! | `1 unsent` | bytes are to be sent on the synchronous connection |
+//! | `1 says *IDN?` | a message is received in one DataEnd, and executed |
+//! | `1 hears 0` | a response is taken in one DataEnd, and nothing else |
+//! | `1 proceeds lock` | one call that continues the execution has this result, one of those below |
+//! | `1 runs idle` | such calls are made while they complete something or let others in, and end with this result |
+//! | `1 full sync`, `1 full async` | so much is held of a connection that its reader waits |
+//! | `1 room sync`, `1 room async` | its reader does not wait |
+//! | `1 overflows FRAMES` | these frames, received on the synchronous connection, are more than is ever held: it is over for that |
+//! | `at 50` | the time, in milliseconds |
+//! | `1 ticks` | the time is passed to the session |
+//! | `2 granted`, `2 refused` | a release granted the session a lock, its request failed; this is passed to it |
+//! | `1 due 150`, `1 due never` | this is when the first release that waits is due at the latest, none waits |
+//! | `1 notified` | it looks for a service request |
+//! | `1 fatal`, `1 serves` | it has failed with a FatalError, it has not |
+//! | `1 leaves` | the client ends a connection: what was sent before may still be executed |
+//! | `1 over` | the session is over: calls return an error |
+//!
+//! Any other line is a step of the device, of psu_call_steps. The result of a call is `idle`, `completed`, the need for
+//! which a unit waits, as `flush`, `lock` or `room`, `turn`, where others are let in, or why the session is over:
+//! `memory`, `too-much` for too much that is held, or `disconnected`. Empty lines, and those that begin with `#`, are not
+//! steps.
+use crate::frames::frames;
 use crate::mem_device::MemDevice;
 use psu_exec::Grant;
 use psu_hislip::Side;
 use psu_messages::Need;
-use psu_session::{EndCause, Phase, Proceeded, Session};
+use psu_session::{EndCause, HislipSession, Phase, Proceeded};
+use psu_tables::parted;
 use std::alloc::Global;
 
 // More calls than the execution of a script's transmissions takes.
@@ -42,20 +43,20 @@ const CALLS: u32 = 10_000;
 
 /// The setting of a step: the time in milliseconds, and how many bytes are received at once.
 #[derive(Clone, Copy)]
-pub struct Setting {
-    pub alloc: Global,
-    pub now: u64,
-    pub size: usize,
+pub(crate) struct Setting {
+    pub(crate) alloc: Global,
+    pub(crate) now: u64,
+    pub(crate) size: usize,
 }
 
 // Whether a session is over.
-fn has_ended(session: &Session) -> bool {
+fn has_ended(session: &HislipSession) -> bool {
     matches!(session.phase(), Phase::Over(_))
 }
 
-// Whether frames are received on a connection.
+// Whether the session is open after these bytes were received on a connection, as many at once as the setting says.
 fn receives(
-    session: &mut Session,
+    session: &mut HislipSession,
     device: &mut MemDevice<'_>,
     setting: Setting,
     side: Side,
@@ -71,7 +72,7 @@ fn receives(
 
 // Whether a session is over once these frames are received on its synchronous connection, and was not before.
 fn overflows(
-    session: &mut Session,
+    session: &mut HislipSession,
     device: &mut MemDevice<'_>,
     setting: Setting,
     frames: &[u8],
@@ -81,8 +82,8 @@ fn overflows(
         && session.phase() == Phase::Over(EndCause::TooMuchHeld)
 }
 
-// Whether these bytes are taken from a connection, or none where these are none.
-fn takes(session: &mut Session, side: Side, wanted: &[u8]) -> bool {
+// Whether these bytes are taken to be sent on a connection, or none where these are empty.
+fn fetches(session: &mut HislipSession, side: Side, wanted: &[u8]) -> bool {
     match session.take_output(side) {
         Ok(Some(bytes)) => !wanted.is_empty() && bytes.as_slice() == wanted,
         Ok(None) => wanted.is_empty(),
@@ -90,9 +91,9 @@ fn takes(session: &mut Session, side: Side, wanted: &[u8]) -> bool {
     }
 }
 
-// Whether these bytes are to be sent on a connection. They are taken, and are written then.
-fn sends(session: &mut Session, side: Side, wanted: &[u8]) -> bool {
-    let is_so = takes(session, side, wanted);
+// Whether these bytes are taken to be sent on a connection, on which they are written then.
+fn gets(session: &mut HislipSession, side: Side, wanted: &[u8]) -> bool {
+    let is_so = fetches(session, side, wanted);
     if !wanted.is_empty() {
         session.written(side);
     }
@@ -100,7 +101,7 @@ fn sends(session: &mut Session, side: Side, wanted: &[u8]) -> bool {
 }
 
 // Whether the first release that waits is due at a time in milliseconds at the latest, or `never`.
-fn is_due(session: &Session, word: &str) -> bool {
+fn is_due(session: &HislipSession, word: &str) -> bool {
     match session.next_due() {
         Some(at) => word.parse() == Ok(at),
         None => word == "never",
@@ -117,31 +118,35 @@ fn side(word: &str) -> Option<Side> {
 }
 
 // Notes that a connection of an open session has ended. 65,536 units of what was sent before may be tried then.
-fn ends(session: &mut Session) -> bool {
+fn leaves(session: &mut HislipSession) -> bool {
     let was = session.phase();
     session.disconnect();
     was == Phase::Open && session.phase() == Phase::Ending(65_536)
 }
 
 // Whether a session is over: calls return an error.
-fn is_over(session: &mut Session, now: u64) -> bool {
+fn refuses_calls(session: &mut HislipSession, now: u64) -> bool {
     has_ended(session) && session.tick(now).is_err() && session.take_output(Side::Sync).is_err()
 }
 
 // What was taken from the synchronous connection is written.
-fn is_written(session: &mut Session) -> bool {
+fn is_written(session: &mut HislipSession) -> bool {
     session.written(Side::Sync);
     true
 }
 
 // Whether a session gets its second connection.
-fn joins(session: &mut Session, device: &mut MemDevice<'_>, setting: Setting) -> Option<bool> {
+fn joins(
+    session: &mut HislipSession,
+    device: &mut MemDevice<'_>,
+    setting: Setting,
+) -> Option<bool> {
     let mut message = frames(setting.alloc, "AsyncInitialize")?;
     *message.get_mut(7)? = device.session.number();
     let wanted = frames(setting.alloc, "AsyncInitializeResponse")?;
     Some(
         receives(session, device, setting, Side::Async, message.as_slice())
-            && sends(session, Side::Async, wanted.as_slice())
+            && gets(session, Side::Async, wanted.as_slice())
             && session.is_joined(),
     )
 }
@@ -156,13 +161,13 @@ fn called(proceeded: Result<Proceeded, EndCause>) -> &'static str {
         Ok(Proceeded::Waits(Need::Room)) => "room",
         Ok(Proceeded::Waits(Need::Turn)) => "turn",
         Err(EndCause::Memory) => "memory",
-        Err(EndCause::TooMuchHeld) => "held",
+        Err(EndCause::TooMuchHeld) => "too-much",
         Err(EndCause::Disconnected) => "disconnected",
     }
 }
 
 // Continues the execution while something is completed or others are let in, and returns the word for the result.
-fn run(session: &mut Session, device: &mut MemDevice<'_>) -> &'static str {
+fn run(session: &mut HislipSession, device: &mut MemDevice<'_>) -> &'static str {
     for _ in 0..CALLS {
         match session.proceed(device) {
             Ok(Proceeded::Completed | Proceeded::Waits(Need::Turn)) => {}
@@ -180,9 +185,9 @@ fn in_one(alloc: Global, text: &str) -> Option<Vec<u8>> {
     frames(alloc, &cell)
 }
 
-// Whether a query is received and executed.
-fn asks(
-    session: &mut Session,
+// Whether a message is received and executed.
+fn says(
+    session: &mut HislipSession,
     device: &mut MemDevice<'_>,
     setting: Setting,
     text: &str,
@@ -194,31 +199,30 @@ fn asks(
     )
 }
 
-// Whether a response is to be sent, and nothing else.
-fn answers(session: &mut Session, alloc: Global, text: &str) -> Option<bool> {
+// Whether a response is taken to be sent, and nothing else.
+fn hears(session: &mut HislipSession, alloc: Global, text: &str) -> Option<bool> {
     let message = in_one(alloc, text)?;
     Some(
-        sends(session, Side::Sync, message.as_slice())
-            && sends(session, Side::Async, b"".as_slice()),
+        gets(session, Side::Sync, message.as_slice()) && gets(session, Side::Async, b"".as_slice()),
     )
 }
 
 // Whether a lock request that waited has this result, which is passed to the session.
-fn is_passed_on(session: &mut Session, device: &mut MemDevice<'_>, grant: Grant) -> bool {
+fn is_passed_on(session: &mut HislipSession, device: &mut MemDevice<'_>, grant: Grant) -> bool {
     let is_so = grant == Grant::Failed || device.granted.as_slice().contains(&device.session);
     session.lock_granted(grant, device);
     is_so && !has_ended(session)
 }
 
 // Whether a service request, if the device has one, is to be sent.
-fn is_requested(session: &mut Session, device: &mut MemDevice<'_>) -> bool {
+fn is_notified(session: &mut HislipSession, device: &mut MemDevice<'_>) -> bool {
     session.service_requested(device);
     !has_ended(session)
 }
 
 // Whether a step in which frames are received or are to be sent holds; `None` for any other step.
 fn frames_step(
-    session: &mut Session,
+    session: &mut HislipSession,
     device: &mut MemDevice<'_>,
     setting: Setting,
     word: &str,
@@ -226,19 +230,19 @@ fn frames_step(
 ) -> Option<bool> {
     let frames = frames(setting.alloc, cell)?;
     match word {
-        "sync" => Some(receives(session, device, setting, Side::Sync, frames.as_slice())),
-        "async" => Some(receives(session, device, setting, Side::Async, frames.as_slice())),
+        "sends" => Some(receives(session, device, setting, Side::Sync, frames.as_slice())),
+        "async-sends" => Some(receives(session, device, setting, Side::Async, frames.as_slice())),
         "overflows" => Some(overflows(session, device, setting, frames.as_slice())),
-        "sends" => Some(sends(session, Side::Sync, frames.as_slice())),
-        "reports" => Some(sends(session, Side::Async, frames.as_slice())),
-        "takes" => Some(takes(session, Side::Sync, frames.as_slice())),
+        "gets" => Some(gets(session, Side::Sync, frames.as_slice())),
+        "async-gets" => Some(gets(session, Side::Async, frames.as_slice())),
+        "fetches" => Some(fetches(session, Side::Sync, frames.as_slice())),
         _ => None,
     }
 }
 
 // Whether a step that passes something to a session, or asks it something, holds; `None` for any other step.
 fn plain_step(
-    session: &mut Session,
+    session: &mut HislipSession,
     device: &mut MemDevice<'_>,
     now: u64,
     word: &str,
@@ -246,21 +250,21 @@ fn plain_step(
     match word {
         "granted" => Some(is_passed_on(session, device, Grant::Granted)),
         "refused" => Some(is_passed_on(session, device, Grant::Failed)),
-        "requested" => Some(is_requested(session, device)),
+        "notified" => Some(is_notified(session, device)),
         "ticks" => Some(session.tick(now).is_ok()),
-        "failed" => Some(session.has_failed()),
+        "fatal" => Some(session.has_failed()),
         "serves" => Some(!session.has_failed()),
         "written" => Some(is_written(session)),
-        "holds" => Some(session.has_output(Side::Sync)),
-        "ends" => Some(ends(session)),
-        "over" => Some(is_over(session, now)),
+        "unsent" => Some(session.has_output(Side::Sync)),
+        "leaves" => Some(leaves(session)),
+        "over" => Some(refuses_calls(session, now)),
         _ => None,
     }
 }
 
 /// Whether a step of a session holds; `None` where it is not a step.
-pub fn session_step(
-    session: &mut Session,
+pub(crate) fn session_step(
+    session: &mut HislipSession,
     device: &mut MemDevice<'_>,
     setting: Setting,
     step: &str,
@@ -268,8 +272,8 @@ pub fn session_step(
     let (word, rest) = parted(step);
     match word {
         "joins" => joins(session, device, setting),
-        "asks" => asks(session, device, setting, rest),
-        "answers" => answers(session, setting.alloc, rest),
+        "says" => says(session, device, setting, rest),
+        "hears" => hears(session, setting.alloc, rest),
         "proceeds" => Some(called(session.proceed(device)) == rest),
         "runs" => Some(run(session, device) == rest),
         "due" => Some(is_due(session, rest)),

@@ -1,6 +1,6 @@
-// The credit of a session counts only what it holds at the time: more than that in total, one part after another, is
-// accepted.
-use psu_client::{Client, Missed, bare, comes, header, joined_as, repeated, send};
+//! The credit of a session counts only what it holds at the time: more than that in total, one part after another, is
+//! accepted.
+use psu_client::{Client, Missed, bare, expect_header, header, joined_as, repeated, send};
 use psu_hosts::new_served;
 use psu_server::Open;
 use std::alloc::{AllocError, Global};
@@ -14,7 +14,7 @@ fn long(alloc: Global) -> Result<Vec<u8>, AllocError> {
 }
 
 // Queues half a mebibyte after a query that a lock holds back; it is executed after the query.
-fn stands_behind(holder: &mut Client, other: &mut Client, long: &[u8]) -> Result<(), Missed> {
+fn waits_after_query(holder: &mut Client, other: &mut Client, long: &[u8]) -> Result<(), Missed> {
     holder.lock()?;
     other.say(b"*IDN?\n")?;
     for _ in 0..8u32 {
@@ -28,12 +28,12 @@ fn stands_behind(holder: &mut Client, other: &mut Client, long: &[u8]) -> Result
 // Two mebibytes in all.
 #[test]
 fn what_was_executed_is_held_no_more(rt: HostRuntime) -> Result<(), Fail> {
-    let port = new_served(rt, rt.alloc(), "held_no_more.image", 48_929, Open)?;
+    let port = new_served(rt, rt.alloc(), "held_no_more.image", Open)?;
     let mut one = joined_as(&rt, port, 1)?;
     let mut two = joined_as(&rt, port, 2)?;
     let long = long(rt.alloc())?;
     for _ in 0..4u32 {
-        stands_behind(&mut one, &mut two, long.as_slice())?;
+        waits_after_query(&mut one, &mut two, long.as_slice())?;
     }
     Ok(())
 }
@@ -42,7 +42,7 @@ fn what_was_executed_is_held_no_more(rt: HostRuntime) -> Result<(), Fail> {
 fn releases(client: &mut Client, frames: &[u8]) -> Result<(), Missed> {
     send(&mut client.other, frames)?;
     for _ in 0..100u32 {
-        comes(&mut client.other, bare(5, 3))?;
+        expect_header(&mut client.other, bare(5, 3))?;
     }
     Ok(())
 }
@@ -50,7 +50,7 @@ fn releases(client: &mut Client, frames: &[u8]) -> Result<(), Missed> {
 // Ten thousand in all.
 #[test]
 fn what_was_answered_is_owed_no_more(rt: HostRuntime) -> Result<(), Fail> {
-    let port = new_served(rt, rt.alloc(), "owed_no_more.image", 48_931, Open)?;
+    let port = new_served(rt, rt.alloc(), "owed_no_more.image", Open)?;
     let mut one = joined_as(&rt, port, 1)?;
     let frames = repeated(rt.alloc(), &header(4, 0, one.last, 0), 100)?;
     for _ in 0..100u32 {

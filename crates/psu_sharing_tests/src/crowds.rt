@@ -1,7 +1,7 @@
-// Clients that are silent, are many, or come and go.
+//! Clients that are silent, are many, or come and go.
 use psu_client::{
-    Client, Missed, bare, begun, comes, connected, header, is_ended, is_silent, joined_again,
-    joined_as, joined_soon, send,
+    Client, Missed, bare, begun, connected, expect_header, header, is_ended, is_silent,
+    joined_again, joined_as, joined_soon, send,
 };
 use psu_hosts::new_served;
 use psu_server::Open;
@@ -10,7 +10,7 @@ use std::net::{Net, TcpStream};
 use std::time::Clock;
 
 // Opens connections that send nothing.
-fn silent<R: Net<Stream = TcpStream> + Clock>(
+fn silent<R: Net<Stream = TcpStream>>(
     rt: &R,
     alloc: Global,
     port: u16,
@@ -28,7 +28,7 @@ fn silent<R: Net<Stream = TcpStream> + Clock>(
 
 #[test]
 fn silent_connections_shut_nobody_out(rt: HostRuntime) -> Result<(), Missed> {
-    let port = new_served(rt, rt.alloc(), "silent.image", 48_875, Open)?;
+    let port = new_served(rt, rt.alloc(), "silent.image", Open)?;
     let streams = silent(&rt, rt.alloc(), port, 30)?;
     let mut one = joined_as(&rt, port, 1)?;
     one.works()?;
@@ -55,14 +55,14 @@ fn first_ends(streams: &mut [TcpStream]) -> Result<(), Missed> {
 
 #[test]
 fn the_oldest_silent_connection_ends(rt: HostRuntime) -> Result<(), Missed> {
-    let port = new_served(rt, rt.alloc(), "oldest_silent.image", 48_923, Open)?;
+    let port = new_served(rt, rt.alloc(), "oldest_silent.image", Open)?;
     let mut streams = silent(&rt, rt.alloc(), port, 65)?;
     first_ends(streams.as_mut_slice())?;
     Ok(())
 }
 
 // Opens sessions of all numbers up to this one.
-fn crowd<R: Net<Stream = TcpStream> + Clock>(
+fn crowd<R: Net<Stream = TcpStream>>(
     rt: &R,
     alloc: Global,
     port: u16,
@@ -79,10 +79,10 @@ fn crowd<R: Net<Stream = TcpStream> + Clock>(
 }
 
 // Tries to open one session too many.
-fn is_crowded<R: Net<Stream = TcpStream> + Clock>(rt: &R, port: u16) -> Result<(), Missed> {
+fn is_crowded<R: Net<Stream = TcpStream>>(rt: &R, port: u16) -> Result<(), Missed> {
     let mut stream = connected(rt, port)?;
     send(&mut stream, &header(0, 0, 0x0100_0000, 0))?;
-    comes(&mut stream, bare(2, 4))?;
+    expect_header(&mut stream, bare(2, 4))?;
     is_ended(&mut stream)
 }
 
@@ -93,7 +93,7 @@ fn last_ends(clients: &mut Vec<Client>) -> Result<(), Missed> {
     };
     send(&mut last.sync, &header(6, 0, 0, 5))?;
     send(&mut last.sync, b"FOO;\"")?;
-    last.status(1, 0)
+    last.poll(1, 0)
 }
 
 fn all_work(clients: &mut Vec<Client>) -> Result<(), Missed> {
@@ -106,7 +106,7 @@ fn all_work(clients: &mut Vec<Client>) -> Result<(), Missed> {
 // There are sixteen sessions; a number is used again once its session has ended, and inherits nothing.
 #[test]
 fn there_are_sixteen_sessions(rt: HostRuntime) -> Result<(), Missed> {
-    let port = new_served(rt, rt.alloc(), "sixteen_sessions.image", 48_877, Open)?;
+    let port = new_served(rt, rt.alloc(), "sixteen_sessions.image", Open)?;
     let mut clients = crowd(&rt, rt.alloc(), port, 16)?;
     is_crowded(&rt, port)?;
     all_work(&mut clients)?;
@@ -134,7 +134,7 @@ fn comes_and_goes<R: Net<Stream = TcpStream> + Clock>(rt: &R, port: u16) -> Resu
 
 #[test]
 fn clients_come_and_go(rt: HostRuntime) -> Result<(), Missed> {
-    let port = new_served(rt, rt.alloc(), "come_and_go.image", 48_879, Open)?;
+    let port = new_served(rt, rt.alloc(), "come_and_go.image", Open)?;
     comes_and_goes(&rt, port)?;
     let mut one = joined_again(&rt, port, 1)?;
     one.is_served()?;

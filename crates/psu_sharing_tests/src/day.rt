@@ -1,9 +1,9 @@
-// A day's typical use.
+//! A day's typical use.
 use psu_hosts::{Mismatch, plays};
 
 const DAY: &str = "
 # Twelve volts into ten ohms, where one ampere is the limit.
-== a_day.image 48881
+== a_day.image
 1 joins
 1 named
 1 continues VOLT 12;CURR 1;OUTP ON
@@ -13,29 +13,29 @@ const DAY: &str = "
 # What waits for the lock: a request, and a transmission.
 2 joins
 1 locks
-2 wants 10000
-2 quiet
+2 requests 10000
+2 async-silent
 2 says VOLT 3;VOLT?
 2 silent
 1 releases 1
-2 told 1
+2 lock-response 1
 2 hears 3.000
-2 counts 1 1
+2 lock-info 1 1
 2 releases 1
 
 # All answers are delivered; then service is to be requested where an operation is complete.
-1 status 1 00
-2 status 1 00
+1 polls 1 00
+2 polls 1 00
 1 says *CLS;*ESE 1;*SRE 32;*OPC
-1 called 60
-1 status 0 60
-1 status 0 20
-2 called 60
-2 status 0 60
-2 status 0 20
+1 srq 60
+1 polls 0 60
+1 polls 0 20
+2 srq 60
+2 polls 0 60
+2 polls 0 20
 1 asks *ESR? -> 1
-1 status 0 10
-1 status 1 00
+1 polls 0 10
+1 polls 1 00
 1 says VOLT 4
 1 clears
 1 named

@@ -1,4 +1,4 @@
-// Sessions that end, and connections that begin too slowly.
+//! Sessions that end, and connections that begin too slowly.
 use psu_client::{Client, Missed, is_ended, joined_again, joined_as, repeated, settle};
 use psu_hosts::{Mismatch, new_served, plays};
 use psu_server::Open;
@@ -6,53 +6,53 @@ use std::alloc::Global;
 use std::test::Fail;
 
 const ENDS: &str = "
-# A session begins to wait for the flusher, and ends: it ends at once, and the next of its number is told nothing of the wait.
-== wait_of_an_end.image 48883 run
+# A session begins to wait for the flusher, and ends: it ends at once, and the next of its number gets nothing of the wait.
+== wait_of_an_end.image run
 1 joins
 1 says *SAV 1;*OPC?
 1 silent
 1 leaves
 1 rejoins
-flusher goes
+flusher released
 1 named
 1 silent
 
 # What has not begun ten seconds after it was there ends, also where a byte of a header comes now and then.
-== slow_beginnings.image 48905
+== slow_beginnings.image
 1 joins
 a connects
 b connects
 c begins
 b sends 48
 c sends 48
-rest 700
+sleep 700
 b sends 53
 c sends 53
-rest 700
+sleep 700
 b sends 00
 c sends 00
-rest 700
+sleep 700
 b sends 00
 c sends 00
-rest 700
+sleep 700
 b sends 01
 c sends 01
-rest 700
+sleep 700
 b sends 00
 c sends 00
-rest 700
+sleep 700
 b sends 00
 c sends 00
-rest 700
+sleep 700
 b sends 00
 c sends 00
-rest 700
+sleep 700
 b sends 00
 c sends 00
-rest 700
+sleep 700
 b sends 00
 c sends 00
-rest 700
+sleep 700
 b silent
 c silent
 a ends
@@ -91,7 +91,7 @@ fn other_ends(client: Client) -> Result<(), Missed> {
 // The end of one connection ends the session.
 #[test]
 fn connections_end_together(rt: HostRuntime) -> Result<(), Missed> {
-    let port = new_served(rt, rt.alloc(), "ends.image", 48_885, Open)?;
+    let port = new_served(rt, rt.alloc(), "ends.image", Open)?;
     let one = joined_as(&rt, port, 1)?;
     let two = joined_as(&rt, port, 2)?;
     sync_ends(one)?;
@@ -111,7 +111,7 @@ fn says_and_goes(mut client: Client, text: &[u8]) -> Result<u8, Missed> {
 #[test]
 fn what_was_said_before_the_end_is_done(rt: HostRuntime) -> Result<(), Fail> {
     let alloc = rt.alloc();
-    let port = new_served(rt, alloc, "last_words.image", 48_935, Open)?;
+    let port = new_served(rt, alloc, "last_words.image", Open)?;
     let mut one = joined_as(&rt, port, 1)?;
     for volts in 1..=30u32 {
         let client = joined_again(&rt, port, 2)?;
@@ -127,32 +127,18 @@ fn what_was_said_before_the_end_is_done(rt: HostRuntime) -> Result<(), Fail> {
 // 65,000 units in nine messages are executed though both connections end at once, with no other session at work and with
 // one.
 const HANGS_UP: &str = "
-== hang_up_alone.image 48965
+== hang_up_alone.image
 1 joins
-1 says {VOLT 1;*7221}VOLT 2
-1 says {VOLT 1;*7221}VOLT 2
-1 says {VOLT 1;*7221}VOLT 2
-1 says {VOLT 1;*7221}VOLT 2
-1 says {VOLT 1;*7221}VOLT 2
-1 says {VOLT 1;*7221}VOLT 2
-1 says {VOLT 1;*7221}VOLT 2
-1 says {VOLT 1;*7221}VOLT 2
+8 times 1 says {VOLT 1;*7221}VOLT 2
 1 says {VOLT 1;*7223}VOLT 7
 1 leaves
 1 rejoins
 1 asks VOLT? -> 7.000
 
-== hang_up_beside_another.image 48967
+== hang_up_beside_another.image
 1 joins
 2 joins
-1 says {VOLT 1;*7221}VOLT 2
-1 says {VOLT 1;*7221}VOLT 2
-1 says {VOLT 1;*7221}VOLT 2
-1 says {VOLT 1;*7221}VOLT 2
-1 says {VOLT 1;*7221}VOLT 2
-1 says {VOLT 1;*7221}VOLT 2
-1 says {VOLT 1;*7221}VOLT 2
-1 says {VOLT 1;*7221}VOLT 2
+8 times 1 says {VOLT 1;*7221}VOLT 2
 1 says {VOLT 1;*7223}VOLT 7
 2 says {CURR 1;*9000}CURR 2
 1 leaves
@@ -188,7 +174,7 @@ fn says_much(client: &mut Client, alloc: Global) -> Result<(), Missed> {
 // Millions of units end with their session: its number is soon free.
 #[test]
 fn a_long_transmission_ends_with_its_session(rt: HostRuntime) -> Result<(), Missed> {
-    let port = new_served(rt, rt.alloc(), "millions_of_units.image", 48_937, Open)?;
+    let port = new_served(rt, rt.alloc(), "millions_of_units.image", Open)?;
     let mut one = joined_as(&rt, port, 1)?;
     says_much(&mut one, rt.alloc())?;
     settle(&rt);

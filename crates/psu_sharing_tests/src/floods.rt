@@ -1,28 +1,28 @@
-// Clients that do not read, and clients that flood.
+//! Clients that do not read, and clients that flood.
 use psu_hosts::{Mismatch, plays};
 
 const UNREAD: &str = "
 # A client that does not read its answer delays itself alone, and its session ends when it does.
-== unread_answer.image 48871
+== unread_answer.image
 1 joins
 2 joins
 1 much
 1 awaits
 pause
 2 works
-1 status 0 10
+1 polls 0 10
 1 leaves
 1 rejoins
 1 works
 
 # So does one that reads no status: status queries, 4,096 at once. A call for it and what it waits for delay nobody else; the one that calls is called
 # too.
-== unread_status.image 48909
+== unread_status.image
 1 joins
 2 joins
-2 swamps 4096 'HS 15 00 00*12
+2 async-floods 4096 'HS 15 00 00*12
 1 says *CLS;*ESE 1;*SRE 32;*OPC
-1 called 60
+1 srq 60
 1 works
 1 locks
 1 releases 1
@@ -38,8 +38,8 @@ fn a_client_that_does_not_read_delays_itself(rt: HostRuntime) -> Result<(), Mism
 
 const HELD_BACK: &str = "
 # Sessions that a lock denies are read no further at some time; the others work, and a clear begins. Transmissions of 65,520 bytes; Triggers, and
-# releases behind a unit that is held back, 4,096 at once.
-== floods.image 48873
+# releases after a unit that is held back, 4,096 at once.
+== floods.image
 1 joins
 1 locks
 2 joins
@@ -50,7 +50,7 @@ const HELD_BACK: &str = "
 3 floods 4096 'HS 0c 00 00*12
 4 joins
 4 says *IDN?
-4 swamps 4096 'HS 04 00 00*12
+4 async-floods 4096 'HS 04 00 00*12
 1 works
 3 clearing
 1 releases 1

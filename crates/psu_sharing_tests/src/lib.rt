@@ -1,7 +1,5 @@
 //! Tests over sockets of concurrent sessions: locks and releases, service requests, ends, crowds and floods. Expected
 //! frames are worked by hand from the profile of the protocol.
-//!
-//! Ports are odd: the system assigns even ones to clients, so no client's port conflicts with a server's.
 #![tactic(auto)]
 
 #[cfg(test)]

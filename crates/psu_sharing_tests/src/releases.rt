@@ -1,4 +1,4 @@
-// Releases of locks and the messages sent before them, on two connections.
+//! Releases of locks and the messages sent before them, on two connections.
 use psu_client::{Client, Missed, bare, holds, joined_as, next, send};
 use psu_hosts::new_served;
 use psu_server::Open;
@@ -16,9 +16,9 @@ fn hands_on(
     text: &[u8],
     answer: &[u8],
 ) -> Result<(), Missed> {
-    other.want_lock(10_000)?;
+    other.request_lock(10_000)?;
     holder.say_as(NEXT, text)?;
-    holder.let_lock_go(NEXT)?;
+    holder.request_release(NEXT)?;
     other.expect_lock_response(1)?;
     other.ask(b"VOLT?", answer)?;
     holder.expect_lock_response(1)
@@ -42,7 +42,7 @@ fn hands_round(one: &mut Client, two: &mut Client, alloc: Global) -> Result<(), 
 // The next holder of a lock sees all that was written under it.
 #[test]
 fn a_release_comes_after_what_was_written(rt: HostRuntime) -> Result<(), Missed> {
-    let port = new_served(rt, rt.alloc(), "written_before.image", 48_939, Open)?;
+    let port = new_served(rt, rt.alloc(), "written_before.image", Open)?;
     let mut one = joined_as(&rt, port, 1)?;
     let mut two = joined_as(&rt, port, 2)?;
     one.is_served()?;
@@ -57,7 +57,7 @@ fn taken<R: Clock>(rt: &R, client: &mut Client, number: u32) -> Result<Duration,
     let Ok(start) = Instant::now(rt) else {
         return Err(Missed::Ground("a clock"));
     };
-    client.let_lock_go(number)?;
+    client.request_release(number)?;
     client.expect_lock_response(1)?;
     start.elapsed(rt).map_err(|_| Missed::Ground("a clock"))
 }
@@ -84,7 +84,7 @@ fn waits_not<R: Clock>(rt: &R, client: &mut Client, number: u32) -> Result<(), M
 // The last message that was received has the number ffffff00; the next 65,536 may still come.
 #[test]
 fn a_release_waits_for_the_next_messages(rt: HostRuntime) -> Result<(), Missed> {
-    let port = new_served(rt, rt.alloc(), "message_to_come.image", 48_941, Open)?;
+    let port = new_served(rt, rt.alloc(), "message_to_come.image", Open)?;
     let mut one = joined_as(&rt, port, 1)?;
     one.is_served()?;
     waits_not(&rt, &mut one, 0xffff_ff00)?;
@@ -101,14 +101,14 @@ fn counts_anew(client: &mut Client, other: &mut Client) -> Result<(), Missed> {
     client.lock()?;
     client.clear()?;
     client.say(b"VOLT 2")?;
-    client.let_lock_go(client.last)?;
+    client.request_release(client.last)?;
     client.expect_lock_response(1)?;
     other.ask(b"VOLT?", b"2.000\n")
 }
 
 #[test]
 fn messages_are_counted_anew_behind_a_clear(rt: HostRuntime) -> Result<(), Missed> {
-    let port = new_served(rt, rt.alloc(), "counted_anew.image", 48_945, Open)?;
+    let port = new_served(rt, rt.alloc(), "counted_anew.image", Open)?;
     let mut one = joined_as(&rt, port, 1)?;
     let mut two = joined_as(&rt, port, 2)?;
     for _ in 0..100u32 {
@@ -134,7 +134,7 @@ fn ends_with_a_clear<R: Clock>(rt: &R, client: &mut Client) -> Result<(), Missed
         let Ok(start) = Instant::now(rt) else {
             return Err(Missed::Ground("a clock"));
         };
-        client.let_lock_go(NEXT)?;
+        client.request_release(NEXT)?;
         send(&mut client.other, &bare(19, 0))?;
         is_released_in_a_clear(client)?;
         client.end_clear()?;
@@ -151,7 +151,7 @@ fn ends_with_a_clear<R: Clock>(rt: &R, client: &mut Client) -> Result<(), Missed
 
 #[test]
 fn a_clear_ends_the_wait_of_a_release(rt: HostRuntime) -> Result<(), Missed> {
-    let port = new_served(rt, rt.alloc(), "clear_of_a_release.image", 48_943, Open)?;
+    let port = new_served(rt, rt.alloc(), "clear_of_a_release.image", Open)?;
     let mut one = joined_as(&rt, port, 1)?;
     one.is_served()?;
     ends_with_a_clear(&rt, &mut one)?;

@@ -3,7 +3,7 @@ use Rattle.std.proofs.Common.{◌≡◌, ℕ, ◌+◌, Bool, true, false, not, e
 use Rattle.std.specs.Prelude.{bit_and, ◌&&◌}
 use Rattle.std.specs.Int.Bits.{and_zero_l}
 use Rattle.std.proofs.lemmas.Nat.{and_comm, and_assoc}
-use Rattle.psu_status.specs.declared.enables.Enables.{Enables}
+use Rattle.psu_status.specs.declared.groups.Enables.{Enables}
 use Rattle.psu_status.specs.Status.{power_on, first_request, prescribed, bit}
 
 -- the first service request for this status byte; none where it misses all bits that SRE enables

@@ -1,8 +1,8 @@
 -- A group of status registers: condition, event and enable, with filters for rising and falling conditions.
 -- Source: SCPI-1999 volume 1, chapter 9.
 use Rattle.std.specs.Prelude.{ℕ, ◌<◌, ◌^◌, ◌==◌, not, Bool, bit_and, bit_or, bit_xor}
-use Rattle.psu_status.specs.declared.filter.Filter.{Filter}
-use Rattle.psu_status.specs.declared.filter.Filter.TheVariants.{Enable, Positive, Negative}
+use Rattle.psu_status.specs.declared.groups.Filter.{Filter}
+use Rattle.psu_status.specs.declared.groups.Filter.TheVariants.{Enable, Positive, Negative}
 use Rattle.psu_status.specs.declared.registers.Registers.{Registers}
 
 -- bit 15 is 0

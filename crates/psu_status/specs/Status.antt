@@ -4,9 +4,9 @@ use Rattle.std.specs.Prelude.{◌≡◌, ◌≤◌, ℕ, ◌+◌, ◌^◌, ◌==
 use Rattle.psu_lex.specs.Errors.{event_bit}
 use Rattle.psu_lex.specs.declared.scpi_error.ScpiError.{ScpiError}
 use Rattle.psu_lex.specs.declared.scpi_error.ScpiError.TheVariants.{QueueOverflow}
-use Rattle.psu_status.specs.declared.enables.Enables.{Enables}
-use Rattle.psu_status.specs.declared.group.Group.{Group}
-use Rattle.psu_status.specs.declared.group.Group.TheVariants.{Operation, Questionable}
+use Rattle.psu_status.specs.declared.groups.Enables.{Enables}
+use Rattle.psu_status.specs.declared.groups.Group.{Group}
+use Rattle.psu_status.specs.declared.groups.Group.TheVariants.{Operation, Questionable}
 use Rattle.psu_status.specs.declared.registers.Registers.{Registers}
 use Rattle.psu_status.specs.Registers.{HaveFifteenBits, fifteen_bits, preset, summary, without_events}
 

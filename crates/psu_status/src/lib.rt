@@ -3,13 +3,9 @@
 //! Sources: IEEE 488.2, chapter 11; SCPI-1999 volume 1, chapter 9, and volume 2, chapters 18 and 21.
 #![tactic(auto)]
 
-mod enables;
-mod filter;
-mod group;
+mod groups;
 mod registers;
 mod status;
 
-pub use enables::Enables;
-pub use filter::Filter;
-pub use group::Group;
+pub use groups::{Enables, Filter, Group};
 pub use status::Status;

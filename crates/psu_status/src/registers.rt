@@ -1,4 +1,4 @@
-// The registers of one group.
+//! The registers of one group.
 ghost use Rattle.std.specs.Prelude.{◌≡◌};
 ghost use Rattle.psu_status.specs.Registers.{preset, filter_of, with_filter, with_condition, without_events, summary, fifteen_bits, HaveFifteenBits};
 ghost use Rattle.psu_status.specs.Status.{standing};
@@ -10,7 +10,7 @@ const FIFTEEN_BITS: u16 = 32767;
 
 /// The registers of a group, each of 15 bits: bit 15 is always 0.
 #[derive(Clone, Copy, Debug, PartialEq, Eq)]
-pub struct Registers {
+pub(crate) struct Registers {
     pub condition: u16,
     pub event: u16,
     pub enable: u16,
@@ -20,7 +20,7 @@ pub struct Registers {
 
 impl Registers {
     /// Registers with no condition and no event, and the filters of PRESet.
-    pub fn new() -> Registers
+    pub(crate) fn new() -> Registers
         ensures registers { result ≡ preset (record { condition = 0; event = 0; enable = 0; positive = 0; negative = 0 }) }
         ensures fifteen { HaveFifteenBits result }
     {
@@ -34,7 +34,7 @@ impl Registers {
     }
 
     /// Registers with no event, the filters of PRESet, and this condition from the start, without bit 15.
-    pub fn standing(condition: u16) -> Registers
+    pub(crate) fn standing(condition: u16) -> Registers
         ensures registers { result ≡ standing (fifteen_bits condition) }
         ensures fifteen { HaveFifteenBits result }
     {
@@ -45,7 +45,7 @@ impl Registers {
 
     /// Sets the filters of PRESet: each rise is an event, no fall is one, and no event is enabled. Condition and events
     /// stay.
-    pub fn preset(&mut self)
+    pub(crate) fn preset(&mut self)
         ensures registers { self.new ≡ preset self.old }
         ensures fifteen { HaveFifteenBits self.old → HaveFifteenBits self.new }
     {
@@ -54,7 +54,7 @@ impl Registers {
         self.negative = 0;
     }
 
-    pub fn filter(&self, filter: Filter) -> u16
+    pub(crate) fn filter(&self, filter: Filter) -> u16
         ensures { result ≡ filter_of self.now filter }
     {
         match filter {
@@ -65,7 +65,7 @@ impl Registers {
     }
 
     /// Sets a filter, without bit 15. It makes no event.
-    pub fn set_filter(&mut self, filter: Filter, bits: u16)
+    pub(crate) fn set_filter(&mut self, filter: Filter, bits: u16)
         ensures registers { self.new ≡ with_filter self.old filter (fifteen_bits bits) }
         ensures fifteen { HaveFifteenBits self.old → HaveFifteenBits self.new }
     {
@@ -78,7 +78,7 @@ impl Registers {
     }
 
     /// Sets the condition, without bit 15, and the events of its rising and falling bits that pass the filters.
-    pub fn set_condition(&mut self, bits: u16)
+    pub(crate) fn set_condition(&mut self, bits: u16)
         ensures registers { self.new ≡ with_condition self.old (fifteen_bits bits) }
         ensures fifteen { HaveFifteenBits self.old → HaveFifteenBits self.new }
     {
@@ -91,7 +91,7 @@ impl Registers {
     }
 
     /// Returns the events, and clears them.
-    pub fn take_events(&mut self) -> u16
+    pub(crate) fn take_events(&mut self) -> u16
         ensures events { result ≡ self.old.event }
         ensures cleared { self.new ≡ without_events self.old }
         ensures fifteen { HaveFifteenBits self.old → HaveFifteenBits self.new }
@@ -102,7 +102,7 @@ impl Registers {
     }
 
     /// Whether an event is enabled.
-    pub fn summary(&self) -> bool
+    pub(crate) fn summary(&self) -> bool
         ensures { result ≡ summary self.now }
     {
         self.event & self.enable != 0

@@ -1,4 +1,4 @@
-// The status of the instrument.
+//! The status of the instrument.
 ghost use Rattle.std.specs.Prelude.{◌≡◌, ◌≤◌, length, drop};
 ghost use Rattle.psu_status.specs.Registers.{filter_of, with_filter, with_condition, without_events, fifteen_bits};
 ghost use Rattle.psu_status.specs.Status.{without_mss, raised, group_of, with_group, all_preset, status_byte, with_error, oldest, cleared, power_on, first_request, prescribed, summaries, enabled, polled, IsReported};
@@ -9,8 +9,8 @@ use arrayvec::ArrayVec;
 use psu_lex::ScpiError;
 use std::marker::Model;
 
-/// How many errors the queue holds.
-const QUEUE: usize = 16;
+/// The maximum number of errors in the queue.
+const ERRORS_MOST: usize = 16;
 
 /// Bit 7 of the event status register: power on.
 const PON: u8 = 128;
@@ -44,7 +44,7 @@ pub struct Status {
     ese: u8,
     operation: Registers,
     questionable: Registers,
-    errors: ArrayVec<ScpiError, QUEUE>,
+    errors: ArrayVec<ScpiError, ERRORS_MOST>,
 }
 
 impl Model for Status {
@@ -267,7 +267,7 @@ impl Status {
     {
         if self.errors.is_full() {
             self.esr |= error.event_bit() | ScpiError::QueueOverflow.event_bit();
-            self.errors.truncate(QUEUE - 1);
+            self.errors.truncate(ERRORS_MOST - 1);
             self.errors.push(ScpiError::QueueOverflow);
             return;
         }

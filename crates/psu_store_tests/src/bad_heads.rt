@@ -1,4 +1,4 @@
-// Heads that are refused, and heads that are valid up to the limits: keys, lengths, counts and pages.
+//! Heads that are refused, and heads that are valid up to the limits: keys, lengths, counts and pages.
 use crate::openings::is_found;
 use crate::spelled::{halves, number, put, put_word, spelled};
 use crate::trials::{Trial, rows_hold};
@@ -37,7 +37,7 @@ A page that is named twice: the head's own, the other head's, and one of the oth
 The key of the other head.
 1536: 02 02 09 00 00 00 01 00 01 00 04 -> bad root
 
-What stands behind a head's words, and behind a value, is not looked at.
+What follows a head's words, and a value, is not read.
 1546: ee*502 -> 2
 2049: ee*511 -> 2
 3160: ee*424 -> 2
@@ -49,11 +49,11 @@ fn the_words_of_a_head(rt: HostRuntime) {
 }
 
 /// The number of bytes of an image of limit 100.
-pub const GREAT: u64 = 103_424;
+pub(crate) const GREAT: u64 = 103_424;
 
 /// An image of limit 100 with one head, on page 2. The words after it are the pages from 3 to 68 where its key has 65
 /// bytes.
-pub const ONE_HEAD: &str = "
+pub(crate) const ONE_HEAD: &str = "
 0: a5 'PSU 00 02 00 64 00*7 01 00 01 00 02;
 1096: 00 03 00 04 00 05 00 06 00 07 00 08 00 09 00 0a 00 0b 00 0c 00 0d 00 0e 00 0f 00 10 00 11 00 12;
 1128: 00 13 00 14 00 15 00 16 00 17 00 18 00 19 00 1a 00 1b 00 1c 00 1d 00 1e 00 1f 00 20 00 21 00 22;
@@ -109,7 +109,7 @@ fn word(rt: &impl Abort, text: &str) -> u16 {
 
 /// Whether an opening finds an image of this limit with as many items as wanted. The second root is current, with the
 /// number 9.
-pub fn is_filled<A: Allocator + Copy>(
+pub(crate) fn is_filled<A: Allocator + Copy>(
     rt: &impl Abort,
     alloc: A,
     filled: &str,

@@ -1,4 +1,4 @@
-// Roots that are refused, and roots that are valid though they differ: what is checked, and in which order.
+//! Roots that are refused, and roots that are valid though they differ: what is checked, and in which order.
 use crate::holds::holds;
 use crate::openings::{IMAGE, SIZE, is_found};
 use crate::spelled::{number, spelled};
@@ -54,7 +54,7 @@ The number: any is good.
 8: 00*8 -> 2
 8: ff*8 -> 2
 
-What stands behind the names is not looked at.
+What follows the names is not read.
 22: ee*490 -> 2
 ";
 
@@ -70,7 +70,7 @@ const HEADS_OF_A_ROOT: &str = "
 16: 00 02 00 05 00 03 -> 2
 16: 00 01 00 05 -> 1
 
-The roots' pages, and the first behind the pool.
+The roots' pages, and the first after the pool.
 16: 00 02 00 03 00 00 -> bad root
 16: 00 02 00 01 00 05 -> bad root
 16: 00 02 00 03 00 0e -> bad root
@@ -128,7 +128,12 @@ const SIZES: &str = "
 const EMPTY: &str = "0: a5 'PSU 00 02 00 04 00*7 01";
 
 /// Whether an opening of a disk of this many bytes with this root finds what is wanted.
-pub fn is_sized<A: Allocator + Copy>(rt: &impl Abort, alloc: A, size: &str, wanted: &str) -> bool {
+pub(crate) fn is_sized<A: Allocator + Copy>(
+    rt: &impl Abort,
+    alloc: A,
+    size: &str,
+    wanted: &str,
+) -> bool {
     let disk = spelled(rt, alloc, number(rt, size), EMPTY);
     is_found(alloc, disk, wanted)
 }

@@ -1,16 +1,16 @@
-// Batches as texts, and maps as the batches that assign their items.
+//! Batches as texts, and maps as the batches that assign their items.
 use psu_items::{Batch, Edit, Items, Pair, Value};
 use psu_tables::bytes;
 use std::alloc::Allocator;
 use std::process::Abort;
 
 /// Returns the bytes that a text has in hexadecimal digits.
-pub fn bytes_in<A: Allocator>(rt: &impl Abort, alloc: A, text: &str) -> Vec<u8, A> {
+pub(crate) fn bytes_in<A: Allocator>(rt: &impl Abort, alloc: A, text: &str) -> Vec<u8, A> {
     bytes(alloc, text).expect(rt, "a text of bytes")
 }
 
 /// Returns a value of these bytes.
-pub fn value_of<A: Allocator + Copy>(rt: &impl Abort, bytes: Vec<u8, A>) -> Value<A> {
+pub(crate) fn value_of<A: Allocator + Copy>(rt: &impl Abort, bytes: Vec<u8, A>) -> Value<A> {
     Value::new(bytes).expect(rt, "memory for a value")
 }
 
@@ -38,7 +38,7 @@ fn add<A: Allocator + Copy>(rt: &impl Abort, alloc: A, batch: &mut Batch<A>, edi
 
 /// Returns the batch of a text, its bytes in hexadecimal digits: `01 = 24; 02` assigns the value 36 to the key 1, and
 /// removes the key 2. An empty text is an empty batch.
-pub fn edits<A: Allocator + Copy>(rt: &impl Abort, alloc: A, text: &str) -> Batch<A> {
+pub(crate) fn edits<A: Allocator + Copy>(rt: &impl Abort, alloc: A, text: &str) -> Batch<A> {
     let mut batch = Batch::new(alloc);
     for edit in text.split(";") {
         if !edit.is_empty() {
@@ -49,12 +49,12 @@ pub fn edits<A: Allocator + Copy>(rt: &impl Abort, alloc: A, text: &str) -> Batc
 }
 
 /// Copies bytes to memory of their own.
-pub fn copy_of<A: Allocator>(rt: &impl Abort, alloc: A, bytes: &[u8]) -> Vec<u8, A> {
+pub(crate) fn copy_of<A: Allocator>(rt: &impl Abort, alloc: A, bytes: &[u8]) -> Vec<u8, A> {
     bytes.to_vec(alloc).expect(rt, "memory for bytes")
 }
 
 /// Adds a value of one byte for a key of one byte.
-pub fn assign<A: Allocator + Copy>(
+pub(crate) fn assign<A: Allocator + Copy>(
     rt: &impl Abort,
     alloc: A,
     batch: &mut Batch<A>,
@@ -65,7 +65,7 @@ pub fn assign<A: Allocator + Copy>(
 }
 
 /// Returns a batch that assigns a value of one byte to each key of one byte from the first to before the last.
-pub fn each_of<A: Allocator + Copy>(
+pub(crate) fn each_of<A: Allocator + Copy>(
     rt: &impl Abort,
     alloc: A,
     (first, last): (u8, u8),
@@ -79,7 +79,7 @@ pub fn each_of<A: Allocator + Copy>(
 }
 
 /// Copies a batch.
-pub fn copied<A: Allocator + Copy>(rt: &impl Abort, alloc: A, batch: &Batch<A>) -> Batch<A> {
+pub(crate) fn copied<A: Allocator + Copy>(rt: &impl Abort, alloc: A, batch: &Batch<A>) -> Batch<A> {
     batch.copy(alloc).expect(rt, "memory for a batch")
 }
 
@@ -89,7 +89,7 @@ fn is<A: Allocator + Copy>(pair: &Pair<A>, edit: &Edit<A>) -> bool {
 }
 
 /// Whether a map has exactly the items that a batch assigns in the order of their keys.
-pub fn is_map<A: Allocator + Copy>(items: &Items<A>, want: &Batch<A>) -> bool {
+pub(crate) fn is_map<A: Allocator + Copy>(items: &Items<A>, want: &Batch<A>) -> bool {
     for (pair, edit) in items.pairs().iter().zip(want.edits()) {
         if !is(pair, edit) {
             return false;
@@ -99,7 +99,7 @@ pub fn is_map<A: Allocator + Copy>(items: &Items<A>, want: &Batch<A>) -> bool {
 }
 
 /// Whether a map has exactly the items that a text assigns in the order of their keys.
-pub fn is_just<A: Allocator + Copy>(
+pub(crate) fn is_just<A: Allocator + Copy>(
     rt: &impl Abort,
     alloc: A,
     items: &Items<A>,

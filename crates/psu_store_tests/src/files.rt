@@ -1,4 +1,4 @@
-// Disks in files: which are refused, also one in use, and what a file keeps.
+//! Disks in files: which are refused, also one in use, and what a file keeps.
 use crate::holds::holds;
 use crate::spelled::{put, word_at};
 use psu_disk::{Disk, FileDisk, OpenFault, OsFiles};
@@ -9,7 +9,7 @@ use std::process::Abort;
 use std::rt::Files;
 
 /// Returns a disk of this many bytes in a new file of this name.
-pub fn new_disk(
+pub(crate) fn new_disk(
     rt: &(impl Abort + Files<File = File>),
     alloc: Global,
     name: &str,
@@ -20,14 +20,14 @@ pub fn new_disk(
 }
 
 /// Changes the length of a file without the knowledge of the disk in it.
-pub fn set_length(rt: &(impl Abort + Files<File = File>), name: &str, length: u64) {
+pub(crate) fn set_length(rt: &(impl Abort + Files<File = File>), name: &str, length: u64) {
     let mut options = OpenOptions::new();
     let file = options.write(true).open(rt, name).expect(rt, "the file");
     file.set_len(length).expect(rt, "a length");
 }
 
 /// Removes a file.
-pub fn remove(rt: &(impl Abort + Files<File = File>), name: &str) {
+pub(crate) fn remove(rt: &(impl Abort + Files<File = File>), name: &str) {
     std::fs::remove_file(rt, name).expect(rt, "the file");
 }
 

@@ -1,4 +1,4 @@
-// A medium in memory that forgets at a failed sync, like a file on a system with a page cache.
+//! A medium in memory that forgets at a failed sync, like a file on a system with a page cache.
 ghost use Rattle.std.specs.Prelude.{◌≡◌, ℕ, ◌+◌, ◌<◌, ◌≤◌, length, replicate, true, false, slice_index, slice_index_or, IfOk};
 ghost use Rattle.psu_disk.specs.Disk.{IsCrashImage, Holds, IsSynced};
 ghost use Rattle.psu_disk.specs.Loss.{lost};

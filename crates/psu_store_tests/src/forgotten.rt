@@ -1,5 +1,5 @@
-// Syncs that fail on a medium that forgets, and a power loss after them: what a store confirmed is still there, over a
-// disk that writes it again.
+//! Syncs that fail on a medium that forgets, and a power loss after them: what a store confirmed is still there, over a
+//! disk that writes it again.
 ghost use Rattle.std.specs.Prelude.{◌≡◌, ℕ, false, slice_index_or};
 
 use crate::edits::each_of;

@@ -1,5 +1,5 @@
-// Images byte for byte: after a format, and after one commit and two. Which free pages a commit takes is not specified,
-// so they are read from the image; all other bytes are known.
+//! Images byte for byte: after a format, and after one commit and two. Which free pages a commit takes is not specified,
+//! so they are read from the image; all other bytes are known.
 ghost use Rattle.std.specs.Prelude.{◌≡◌, ◌*◌};
 
 use crate::holds::holds;

@@ -1,4 +1,4 @@
-// Images that the store itself makes.
+//! Images that the store itself makes.
 ghost use Rattle.std.specs.Prelude.{IsTrue, ◌+◌, ◌*◌, ◌≤◌};
 
 use crate::edits::edits;
@@ -20,7 +20,7 @@ fn has_room(limit: u16, size: u64) -> bool
 
 /// Returns a store of an empty map of this limit on a disk that is formatted for it. The limit and the room are ones
 /// that an image can have.
-pub fn laid_out<D: Disk + Drop, A: Allocator + Copy>(
+pub(crate) fn laid_out<D: Disk + Drop, A: Allocator + Copy>(
     rt: &impl Abort,
     alloc: A,
     disk: D,
@@ -33,7 +33,7 @@ pub fn laid_out<D: Disk + Drop, A: Allocator + Copy>(
 }
 
 /// Returns a disk that was formatted for an empty map of this limit.
-pub fn formatted_over<D: Disk + Drop, A: Allocator + Copy>(
+pub(crate) fn formatted_over<D: Disk + Drop, A: Allocator + Copy>(
     rt: &impl Abort,
     alloc: A,
     disk: D,
@@ -43,7 +43,7 @@ pub fn formatted_over<D: Disk + Drop, A: Allocator + Copy>(
 }
 
 /// Returns a disk of this many bytes that was formatted for an empty map of this limit.
-pub fn formatted<A: Allocator + Copy>(
+pub(crate) fn formatted<A: Allocator + Copy>(
     rt: &impl Abort,
     alloc: A,
     size: u64,
@@ -53,12 +53,12 @@ pub fn formatted<A: Allocator + Copy>(
 }
 
 /// Returns a disk of 5,120 bytes that holds an empty map of limit 4.
-pub fn empty<A: Allocator + Copy>(rt: &impl Abort, alloc: A) -> MemDisk<A> {
+pub(crate) fn empty<A: Allocator + Copy>(rt: &impl Abort, alloc: A) -> MemDisk<A> {
     formatted(rt, alloc, 5_120, 4)
 }
 
 /// Returns the store on a disk after the commit of a batch, given as a text.
-pub fn store_with<D: Disk + Drop, A: Allocator + Copy>(
+pub(crate) fn store_with<D: Disk + Drop, A: Allocator + Copy>(
     rt: &impl Abort,
     alloc: A,
     disk: D,
@@ -69,7 +69,7 @@ pub fn store_with<D: Disk + Drop, A: Allocator + Copy>(
 }
 
 /// Returns the disk after the commit of a batch, given as a text.
-pub fn changed<D: Disk + Drop, A: Allocator + Copy>(
+pub(crate) fn changed<D: Disk + Drop, A: Allocator + Copy>(
     rt: &impl Abort,
     alloc: A,
     disk: D,

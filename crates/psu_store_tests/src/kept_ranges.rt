@@ -1,4 +1,4 @@
-// The ranges that a disk keeps to write them again, at the limit of the room for them.
+//! The ranges that a disk keeps to write them again, at the limit of the room for them.
 use crate::ForgettingMedium;
 use crate::passing_disk::PassingDisk;
 use crate::spelled::{bytes_of, halves, number, write};
@@ -75,7 +75,7 @@ fn are_kept<A: Allocator + Copy>(
 }
 
 /// Whether a row holds on ranges that are written before a sync that fails.
-pub fn are_as_wanted<A: Allocator + Copy>(
+pub(crate) fn are_as_wanted<A: Allocator + Copy>(
     rt: &impl Abort,
     alloc: A,
     written: &str,

@@ -1,4 +1,4 @@
-// Power losses during a commit and during the opening that follows, and disks that fail once.
+//! Power losses during a commit and during the opening that follows, and disks that fail once.
 use crate::edits::copied;
 use crate::holds::holds;
 use crate::images::{changed, empty, formatted};
@@ -154,7 +154,7 @@ fn second_losses_change_nothing<A: Allocator + Copy>(rt: &impl Abort, alloc: A, 
 
 /// Checks that the commit is stored where nothing fails. A power loss during it leaves the map before it or the target,
 /// and a second one, during the opening that follows, changes nothing.
-pub fn losses_leave_a_map<A: Allocator + Copy>(rt: &impl Abort, alloc: A, scene: &Scene<A>) {
+pub(crate) fn losses_leave_a_map<A: Allocator + Copy>(rt: &impl Abort, alloc: A, scene: &Scene<A>) {
     is_stored(rt, alloc, scene, remade(rt, alloc, &scene.image));
     each_loss_leaves_a_map(rt, alloc, scene);
     second_losses_change_nothing(rt, alloc, scene);
@@ -235,12 +235,12 @@ fn continues<D: Disk + Drop, A: Allocator + Copy>(
 ) {
     if again {
         let store = stored(rt, alloc, store, copied(rt, alloc, &scene.batch));
-        stands(rt, alloc, scene, store.into_disk());
+        has_target(rt, alloc, scene, store.into_disk());
     }
 }
 
 // Checks that a disk that failed twice has the target.
-fn stands<D: Disk + Drop, A: Allocator + Copy>(
+fn has_target<D: Disk + Drop, A: Allocator + Copy>(
     rt: &impl Abort,
     alloc: A,
     scene: &Scene<A>,

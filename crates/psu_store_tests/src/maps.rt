@@ -1,4 +1,4 @@
-// The map of items without a store.
+//! The map of items without a store.
 use crate::edits::{copy_of, edits, is_just, value_of};
 use crate::holds::holds;
 use crate::spelled::number;
@@ -55,7 +55,12 @@ The value of a file of 29,183 bytes, and of one of 32,768.
 ";
 
 /// Whether a map of these items costs this many pages.
-pub fn costs<A: Allocator + Copy>(rt: &impl Abort, alloc: A, items: &str, pages: &str) -> bool {
+pub(crate) fn costs<A: Allocator + Copy>(
+    rt: &impl Abort,
+    alloc: A,
+    items: &str,
+    pages: &str,
+) -> bool {
     map_of(rt, alloc, items).cost() == u128::from(number(rt, pages))
 }
 

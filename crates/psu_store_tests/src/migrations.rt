@@ -1,4 +1,4 @@
-// Images of version 1: read unchanged, and converted to version 2 by the next commit, at whatever call power is lost.
+//! Images of version 1: read unchanged, and converted to version 2 by the next commit, at whatever call power is lost.
 use crate::images::changed;
 use crate::losses::losses_leave_a_map;
 use crate::openings::SIZE;
@@ -12,7 +12,7 @@ use std::process::Abort;
 
 /// An image of version 1 and limit 6 whose second root, with the number 2, names the head on page 3: the key 1 with the
 /// value 10 on page 4.
-pub const OLD: &str = "
+pub(crate) const OLD: &str = "
  512: a5 'PSU 00 01 00 06 00*7 02 00 01 00 03;
 1536: 01 01 00 00 00 01 00 01 00 04;
 2048: 0a
@@ -53,7 +53,12 @@ fn old_with<A: Allocator + Copy>(rt: &impl Abort, alloc: A, parts: &str) -> MemD
 }
 
 /// Whether the old image with these parts written over it has the others afterwards, and no other byte has changed.
-pub fn becomes<A: Allocator + Copy>(rt: &impl Abort, alloc: A, given: &str, wanted: &str) -> bool {
+pub(crate) fn becomes<A: Allocator + Copy>(
+    rt: &impl Abort,
+    alloc: A,
+    given: &str,
+    wanted: &str,
+) -> bool {
     let (word, parts) = halves(rt, given, " ");
     let disk = after(rt, alloc, old_with(rt, alloc, parts), word);
     are_alike(rt, alloc, disk, old_with(rt, alloc, wanted))
@@ -64,10 +69,10 @@ const WRITTEN: &str = "
 An opening leaves each byte of an image.
 opened 512: a5 -> 512: a5
 
-But it closes an older gate that stands open.
+But it closes an older gate that is open.
 opened 0: a5 'PSU 00 01 00 06 00*7 01 -> 0: 00 'PSU 00 01 00 06 00*7 01
 
-The root that an empty batch writes is of version 2 and has the next number. It names the head where it stands.
+The root that an empty batch writes is of version 2 and has the next number. It names the head where it is.
 committed 512: a5 -> 0: a5 'PSU 00 02 00 06 00*7 03 00 01 00 03; 512: 00
 ";
 

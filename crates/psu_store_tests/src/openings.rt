@@ -1,5 +1,5 @@
-// The result of opening images that are spelled: the number of items, or why none is found. Each row of a table writes
-// parts over an image.
+//! The result of opening images that are spelled: the number of items, or why none is found. Each row of a table writes
+//! parts over an image.
 use crate::spelled::{spelled, with_parts};
 use psu_disk::Disk;
 use psu_items::{BadImage, OpenCause, Store};
@@ -7,11 +7,11 @@ use std::alloc::Allocator;
 use std::process::Abort;
 
 /// The number of bytes of an image of limit 6.
-pub const SIZE: u64 = 7_168;
+pub(crate) const SIZE: u64 = 7_168;
 
 /// An image of limit 6 whose first root, with the number 1, names the heads on pages 3 and 5: the key 1 with the value
 /// 36 on page 4, and the key 2, 9 with 600 bytes on pages 7 and 6.
-pub const IMAGE: &str = "
+pub(crate) const IMAGE: &str = "
    0: a5 'PSU 00 02 00 06 00*7 01 00 02 00 03 00 05;
 1536: 01 01 00 00 00 01 00 01 00 04;
 2048: 24;
@@ -40,13 +40,17 @@ fn found<D: Disk + Drop, A: Allocator + Copy>(alloc: A, disk: D) -> Result<usize
 }
 
 /// Whether the result of opening a disk is the one that a table wants.
-pub fn is_found<D: Disk + Drop, A: Allocator + Copy>(alloc: A, disk: D, wanted: &str) -> bool {
+pub(crate) fn is_found<D: Disk + Drop, A: Allocator + Copy>(
+    alloc: A,
+    disk: D,
+    wanted: &str,
+) -> bool {
     is_wanted(found(alloc, disk), wanted)
 }
 
 /// Whether the result of opening an image of this many bytes is the one that a table wants, with parts written over it:
 /// `512: a5 'PSU; 527: 01 -> bad root`.
-pub fn is_spelled<A: Allocator + Copy>(
+pub(crate) fn is_spelled<A: Allocator + Copy>(
     rt: &impl Abort,
     alloc: A,
     (size, image, parts): (u64, &str, &str),

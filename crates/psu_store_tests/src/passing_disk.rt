@@ -1,4 +1,4 @@
-// A disk that passes each call on to its medium, and trusts a sync that succeeds after one that failed.
+//! A disk that passes each call on to its medium, and trusts a sync that succeeds after one that failed.
 ghost use Rattle.std.specs.Prelude.{◌≡◌};
 ghost use Rattle.psu_disk.specs.Disk.{HasCause};
 
@@ -7,19 +7,19 @@ use psu_disk::{Disk, DiskFault, Medium};
 /// A disk over a medium with nothing between them. Nothing is claimed of its bytes: after a sync that failed it loses
 /// some.
 #[derive(Drop)]
-pub struct PassingDisk<M: Medium> {
+pub(crate) struct PassingDisk<M: Medium> {
     medium: M,
     faults: u64,
 }
 
 impl<M: Medium> PassingDisk<M> {
     /// Returns the disk over a medium.
-    pub fn new(medium: M) -> PassingDisk<M> {
+    pub(crate) fn new(medium: M) -> PassingDisk<M> {
         PassingDisk { medium, faults: 0 }
     }
 
     /// Returns the medium below it.
-    pub fn into_inner(self) -> M {
+    pub(crate) fn into_inner(self) -> M {
         let PassingDisk { medium, faults: _ } = self;
         medium
     }

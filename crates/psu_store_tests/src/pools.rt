@@ -1,4 +1,4 @@
-// Full pools, of which every page is used again, and the last number that a root may have.
+//! Full pools, of which every page is used again, and the last number that a root may have.
 use crate::edits::{assign, copied, each_of, edits, is_map};
 use crate::holds::holds;
 use crate::images::{changed, empty, formatted, store_with};
@@ -101,7 +101,7 @@ fn sixty_commits_in_a_pool_that_is_full(rt: HostRuntime) {
 }
 
 // Returns a batch that drops the key 0, and assigns this value to the key 200.
-fn moved<A: Allocator + Copy>(rt: &impl Abort, alloc: A, value: u8) -> Batch<A> {
+fn reassigned<A: Allocator + Copy>(rt: &impl Abort, alloc: A, value: u8) -> Batch<A> {
     let mut batch = edits(rt, alloc, "00");
     assign(rt, alloc, &mut batch, (200, value));
     batch
@@ -115,7 +115,7 @@ fn passed_on<D: Disk + Drop, A: Allocator + Copy>(
     value: u8,
 ) -> Store<D, A> {
     let store = stored(rt, alloc, store, each_of(rt, alloc, (0, 1), value));
-    let store = stored(rt, alloc, store, moved(rt, alloc, value));
+    let store = stored(rt, alloc, store, reassigned(rt, alloc, value));
     let store = stored(rt, alloc, store, edits(rt, alloc, "c8"));
     has_map(rt, alloc, &store, "01 = 63");
     store

@@ -1,4 +1,4 @@
-// Commits during which power is lost: the image before one, its batch, and the maps before and after it.
+//! Commits during which power is lost: the image before one, its batch, and the maps before and after it.
 use crate::edits::{edits, is_map};
 use crate::spelled::bytes_of;
 use psu_disk::Disk;
@@ -8,28 +8,28 @@ use std::process::Abort;
 
 /// The properties of an image before a commit: those of its store, and the number of disk calls.
 #[derive(Clone, Copy, Drop)]
-pub struct Counts {
+pub(crate) struct Counts {
     /// The limit of the image.
-    pub limit: u16,
+    pub(crate) limit: u16,
     /// The version of its root.
-    pub version: u16,
+    pub(crate) version: u16,
     /// The number of its root.
-    pub number: u64,
+    pub(crate) number: u64,
     /// The calls of its opening.
-    pub opening: u64,
+    pub(crate) opening: u64,
     /// The calls of the commit.
-    pub commit: u64,
+    pub(crate) commit: u64,
 }
 
 /// A commit on an image.
 #[derive(Drop)]
-pub struct Scene<A: Allocator + Copy> {
+pub(crate) struct Scene<A: Allocator + Copy> {
     /// The bytes of the image.
-    pub image: Vec<u8, A>,
+    pub(crate) image: Vec<u8, A>,
     /// The changes of the commit.
-    pub batch: Batch<A>,
+    pub(crate) batch: Batch<A>,
     /// The properties of its store, and the numbers of calls.
-    pub counts: Counts,
+    pub(crate) counts: Counts,
     // The maps before it and after it, as the batches that assign their items.
     before: Batch<A>,
     after: Batch<A>,
@@ -37,7 +37,7 @@ pub struct Scene<A: Allocator + Copy> {
 
 impl<A: Allocator + Copy> Scene<A> {
     /// Returns the commit of a batch on a disk. The texts are the batch, the map before it, and the map after it.
-    pub fn of<D: Disk + Drop>(
+    pub(crate) fn of<D: Disk + Drop>(
         rt: &impl Abort,
         alloc: A,
         disk: D,
@@ -54,7 +54,7 @@ impl<A: Allocator + Copy> Scene<A> {
     }
 
     /// Whether a map is the one after the commit, rather than the one before. `None` where it is neither.
-    pub fn is_target(&self, items: &Items<A>) -> Option<bool> {
+    pub(crate) fn is_target(&self, items: &Items<A>) -> Option<bool> {
         let is_after = is_map(items, &self.after);
         (is_map(items, &self.before) != is_after).then_some(is_after)
     }
@@ -68,13 +68,13 @@ impl<A: Allocator + Copy> Scene<A> {
     }
 
     /// Whether a store has the target, rather than the map before. `None` where it has neither.
-    pub fn has_target<D: Disk>(&self, store: &Store<D, A>) -> Option<bool> {
+    pub(crate) fn has_target<D: Disk>(&self, store: &Store<D, A>) -> Option<bool> {
         let is_target = self.is_target(store.items())?;
         self.is_numbered(store, is_target).then_some(is_target)
     }
 
     /// Whether an opening of a disk finds the target, rather than the map before. `None` where it finds neither.
-    pub fn finds_target<D: Disk + Drop>(&self, alloc: A, disk: D) -> Option<bool> {
+    pub(crate) fn finds_target<D: Disk + Drop>(&self, alloc: A, disk: D) -> Option<bool> {
         match Store::open(alloc, disk) {
             Ok(store) => self.has_target(&store),
             Err(_) => None,

@@ -5,7 +5,7 @@ use psu_disk::{DiskFault, FileCalls, FileFacts, FileSystem, LockAnswer, OpenFaul
 
 /// A call of those that make a new file.
 #[derive(Clone, Copy, Debug, PartialEq, Eq, Drop)]
-pub enum Step {
+pub(crate) enum Step {
     Write,
     SyncAll,
     SyncFolder,
@@ -13,11 +13,11 @@ pub enum Step {
 
 /// What the system answers.
 #[derive(Clone, Copy, Debug, Drop)]
-pub struct Script {
+pub(crate) struct Script {
     /// To an attempt to lock a file.
-    pub lock: LockAnswer,
+    pub(crate) lock: LockAnswer,
     /// The calls that fail.
-    pub fails: Option<Step>,
+    pub(crate) fails: Option<Step>,
 }
 
 impl Script {
@@ -33,7 +33,7 @@ impl Script {
 
 /// A file of such a system. It keeps no bytes.
 #[derive(Drop)]
-pub struct ScriptedFile {
+pub(crate) struct ScriptedFile {
     script: Script,
     size: u64,
 }
@@ -97,10 +97,10 @@ impl FileCalls for ScriptedFile {
 
 /// Such a file system.
 #[derive(Drop)]
-pub struct ScriptedFiles {
-    pub script: Script,
+pub(crate) struct ScriptedFiles {
+    pub(crate) script: Script,
     /// Whether a file is at the path.
-    pub is_there: bool,
+    pub(crate) is_there: bool,
 }
 
 impl FileSystem<ScriptedFile> for ScriptedFiles {

@@ -1,11 +1,11 @@
-// Images that are spelled byte by byte, as the table of the format has them.
+//! Images that are spelled byte by byte, as the table of the format has them.
 use crate::edits::bytes_in;
 use psu_disk::{Disk, MemDisk};
 use std::alloc::Allocator;
 use std::process::Abort;
 
 /// Writes bytes, for which the disk has room there.
-pub fn write<D: Disk>(rt: &impl Abort, disk: &mut D, at: u64, bytes: &[u8]) {
+pub(crate) fn write<D: Disk>(rt: &impl Abort, disk: &mut D, at: u64, bytes: &[u8]) {
     let size = disk.size();
     assert!(rt; at <= size);
     assert!(rt; bytes.len() as u64 <= size - at);
@@ -13,23 +13,23 @@ pub fn write<D: Disk>(rt: &impl Abort, disk: &mut D, at: u64, bytes: &[u8]) {
 }
 
 /// Writes bytes to a disk, and syncs them.
-pub fn put<D: Disk>(rt: &impl Abort, disk: &mut D, at: u64, bytes: &[u8]) {
+pub(crate) fn put<D: Disk>(rt: &impl Abort, disk: &mut D, at: u64, bytes: &[u8]) {
     write(rt, disk, at, bytes);
     disk.sync().expect(rt, "a sync");
 }
 
 /// Writes a word of two bytes to a disk, and syncs it.
-pub fn put_word<D: Disk>(rt: &impl Abort, disk: &mut D, at: u64, word: u16) {
+pub(crate) fn put_word<D: Disk>(rt: &impl Abort, disk: &mut D, at: u64, word: u16) {
     put(rt, disk, at, &word.to_be_bytes());
 }
 
 /// Returns the number that a text has.
-pub fn number(rt: &impl Abort, text: &str) -> u64 {
+pub(crate) fn number(rt: &impl Abort, text: &str) -> u64 {
     text.parse().ok().expect(rt, "a number")
 }
 
 /// Returns the two parts of a text with these letters between them.
-pub fn halves<'t>(rt: &impl Abort, text: &'t str, between: &str) -> (&'t str, &'t str) {
+pub(crate) fn halves<'t>(rt: &impl Abort, text: &'t str, between: &str) -> (&'t str, &'t str) {
     text.split_once(between).expect(rt, "two parts")
 }
 
@@ -40,19 +40,24 @@ fn put_part<D: Disk, A: Allocator>(rt: &impl Abort, alloc: A, disk: &mut D, part
 }
 
 /// Writes parts to a disk, each with its place: `512: a5 'PSU; 527: 01`.
-pub fn put_all<D: Disk, A: Allocator + Copy>(rt: &impl Abort, alloc: A, disk: &mut D, parts: &str) {
+pub(crate) fn put_all<D: Disk, A: Allocator + Copy>(
+    rt: &impl Abort,
+    alloc: A,
+    disk: &mut D,
+    parts: &str,
+) {
     for part in parts.split(";") {
         put_part(rt, alloc, disk, part);
     }
 }
 
 /// Returns a disk of this many bytes 00.
-pub fn zeros<A: Allocator + Copy>(rt: &impl Abort, alloc: A, size: u64) -> MemDisk<A> {
+pub(crate) fn zeros<A: Allocator + Copy>(rt: &impl Abort, alloc: A, size: u64) -> MemDisk<A> {
     MemDisk::new(alloc, size).expect(rt, "memory for a disk")
 }
 
 /// Returns a disk of this many bytes 00 except for these parts.
-pub fn spelled<A: Allocator + Copy>(
+pub(crate) fn spelled<A: Allocator + Copy>(
     rt: &impl Abort,
     alloc: A,
     size: u64,
@@ -62,7 +67,7 @@ pub fn spelled<A: Allocator + Copy>(
 }
 
 /// Returns a disk with these parts written over its bytes.
-pub fn with_parts<D: Disk, A: Allocator + Copy>(
+pub(crate) fn with_parts<D: Disk, A: Allocator + Copy>(
     rt: &impl Abort,
     alloc: A,
     mut disk: D,
@@ -73,7 +78,7 @@ pub fn with_parts<D: Disk, A: Allocator + Copy>(
 }
 
 /// Returns all bytes of a disk.
-pub fn bytes_of<D: Disk + Drop, A: Allocator + Copy>(
+pub(crate) fn bytes_of<D: Disk + Drop, A: Allocator + Copy>(
     rt: &impl Abort,
     alloc: A,
     mut disk: D,
@@ -84,7 +89,7 @@ pub fn bytes_of<D: Disk + Drop, A: Allocator + Copy>(
 }
 
 /// Whether two disks have the same bytes.
-pub fn are_alike<D: Disk + Drop, E: Disk + Drop, A: Allocator + Copy>(
+pub(crate) fn are_alike<D: Disk + Drop, E: Disk + Drop, A: Allocator + Copy>(
     rt: &impl Abort,
     alloc: A,
     one: D,
@@ -94,14 +99,14 @@ pub fn are_alike<D: Disk + Drop, E: Disk + Drop, A: Allocator + Copy>(
 }
 
 /// Returns a disk in memory with these bytes.
-pub fn remade<A: Allocator + Copy>(rt: &impl Abort, alloc: A, bytes: &[u8]) -> MemDisk<A> {
+pub(crate) fn remade<A: Allocator + Copy>(rt: &impl Abort, alloc: A, bytes: &[u8]) -> MemDisk<A> {
     let mut disk = zeros(rt, alloc, bytes.len() as u64);
     put(rt, &mut disk, 0, bytes);
     disk
 }
 
 /// Returns the word of two bytes at a place of a disk.
-pub fn word_at<D: Disk>(rt: &impl Abort, disk: &mut D, at: u64) -> u16 {
+pub(crate) fn word_at<D: Disk>(rt: &impl Abort, disk: &mut D, at: u64) -> u16 {
     let mut word = [0; 2];
     let size = disk.size();
     assert!(rt; at <= size);

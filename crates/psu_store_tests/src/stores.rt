@@ -1,4 +1,4 @@
-// The store on any disk.
+//! The store on any disk.
 ghost use Rattle.std.specs.Prelude.{IsTrue};
 ghost use Rattle.std.specs.List.{AllByRecursion};
 ghost use Rattle.psu_map.specs.Batch.{changed};
@@ -42,7 +42,7 @@ fn takes<D: Disk, A: Allocator + Copy>(alloc: A, store: &Store<D, A>, batch: &Ba
 }
 
 /// Returns the result of a commit, where the image can hold the map after the batch.
-pub fn commit<D: Disk + Drop, A: Allocator + Copy>(
+pub(crate) fn commit<D: Disk + Drop, A: Allocator + Copy>(
     rt: &impl Abort,
     alloc: A,
     store: Store<D, A>,
@@ -53,7 +53,7 @@ pub fn commit<D: Disk + Drop, A: Allocator + Copy>(
 }
 
 /// Returns the store after a commit that succeeded.
-pub fn stored_by<D: Disk + Drop, A: Allocator + Copy>(
+pub(crate) fn stored_by<D: Disk + Drop, A: Allocator + Copy>(
     rt: &impl Abort,
     ended: Commit<D, A>,
 ) -> Store<D, A> {
@@ -64,7 +64,7 @@ pub fn stored_by<D: Disk + Drop, A: Allocator + Copy>(
 }
 
 /// Returns the store after a commit, which has to succeed.
-pub fn stored<D: Disk + Drop, A: Allocator + Copy>(
+pub(crate) fn stored<D: Disk + Drop, A: Allocator + Copy>(
     rt: &impl Abort,
     alloc: A,
     store: Store<D, A>,
@@ -74,7 +74,7 @@ pub fn stored<D: Disk + Drop, A: Allocator + Copy>(
 }
 
 /// Returns the store of a disk that is opened.
-pub fn opened<D: Disk + Drop, A: Allocator + Copy>(
+pub(crate) fn opened<D: Disk + Drop, A: Allocator + Copy>(
     rt: &impl Abort,
     alloc: A,
     disk: D,
@@ -83,7 +83,7 @@ pub fn opened<D: Disk + Drop, A: Allocator + Copy>(
 }
 
 /// Returns the result of a commit on a disk that is opened for it.
-pub fn committed<D: Disk + Drop, A: Allocator + Copy>(
+pub(crate) fn committed<D: Disk + Drop, A: Allocator + Copy>(
     rt: &impl Abort,
     alloc: A,
     disk: D,
@@ -94,7 +94,7 @@ pub fn committed<D: Disk + Drop, A: Allocator + Copy>(
 }
 
 /// Returns the disk after a commit.
-pub fn disk_of<D: Disk, A: Allocator + Copy>(commit: Commit<D, A>) -> D {
+pub(crate) fn disk_of<D: Disk, A: Allocator + Copy>(commit: Commit<D, A>) -> D {
     match commit {
         Commit::Stored(store) => store.into_disk(),
         Commit::Unstarted(store, _, _) => store.into_disk(),
@@ -103,7 +103,7 @@ pub fn disk_of<D: Disk, A: Allocator + Copy>(commit: Commit<D, A>) -> D {
 }
 
 /// Returns the store that broke in a commit.
-pub fn broken_by<D: Disk + Drop, A: Allocator + Copy>(
+pub(crate) fn broken_by<D: Disk + Drop, A: Allocator + Copy>(
     rt: &impl Abort,
     ended: Commit<D, A>,
 ) -> Broken<D, A> {
@@ -114,12 +114,12 @@ pub fn broken_by<D: Disk + Drop, A: Allocator + Copy>(
 }
 
 /// Returns the number of failed calls of a store's disk.
-pub fn faults_of<D: Disk + Drop, A: Allocator + Copy>(store: Store<D, A>) -> u64 {
+pub(crate) fn faults_of<D: Disk + Drop, A: Allocator + Copy>(store: Store<D, A>) -> u64 {
     store.into_disk().faults()
 }
 
 /// Checks that a store has exactly the items that a text assigns in the order of their keys.
-pub fn has_map<D: Disk, A: Allocator + Copy>(
+pub(crate) fn has_map<D: Disk, A: Allocator + Copy>(
     rt: &impl Abort,
     alloc: A,
     store: &Store<D, A>,

@@ -1,4 +1,4 @@
-// A store on a file that breaks, and whose file contains another map when it is reopened.
+//! A store on a file that breaks, and whose file contains another map when it is reopened.
 use crate::edits::edits;
 use crate::files::{new_disk, remove, set_length};
 use crate::holds::holds;

@@ -1,4 +1,4 @@
-// The rows of tables, each with the input of a trial, and the wanted result.
+//! The rows of tables, each with the input of a trial, and the wanted result.
 use crate::bad_heads::{GREAT, ONE_HEAD, is_filled};
 use crate::bad_roots::is_sized;
 use crate::holds::holds;
@@ -12,7 +12,7 @@ use std::process::Abort;
 
 /// The trial of each row of a table.
 #[derive(Clone, Copy, Drop)]
-pub enum Trial {
+pub(crate) enum Trial {
     /// Parts are written over an image with two items, which is opened.
     Two,
     /// Parts are written over an image of limit 100, which is opened.
@@ -51,7 +51,7 @@ fn is_so<A: Allocator + Copy>(
 }
 
 /// Checks that each row of the table holds, and that it has at least one.
-pub fn rows_hold<A: Allocator + Copy>(rt: &impl Abort, alloc: A, trial: Trial, table: &str) {
+pub(crate) fn rows_hold<A: Allocator + Copy>(rt: &impl Abort, alloc: A, trial: Trial, table: &str) {
     let mut rows = 0u32;
     for line in table.lines() {
         if let Some(row) = row(line) {

@@ -1,4 +1,4 @@
-// Files that can't be locked or finished, over a scripted file system: which are refused, and what is left.
+//! Files that can't be locked or finished, over a scripted file system: which are refused, and what is left.
 use crate::holds::holds;
 use crate::scripted_files::{Script, ScriptedFile, ScriptedFiles, Step};
 use psu_disk::{KeptDisk, LockAnswer, OpenFault, SystemFile};

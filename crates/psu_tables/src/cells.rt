@@ -1,4 +1,4 @@
-// The values of the cells of a table.
+//! The values of the cells of a table.
 use std::alloc::Allocator;
 
 // Appends the bytes of a word; `None` where it is not a word, or memory is refused.
@@ -15,8 +15,8 @@ fn add_word<A: Allocator>(bytes: &mut Vec<u8, A>, word: &str) -> Option<()> {
 }
 
 /// Returns the bytes of a cell, word by word: a byte by its two hexadecimal digits (`a5`), such a byte repeated
-/// (`00*27`), or those of a text after an apostrophe (`'PSU`). `None` where a word is none of these, or memory is
-/// refused.
+/// (`00*27`), or those of a text after an apostrophe (`'PSU`). `None` where a word is of another form, or memory
+/// is refused.
 pub fn bytes<A: Allocator>(alloc: A, cell: &str) -> Option<Vec<u8, A>> {
     let mut bytes = Vec::new(alloc);
     for word in cell.split_whitespace() {

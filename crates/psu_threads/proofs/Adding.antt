@@ -3,7 +3,7 @@ use Rattle.std.proofs.Common.{◌≡◌, ◌≢◌, ◌⊎◌, ◌∙◌, ap, in
 use Rattle.std.proofs.lemmas.List.{append-nil}
 use Rattle.psu_turn.specs.declared.numbered.Numbered.{Numbered}
 use Rattle.psu_turn.specs.History.{numbered}
-use Rattle.psu_turn.specs.Seats.{Calls, Sight}
+use Rattle.psu_turn.specs.Seats.{SeatCalls, Sight}
 use Rattle.psu_threads.specs.Added.{Adds, HasHistory}
 
 module _ {S E : Type 0} {allows : S → E → S → Type 0} where
@@ -15,7 +15,7 @@ module _ {S E : Type 0} {allows : S → E → S → Type 0} where
     history = λ known. elim known [ inl h ↦ rw now h | inr some ↦ absurd (some refl) ];
   }
 
-  pub adds_one : (v w : Sight S E) (entry : E) → Calls allows v entry w → Adds allows v (entry ∷ []) w
+  pub adds_one : (v w : Sight S E) (entry : E) → SeatCalls allows v entry w → Adds allows v (entry ∷ []) w
   adds_one v w entry call = record {
     same = call.same;
     seen = (call.seen.0 ++ numbered v.number entry ∷ [], call.seen.1 ∙ simp append_assoc);

@@ -2,7 +2,7 @@
 use Rattle.std.proofs.Common.{◌≡◌, ◌⊎◌, ℕ, true, List, [], ◌∷◌, ◌++◌, flat_map, refl, sym, ap, ◌∙◌, subst, inl, inr, append-nil}
 use Rattle.std.specs.List.{AllByRecursion}
 use Rattle.psu_hislip.specs.Answer.{IsAnswerCutAnywhere}
-use Rattle.psu_hislip.specs.declared.origin.Origin.{Origin}
+use Rattle.psu_hislip.specs.declared.action.Origin.{Origin}
 use Rattle.psu_messages.specs.Response.{are_some, response}
 use Rattle.psu_exec.specs.Calls.{Entry}
 use Rattle.psu_messages.specs.Answers.{answer_in, answers}

@@ -8,11 +8,11 @@ use Rattle.psu_session.specs.Events.{Call, Executed, Settled, Sent, Delivered, Q
 use Rattle.psu_session.specs.Serving.{Runs}
 use Rattle.psu_threads.specs.Added.{Adds}
 use Rattle.psu_threads.specs.Called.{AreCalls, AreEntries, IsCalled, MayNotify}
-use Rattle.psu_bench.specs.Callers.{Makes, freed_to}
+use Rattle.psu_bench.specs.Callers.{MakesCall, freed_to}
 use Rattle.psu_threads.proofs.Adding.{adds_both, adds_none, adds_one}
 
 module _ {honest : Type 0} where
-  made : (old new : Sight State Entry) (entry : Entry) → Makes honest old entry new → (entries : List Entry) × MayNotify entry entries × Adds (AdmitsOn honest) old entries new
+  made : (old new : Sight State Entry) (entry : Entry) → MakesCall honest old entry new → (entries : List Entry) × MayNotify entry entries × Adds (AdmitsOn honest) old entries new
   made old new entry (inl call) = (entry ∷ [], inl refl, adds_one old new entry call)
   made old new entry (inr (mid, requesting, work, call, notified)) = (
     entry ∷ Entry.Notified requesting work ∷ [],

@@ -3,7 +3,7 @@ use Rattle.std.proofs.Common.{◌≡◌, ℕ, List, [], ◌∷◌, ◌++◌, ref
 use Rattle.std.proofs.lemmas.List.{map-append}
 use Rattle.psu_session.specs.Events.{Call, Event, calls}
 use Rattle.psu_session.specs.Serving.{Runs}
-use Rattle.psu_session.specs.State.{Start, State}
+use Rattle.psu_session.specs.State.{Start, SessionState}
 use Rattle.psu_session.specs.Step as session
 use Rattle.psu_session.specs.Step.{IsHistory, Steps}
 use Rattle.psu_session.proofs.Stepping.{one_step, steps_on}
@@ -20,17 +20,17 @@ history_more made thread done = map-append (λ (m : Made). m.event) made (made_b
 
 module _ {X : Type 0} {does : X → Call → X → Type 0} where
   -- a call of the session is steps of it
-  call_steps : {s : State} {x : X} {t : State} {y : X} {done : List Event} → IsCallOf does s x t y done → Steps s done t
-  call_steps (Receives now side bytes call) = one_step (session.Step.Receives now side bytes call.is)
-  call_steps (PassesOn grant call) = one_step (session.Step.Notifies (record { is = inl (grant, call.are); then = call.then }))
-  call_steps (Requests call) = one_step (session.Step.Notifies (record { is = inr call.are; then = call.then }))
+  call_steps : {s : SessionState} {x : X} {t : SessionState} {y : X} {done : List Event} → IsCallOf does s x t y done → Steps s done t
+  call_steps (Receives now side bytes call) = one_step (session.SessionStep.Receives now side bytes call.is)
+  call_steps (PassesOn grant call) = one_step (session.SessionStep.Notifies (record { is = inl (grant, call.are); then = call.then }))
+  call_steps (Requests call) = one_step (session.SessionStep.Notifies (record { is = inr call.are; then = call.then }))
   call_steps (Continues proceeded call) = call.is.steps
-  call_steps (Ticks now is same) = one_step (session.Step.Ticks now is)
-  call_steps (Takes side bytes is same) = one_step (session.Step.Takes side bytes is)
-  call_steps (Writes side is same) = one_step (session.Step.Writes side is)
+  call_steps (Ticks now is same) = one_step (session.SessionStep.Ticks now is)
+  call_steps (Takes side bytes is same) = one_step (session.SessionStep.Takes side bytes is)
+  call_steps (Writes side is same) = one_step (session.SessionStep.Writes side is)
 
   -- and it calls the device as its events say
-  pub call_runs : {s : State} {x : X} {t : State} {y : X} {done : List Event} → IsCallOf does s x t y done → Runs does x (calls done) y
+  pub call_runs : {s : SessionState} {x : X} {t : SessionState} {y : X} {done : List Event} → IsCallOf does s x t y done → Runs does x (calls done) y
   call_runs (Receives now side bytes call) = call.runs
   call_runs (PassesOn grant call) = call.runs
   call_runs (Requests call) = call.runs
@@ -39,7 +39,7 @@ module _ {X : Type 0} {does : X → Call → X → Type 0} where
   call_runs (Takes side bytes is same) = same
   call_runs (Writes side is same) = same
 
-  pub made_history : {number : X → ℕ} {start : Start} {first last : ℕ → X} {made : List Made} {s : State} → IsMadeOn does number start first made s last → IsHistory start (history_of made) s
+  pub made_history : {number : X → ℕ} {start : Start} {first last : ℕ → X} {made : List Made} {s : SessionState} → IsMadeOn does number start first made s last → IsHistory start (history_of made) s
   made_history (Opens own) = Steps.Still
   made_history {start} (Calls {made = made} before thread done t next call others) =
       subst (λ (z : List Event). IsHistory start z t) (sym (history_more made thread done)) (steps_on (made_history before) (call_steps call))

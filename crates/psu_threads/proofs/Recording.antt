@@ -11,7 +11,7 @@ use Rattle.psu_exec.specs.Calls.{Entry}
 use Rattle.psu_bench.specs.Calls.{AdmitsOn}
 use Rattle.psu_session.specs.Events.{Call, Event, calls, calls_in}
 use Rattle.psu_session.specs.Serving.{Runs}
-use Rattle.psu_session.specs.State.{Start, State}
+use Rattle.psu_session.specs.State.{Start, SessionState}
 use Rattle.psu_threads.specs.Added.{Adds}
 use Rattle.psu_threads.specs.Called.{AreAllEntries, IsCalled}
 use Rattle.psu_threads.specs.Made.{IsMadeOn, Made, made_by}
@@ -74,7 +74,7 @@ module _ {X : Type 0} {does : X → Call → X → Type 0} (honest : Type 0) (se
     pub adds : (thread : ℕ) → Adds (AdmitsOn honest) (seat (first thread)) (entries_by thread events) (seat (last thread))
     pub same : (thread : ℕ) → session (last thread) ≡ start.session
 
-  pub of_all : {start : Start} {first last : ℕ → X} {made : List Made} {s : State} → IsMadeOn does session start first made s last → OfAll start first last made
+  pub of_all : {start : Start} {first last : ℕ → X} {made : List Made} {s : SessionState} → IsMadeOn does session start first made s last → OfAll start first last made
   of_all {start = start} {first = first} (Opens own) = record {
     events = [];
     are = refl;

@@ -1,25 +1,25 @@
 -- The calls of a session, as calls of the device under the seat of the thread that makes them.
 use Rattle.std.specs.Prelude.{◌≡◌, ◌⊎◌, ℕ, Bool, List, [], ◌∷◌, ◌++◌}
-use Rattle.psu_turn.specs.Seats.{Sight, Calls}
+use Rattle.psu_turn.specs.Seats.{Sight, SeatCalls}
 use Rattle.psu_exec.specs.Device.{State}
 use Rattle.psu_exec.specs.Calls.{Entry}
 use Rattle.psu_bench.specs.Calls.{AdmitsOn}
 use Rattle.psu_session.specs.Events.{Call, Executed, Settled, Sent, Delivered, Queried, Fetched, Locked, Released, Informed, Cleared}
 use Rattle.psu_threads.specs.Added.{Adds}
-use Rattle.psu_bench.specs.Callers.{Makes, freed_to}
+use Rattle.psu_bench.specs.Callers.{MakesCall, freed_to}
 
 -- The seat has made this call of a session. Its reply is what the one legal history says.
 abbrev pub IsCalled : Type 0 → ℕ → Sight State Entry → Call → Sight State Entry → Type 0
-IsCalled honest session old (Executed request reply) new = Makes honest old (Entry.Executed session request reply) new
-IsCalled honest session old (Settled reply) new = Makes honest old (Entry.Settled session reply) new
-IsCalled honest session old Sent new = Makes honest old (Entry.Sent session) new
-IsCalled honest session old Delivered new = Calls (AdmitsOn honest) old (Entry.Delivered session) new
-IsCalled honest session old (Queried byte) new = Calls (AdmitsOn honest) old (Entry.Queried session byte) new
-IsCalled honest session old (Fetched request) new = Calls (AdmitsOn honest) old (Entry.Fetched session request) new
-IsCalled honest session old (Locked kind timeout reply) new = (now : ℕ) × Calls (AdmitsOn honest) old (Entry.Locked session kind now timeout reply) new
-IsCalled honest session old (Released reply) new = (granted : List ℕ) × Calls (AdmitsOn honest) old (Entry.Released session (freed_to granted reply)) new
-IsCalled honest session old (Informed info) new = Calls (AdmitsOn honest) old (Entry.Informed info) new
-IsCalled honest session old Cleared new = Calls (AdmitsOn honest) old (Entry.Cleared session) new
+IsCalled honest session old (Executed request reply) new = MakesCall honest old (Entry.Executed session request reply) new
+IsCalled honest session old (Settled reply) new = MakesCall honest old (Entry.Settled session reply) new
+IsCalled honest session old Sent new = MakesCall honest old (Entry.Sent session) new
+IsCalled honest session old Delivered new = SeatCalls (AdmitsOn honest) old (Entry.Delivered session) new
+IsCalled honest session old (Queried byte) new = SeatCalls (AdmitsOn honest) old (Entry.Queried session byte) new
+IsCalled honest session old (Fetched request) new = SeatCalls (AdmitsOn honest) old (Entry.Fetched session request) new
+IsCalled honest session old (Locked kind timeout reply) new = (now : ℕ) × SeatCalls (AdmitsOn honest) old (Entry.Locked session kind now timeout reply) new
+IsCalled honest session old (Released reply) new = (granted : List ℕ) × SeatCalls (AdmitsOn honest) old (Entry.Released session (freed_to granted reply)) new
+IsCalled honest session old (Informed info) new = SeatCalls (AdmitsOn honest) old (Entry.Informed info) new
+IsCalled honest session old Cleared new = SeatCalls (AdmitsOn honest) old (Entry.Cleared session) new
 
 -- ---- calls, one after another
 

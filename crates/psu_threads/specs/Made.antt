@@ -2,17 +2,17 @@
 -- two connections, and what is requested on one of them affects what is sent on the other).
 use Rattle.std.specs.Prelude.{◌≡◌, ◌≢◌, ℕ, List, [], ◌∷◌, ◌++◌, map}
 use Rattle.psu_hislip.specs.declared.side.Side.{Side}
-use Rattle.psu_locks.specs.declared.grant.Grant.{Grant}
+use Rattle.psu_locks.specs.declared.results.Grant.{Grant}
 use Rattle.psu_session.specs.Events.{Call, Event, Took, Wrote}
 use Rattle.psu_session.specs.Proceeding.{Proceeds}
 use Rattle.psu_session.specs.Serving.{Appends, PerformsStep}
-use Rattle.psu_session.specs.State.{Start, State, fresh}
+use Rattle.psu_session.specs.State.{Start, SessionState, fresh}
 use Rattle.psu_session.specs.Step.{IsLockGranted, IsReceived, IsServiceRequested, IsTaken, IsTicked, IsWritten}
-use Rattle.psu_session.specs.declared.proceeded.Proceeded.{Proceeded}
+use Rattle.psu_session.specs.declared.proceeding.Proceeded.{Proceeded}
 
--- A call of the session, by a thread with this device: what the contract of each call of `Session` says where it does
+-- A call of the session, by a thread with this device: what the contract of each call of `HislipSession` says where it does
 -- not fail, with the events that it adds to the session's history.
-pub data IsCallOf {X : Type 0} (does : X → Call → X → Type 0) (s : State) (x : X) (t : State) (y : X) : List Event → Type 0 where
+pub data IsCallOf {X : Type 0} (does : X → Call → X → Type 0) (s : SessionState) (x : X) (t : SessionState) (y : X) : List Event → Type 0 where
   Receives : (now : ℕ) (side : Side) (bytes : List ℕ) → (call : PerformsStep does (IsReceived now side bytes) s x t y) → IsCallOf does s x t y call.done
   PassesOn : (grant : Grant) → (call : Appends does (IsLockGranted s.lock_waits grant) [] [] s x t y) → IsCallOf does s x t y call.done
   Requests : (call : Appends does IsServiceRequested [] [] s x t y) → IsCallOf does s x t y call.done
@@ -36,7 +36,7 @@ history_of made = map (λ m. m.event) made
 -- Threads call the session, one call after another, each with a device of its own, which is that of the session's number,
 -- and which no other call changes. The devices were these before the first call and are these after the last one, and
 -- the history leads to this state.
-pub data IsMadeOn {X : Type 0} (does : X → Call → X → Type 0) (session : X → ℕ) (start : Start) (first : ℕ → X) : List Made → State → (ℕ → X) → Type 0 where
+pub data IsMadeOn {X : Type 0} (does : X → Call → X → Type 0) (session : X → ℕ) (start : Start) (first : ℕ → X) : List Made → SessionState → (ℕ → X) → Type 0 where
   Opens : ((thread : ℕ) → session (first thread) ≡ start.session) → IsMadeOn does session start first [] (fresh start) first
-  Calls : {made : List Made} {s : State} {now : ℕ → X} → IsMadeOn does session start first made s now → (thread : ℕ) (done : List Event) (t : State) (next : ℕ → X) → IsCallOf does s (now thread) t (next thread) done
+  Calls : {made : List Made} {s : SessionState} {now : ℕ → X} → IsMadeOn does session start first made s now → (thread : ℕ) (done : List Event) (t : SessionState) (next : ℕ → X) → IsCallOf does s (now thread) t (next thread) done
       → ((other : ℕ) → other ≢ thread → next other ≡ now other) → IsMadeOn does session start first (made ++ made_by thread done) t next

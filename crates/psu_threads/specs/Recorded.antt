@@ -4,7 +4,7 @@
 -- and 12.5.3 (the response to `*OPC?` is sent once all operations before it are complete).
 use Rattle.std.specs.Prelude.{◌≡◌, ◌⊎◌, ℕ, ◌==◌, if◌then◌else◌, true, All, List, [], ◌∷◌, ◌++◌, flat_map, map}
 use Rattle.psu_hislip.specs.Answer.{IsAnswerCutAnywhere}
-use Rattle.psu_hislip.specs.declared.origin.Origin.{Origin}
+use Rattle.psu_hislip.specs.declared.action.Origin.{Origin}
 use Rattle.psu_hislip.specs.declared.side.Side.TheVariants.{Sync}
 use Rattle.psu_messages.specs.Response.{are_some, response}
 use Rattle.psu_exec.specs.Calls.{Entry}
@@ -19,7 +19,7 @@ use Rattle.psu_session.specs.Answered.{TakesAtMost, Weaves, pieces}
 use Rattle.psu_session.specs.Events.{Call, Event, BytesReceived, LockGranted, ServiceRequested, LockReleased, Came, DeviceCalled, Put, Did, Took, Wrote, calls_in, exchange_history, taken}
 use Rattle.psu_session.specs.Exchange.{Done, Order, Turn, effects, frames, orders}
 use Rattle.psu_session.specs.Exchanged.{replied}
-use Rattle.psu_session.specs.State.{Start, State, orders_in}
+use Rattle.psu_session.specs.State.{Start, SessionState, orders_in}
 use Rattle.psu_session.specs.Step.{IsHistory, IsOpening, happened}
 use Rattle.psu_threads.specs.Added.{Adds}
 use Rattle.psu_threads.specs.Called.{AreAllEntries}
@@ -97,7 +97,7 @@ pub record Shows (honest : Type 0) (history : Sight device.State Entry) (seat : 
 
 -- The calls of a session's history are recorded in that of the device, as calls of this very session: they have the number
 -- under which it was opened. The seats are those of the threads' devices, before the first call and after the last one.
-pub record IsRecorded (honest : Type 0) (old new : ℕ → Sight device.State Entry) (start : Start) (made : List Made) (s : State) : Type 0 where
+pub record IsRecorded (honest : Type 0) (old new : ℕ → Sight device.State Entry) (start : Start) (made : List Made) (s : SessionState) : Type 0 where
   pub history : IsHistory start (history_of made) s
   -- each call of the device has its entry there, with its reply
   pub events : List Recorded
@@ -122,7 +122,7 @@ pub record IsRecorded (honest : Type 0) (old new : ℕ → Sight device.State En
 
 -- So it is for each session whose threads have devices of its number.
 abbrev pub EachResponseIsOfTheHistory : {X : Type 0} → Type 0 → (X → Call → X → Type 0) → (X → ℕ) → (X → Sight device.State Entry) → Type 0
-EachResponseIsOfTheHistory {X} honest does session seat = (start : Start) (first last : ℕ → X) (made : List Made) (s : State) → IsOpening start → IsMadeOn does session start first made s last
+EachResponseIsOfTheHistory {X} honest does session seat = (start : Start) (first last : ℕ → X) (made : List Made) (s : SessionState) → IsOpening start → IsMadeOn does session start first made s last
     → IsRecorded honest (λ thread. seat (first thread)) (λ thread. seat (last thread)) start made s
 
 -- ---- a message with one response, as `*OPC?`

@@ -1,4 +1,4 @@
-// The threads of a session that execute: the reader of its synchronous connection, and its worker.
+//! The threads of a session that execute: the reader of its synchronous connection, and its worker.
 use crate::serving::Serving;
 use psu_session_io::{Body, Closed, Closing, Drained, Incoming, StepDevice, Synchronous, Token};
 use std::rt::Clock;
@@ -7,14 +7,14 @@ use std::time::{Duration, Instant};
 use std::{io, thread};
 
 /// How long a connection may take to its first message, and a session to its second connection, in seconds.
-pub const SILENCE: u64 = 10;
+pub const SILENCE_SECONDS: u64 = 10;
 
 /// How many reads are made at most after the end of a connection.
-const LAST_READS: u32 = 1_024;
+const READS_AFTER_END: u32 = 1_024;
 
 /// How long the last pause is between two of these reads where nothing has come, in milliseconds. The first is one
 /// millisecond, and each other one twice as long as the one before it.
-const LAST_PAUSE: u64 = 8;
+const PAUSE_AFTER_END: u64 = 8;
 
 // What came.
 #[derive(Drop)]
@@ -26,7 +26,7 @@ enum Came {
 
 /// The reader of the synchronous connection.
 #[derive(Drop)]
-pub struct SyncReader<'s, 'v, D> {
+pub(crate) struct SyncReader<'s, 'v, D> {
     pub serving: Serving<'s, 'v, Synchronous, D>,
     /// When the session began. It gets its second connection in time, or ends.
     pub opened: Instant,
@@ -40,7 +40,7 @@ impl<'s, 'v, D: StepDevice> SyncReader<'s, 'v, D> {
     fn limit<R: Wait + Clock>(&mut self, rt: &R) -> io::Result<()> {
         if self.limited {
             let passed = self.opened.elapsed(rt)?;
-            let left = Duration::from_secs(SILENCE).saturating_sub(passed);
+            let left = Duration::from_secs(SILENCE_SECONDS).saturating_sub(passed);
             self.limited = self.serving.served.limit(rt, left)?;
         }
         Ok(())
@@ -77,11 +77,11 @@ impl<'s, 'v, D: StepDevice> SyncReader<'s, 'v, D> {
     // milliseconds, as the system passes on what it holds for the client only once there is room.
     fn read_last<R: Wait + Clock>(&mut self, rt: &R, token: &mut Token<Synchronous>) {
         let mut pause = 1;
-        for _ in 0..LAST_READS {
+        for _ in 0..READS_AFTER_END {
             match self.read_last_once(rt, token) {
                 Came::Bytes => pause = 1,
                 Came::End => return,
-                Came::Nothing if pause > LAST_PAUSE => return,
+                Came::Nothing if pause > PAUSE_AFTER_END => return,
                 Came::Nothing => {
                     thread::sleep(rt, Duration::from_millis(pause));
                     pause *= 2;
@@ -125,7 +125,7 @@ impl<'s, 'v, D: StepDevice> Body<Synchronous> for SyncReader<'s, 'v, D> {
 
 /// The worker: it continues the execution once what a unit waits for may have come, and while the reader waits.
 #[derive(Drop)]
-pub struct Worker<'s, 'v, D> {
+pub(crate) struct Worker<'s, 'v, D> {
     pub serving: Serving<'s, 'v, Synchronous, D>,
 }
 

@@ -1,4 +1,4 @@
-// The flusher: it puts changes on the disk, and fails lock requests whose time is over.
+//! The flusher: it puts changes on the disk, and fails lock requests whose time is over.
 ghost use Rattle.std.specs.Prelude.{◌≡◌, ◌<◌, None, Some};
 ghost use Rattle.psu_exec.specs.Calls.{JobEnd, Taken};
 ghost use Rattle.psu_bench.specs.Rounds.{IsEndOf};
@@ -8,7 +8,7 @@ ghost use Rattle.psu_bench.specs.Seconds.{left_of_second};
 
 use crate::reporter::Reporter;
 use crate::server::Server;
-use psu_bench::{Caller, Condition, Gate, Others, Reopenings};
+use psu_bench::{Caller, Gate, Others, Reopenings, ReportedCondition};
 use psu_disk::Disk;
 use psu_exec::{End, Finished, Job, NoJob};
 use std::alloc::Global;
@@ -17,7 +17,7 @@ use std::sync::Wait;
 
 /// How long the flusher waits after a job that did not go well, in milliseconds, unless others have something to be
 /// flushed before.
-const PAUSE: u64 = 1000;
+const RETRY_PAUSE: u64 = 1000;
 
 /// The result of a round.
 #[derive(Clone, Copy, Debug, PartialEq, Eq)]
@@ -48,7 +48,7 @@ impl Round {
         match self {
             Round::Idle => None,
             Round::Worked => Some(0),
-            Round::Failed => Some(PAUSE),
+            Round::Failed => Some(RETRY_PAUSE),
             Round::PutOff(left) => Some(left),
         }
     }
@@ -60,7 +60,7 @@ pub struct Flusher<'a, D: Disk, G: Gate> {
     server: &'a Server,
     caller: Caller<D, G>,
     // The condition that the store has shown last; that it works where it has shown none.
-    condition: Condition,
+    condition: ReportedCondition,
     // When a store that broke is opened again.
     reopenings: Reopenings,
 }
@@ -75,13 +75,13 @@ impl<'a, D: Disk + Drop, G: Gate + Drop> Flusher<'a, D, G> {
         Flusher {
             server,
             caller,
-            condition: Condition::Works,
+            condition: ReportedCondition::Works,
             reopenings: Reopenings::new(),
         }
     }
 
     // Notes the condition of the store, for an operator too.
-    fn note<R: Wait>(&mut self, rt: &R, condition: Condition)
+    fn note<R: Wait>(&mut self, rt: &R, condition: ReportedCondition)
         ensures condition { self.new.condition ≡ condition }
         ensures caller { self.new.caller ≡ self.old.caller }
         ensures reopenings { self.new.reopenings ≡ self.old.reopenings }
@@ -96,7 +96,7 @@ impl<'a, D: Disk + Drop, G: Gate + Drop> Flusher<'a, D, G> {
         ensures reopenings { self.new.reopenings ≡ after_job self.old.reopenings end.now now }
     {
         self.reopenings.note(end, now);
-        if let Some(condition) = Condition::shown_by(end) {
+        if let Some(condition) = ReportedCondition::shown_by(end) {
             self.note(rt, condition);
         }
     }
@@ -135,8 +135,8 @@ impl<'a, D: Disk + Drop, G: Gate + Drop> Flusher<'a, D, G> {
             Err(NoJob::Memory) => Round::Failed,
             Err(NoJob::Out) => Round::Idle,
             Err(NoJob::Nothing) => {
-                if self.condition == Condition::Broken {
-                    self.note(rt, Condition::Works);
+                if self.condition == ReportedCondition::Broken {
+                    self.note(rt, ReportedCondition::Works);
                 }
                 Round::Idle
             }
@@ -181,16 +181,19 @@ impl<'a, D: Disk + Drop, G: Gate + Drop> Flusher<'a, D, G> {
         self.left(rt)
     }
 
-    // Sleeps until the bell rings, or for as long as the last round and the next deadline of a lock request allow.
+    // Sleeps until the flusher is notified, or for as long as the last round and the next deadline of a lock request allow.
     fn sleep<R: Wait + Clock>(&self, rt: &R, round: Option<u64>, lock: Option<u64>) {
         match (round, lock) {
             (Some(0), _) => {}
-            (None, None) => self.server.bell.sleep(rt),
+            (None, None) => self.server.flusher_signal.wait(rt),
             (Some(left), None) | (None, Some(left)) => self
                 .server
-                .bell
-                .sleep_at_most(rt, left.max(1)),
-            (Some(one), Some(other)) => self.server.bell.sleep_at_most(rt, one.min(other).max(1)),
+                .flusher_signal
+                .wait_at_most(rt, left.max(1)),
+            (Some(one), Some(other)) => self
+                .server
+                .flusher_signal
+                .wait_at_most(rt, one.min(other).max(1)),
         }
     }
 

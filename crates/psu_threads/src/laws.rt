@@ -1,4 +1,4 @@
-// Laws of the calls of a session on the shared device.
+//! Laws of the calls of a session on the shared device.
 ghost use Rattle.std.specs.Prelude.{List};
 ghost use Rattle.psu_session.specs.Events.{Call};
 ghost use Rattle.psu_session.specs.Serving.{Runs};

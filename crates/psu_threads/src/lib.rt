@@ -3,8 +3,8 @@
 //! is received, executed and sent is decided by the crates below.
 #![tactic(auto)]
 
-mod bell;
 mod executing;
+mod flusher_signal;
 mod flushing;
 mod laws;
 mod operator;
@@ -16,8 +16,8 @@ mod serving;
 mod session_thread;
 mod shared_device;
 
-pub use bell::Bell;
-pub use executing::SILENCE;
+pub use executing::SILENCE_SECONDS;
+pub use flusher_signal::FlusherSignal;
 pub use flushing::Flusher;
 pub use laws::{calls_are_in_the_history, each_response_is_of_the_history};
 pub use operator::{Operator, write_lines};

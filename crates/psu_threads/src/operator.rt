@@ -1,6 +1,6 @@
-// What an operator reads of the store's condition.
+//! What an operator reads of the store's condition.
 use crate::server::Server;
-use psu_bench::{Condition, ConditionLine, ConditionLines};
+use psu_bench::{ConditionLine, ConditionLines, ReportedCondition};
 use std::io::Eprint;
 use std::rt::Clock;
 use std::sync::{Condvar, Mutex, Wait};
@@ -25,7 +25,7 @@ impl Operator {
     }
 
     /// Notes the condition that the store has now. This neither allocates nor waits for a line to be written.
-    pub fn note<R: Wait>(&self, rt: &R, condition: Condition) {
+    pub fn note<R: Wait>(&self, rt: &R, condition: ReportedCondition) {
         self.lines.lock(rt).note(condition);
         self.changed.notify_all();
     }

@@ -1,4 +1,4 @@
-// The sessions that are open.
+//! The sessions that are open.
 ghost use Rattle.std.specs.Prelude.{◌≡◌, IfSome};
 ghost use Rattle.std.specs.Arc.{arc_value};
 ghost use Rattle.psu_threads.specs.Registered.{AreAtTheirPlaces};

@@ -1,5 +1,5 @@
-// The other threads of the server, for a thread that calls the device. This is trusted and not proved: that each method
-// posts the notices that it is named for.
+//! The other threads of the server, for a thread that calls the device. This is trusted and not proved: that each method
+//! posts the notices that it is named for.
 use crate::registry::Registry;
 use crate::server::Server;
 use psu_bench::{LockedRegistry, Others};
@@ -51,7 +51,7 @@ impl<'a, 'r, R: Wait> Others for Reporter<'a, 'r, R> {
     }
 
     fn wake_flusher(&mut self) {
-        self.server.bell.ring(self.rt);
+        self.server.flusher_signal.notify(self.rt);
     }
 
     fn job_ended(&mut self, over: &Sessions) {

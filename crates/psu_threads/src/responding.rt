@@ -1,4 +1,4 @@
-// The threads of a session that write on its asynchronous connection: the reader of this connection, and the notifier.
+//! The threads of a session that write on its asynchronous connection: the reader of this connection, and the notifier.
 use crate::serving::Serving;
 use psu_session_io::{Asynchronous, Body, Closed, StepDevice, Token};
 use std::rt::Clock;
@@ -6,7 +6,7 @@ use std::sync::Wait;
 
 /// The reader of the asynchronous connection.
 #[derive(Drop)]
-pub struct AsyncReader<'s, 'v, D> {
+pub(crate) struct AsyncReader<'s, 'v, D> {
     pub serving: Serving<'s, 'v, Asynchronous, D>,
     pub space: Vec<u8>,
 }
@@ -25,7 +25,7 @@ impl<'s, 'v, D: StepDevice> Body<Asynchronous> for AsyncReader<'s, 'v, D> {
 
 /// The notifier: it sends what other sessions cause.
 #[derive(Drop)]
-pub struct Notifier<'s, 'v, D> {
+pub(crate) struct Notifier<'s, 'v, D> {
     pub serving: Serving<'s, 'v, Asynchronous, D>,
 }
 

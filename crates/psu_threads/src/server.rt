@@ -1,5 +1,5 @@
-// What all threads of a server share.
-use crate::bell::Bell;
+//! What all threads of a server share.
+use crate::flusher_signal::FlusherSignal;
 use crate::operator::Operator;
 use crate::registry::Registry;
 use psu_bench::DeviceLock;
@@ -15,7 +15,7 @@ pub struct Server {
     pub alloc: Global,
     pub registry: Mutex<Registry>,
     pub device: DeviceLock,
-    pub bell: Bell,
+    pub flusher_signal: FlusherSignal,
     pub operator: Operator,
     started: Instant,
 }
@@ -27,7 +27,7 @@ impl Server {
             alloc,
             registry: Mutex::new(Registry::new()),
             device: DeviceLock::new(),
-            bell: Bell::new(),
+            flusher_signal: FlusherSignal::new(),
             operator: Operator::new(),
             started,
         }

@@ -1,15 +1,15 @@
-// What a thread of a session does on its connection.
+//! What a thread of a session does on its connection.
 use crate::server::Server;
 use psu_session_io::{
     Arrived, Asynchronous, BytesRead, Closing, Connection, ConnectionSide, Disconnected, Incoming,
-    Next, Pending, Received, Remainder, ServedSession, SharedSession, StepDevice, Synchronous,
+    NextTask, Pending, Received, Remainder, ServedSession, SharedSession, StepDevice, Synchronous,
     Token,
 };
 use std::rt::Clock;
 use std::sync::Wait;
 
 /// How a thread that writes on a connection continues a session.
-pub trait Continue: ConnectionSide + Sized {
+pub(crate) trait Continue: ConnectionSide + Sized {
     /// Continues a session, and takes what is to be written on the connection.
     fn proceed<D: StepDevice>(
         session: &mut SharedSession,
@@ -19,6 +19,7 @@ pub trait Continue: ConnectionSide + Sized {
 }
 
 impl Continue for Synchronous {
+    #[inline(always)]
     fn proceed<D: StepDevice>(
         session: &mut SharedSession,
         pending: Pending<Synchronous>,
@@ -42,7 +43,7 @@ impl Continue for Asynchronous {
 
 /// What a thread of a session works with.
 #[derive(Drop)]
-pub struct Serving<'s, 'v, S, D> {
+pub(crate) struct Serving<'s, 'v, S, D> {
     pub server: &'s Server,
     pub served: &'v ServedSession,
     pub connection: Connection<S>,
@@ -80,6 +81,7 @@ impl<'s, 'v, S: Continue, D: StepDevice> Serving<'s, 'v, S, D> {
 
     // Notifies the other threads, writes what was taken, and continues the session until it waits. Returns when the
     // first release that waits is due.
+    #[inline(always)]
     fn finish<R: Wait>(
         &mut self,
         rt: &R,
@@ -89,17 +91,17 @@ impl<'s, 'v, S: Continue, D: StepDevice> Serving<'s, 'v, S, D> {
         let mut next = self.served.mailbox.notify_others(rt, remainder);
         for _ in rt.forever() {
             next = match next {
-                Next::Write(outgoing) => {
+                NextTask::Write(outgoing) => {
                     let written = self.connection.write(token, outgoing);
                     self.served.session.note_write(rt, token, written)?
                 }
-                Next::Continue(pending) => {
+                NextTask::Continue(pending) => {
                     let mut session = self.served.session.lock(rt, token);
                     let remainder = S::proceed(&mut session, pending, &mut self.device)?;
                     drop(session);
                     self.served.mailbox.notify_others(rt, remainder)
                 }
-                Next::Wait(due) => return Ok(due),
+                NextTask::Wait(due) => return Ok(due),
             };
         }
         unreachable!()

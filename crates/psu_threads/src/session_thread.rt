@@ -1,4 +1,4 @@
-// What each thread of a session runs, until the session is over.
+//! What each thread of a session runs, until the session is over.
 ghost use Rattle.std.specs.Prelude.{◌≡◌, IfOk, length};
 
 use crate::executing::{SyncReader, Worker};
@@ -8,15 +8,13 @@ use crate::serving::Serving;
 use crate::shared_device::{OfSession, SharedDevice};
 use psu_bench::{Caller, Gate};
 use psu_disk::Disk;
+use psu_messages::READ_SIZE;
 use psu_session_io::{Asynchronous, Connection, Link, ServedSession, StepDevice, Synchronous, run};
 use std::alloc::Global;
 use std::io;
 use std::rt::Clock;
 use std::sync::{Arc, Wait};
 use std::time::Instant;
-
-/// How much is read at once in a session.
-const SPACE: usize = 65_536;
 
 /// Returns an area of memory to read into.
 pub fn space(alloc: Global, size: usize) -> io::Result<Vec<u8>>
@@ -75,7 +73,7 @@ impl<'s, 'v, D: StepDevice + OfSession + Drop> SessionThread<'s, 'v, D> {
         connection: Connection<Synchronous>,
         opened: Instant,
     ) -> io::Result<()> {
-        let space = space(self.server.alloc, SPACE)?;
+        let space = space(self.server.alloc, READ_SIZE)?;
         let serving = self.on(connection);
         let mut reader = SyncReader {
             serving,
@@ -100,7 +98,7 @@ impl<'s, 'v, D: StepDevice + OfSession + Drop> SessionThread<'s, 'v, D> {
         rt: &R,
         connection: Connection<Asynchronous>,
     ) -> io::Result<()> {
-        let space = space(self.server.alloc, SPACE)?;
+        let space = space(self.server.alloc, READ_SIZE)?;
         let serving = self.on(connection);
         run(rt, &mut AsyncReader { serving, space });
         Ok(())

@@ -1,4 +1,4 @@
-// The shared device as the device of a session.
+//! The shared device as the device of a session.
 ghost use Rattle.std.specs.Prelude.{◌≡◌};
 ghost use Rattle.psu_threads.specs.Called.{IsCalled};
 

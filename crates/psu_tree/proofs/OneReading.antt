@@ -3,11 +3,11 @@ use Rattle.std.proofs.Common.{◌≡◌, ℕ, List, [], ◌∷◌, sym, ap, ◌�
 use Rattle.psu_lex.specs.Data.{IsStringOf, IsDatumOf}
 use Rattle.psu_lex.specs.Message.{Part}
 use Rattle.psu_lex.specs.Number.{Number, IsNumber, number_text, reading_of}
-use Rattle.psu_lex.specs.Syntax.{Datum, Header, IsHeader, Syntax, SyntaxGives, header_text}
+use Rattle.psu_lex.specs.Syntax.{Datum, HeaderParts, IsHeader, Syntax, SyntaxGives, header_text}
 use Rattle.psu_lex.specs.declared.data.DatumClass.{DatumClass}
 use Rattle.psu_lex.specs.declared.data.DatumClass.TheVariants.{Numeric, Character, String, Block}
 use Rattle.psu_lex.specs.declared.scpi_error.ScpiError.{ScpiError}
-use Rattle.psu_tree.specs.Commands.{CommandReads, Makes, unit_of, greatest_of}
+use Rattle.psu_tree.specs.Commands.{CommandReads, MakesCommand, unit_of, greatest_of}
 use Rattle.psu_tree.specs.Parameters.{One, Perhaps, Two, mapped, next, paired, WholeOf, SwitchOf, AmountOf, WordOf, StringOf, BlockOf, TakesWhole, TakesSwitch, TakesAmount, TakesWord, TakesString, TakesBlock, amount_of, counted, flagged, switched, extreme_of, leveled, recalled, at_most, labeled, named}
 use Rattle.psu_tree.specs.Path.{words_of}
 use Rattle.psu_tree.specs.Reading.{FormReads, SyntaxReads, Reads, header_reads}
@@ -23,7 +23,7 @@ pub record Lawful : Type 0 where
   pub number : (m n : Number) → IsNumber m → IsNumber n → number_text m ≡ number_text n → m ≡ n
   pub string : (text bytes others : List ℕ) → IsStringOf text bytes → IsStringOf text others → bytes ≡ others
   pub block : (text bytes others : List ℕ) → IsDatumOf text bytes → IsDatumOf text others → bytes ≡ others
-  pub header : (h other : Header) → IsHeader h → IsHeader other → header_text h ≡ header_text other → h ≡ other
+  pub header : (h other : HeaderParts) → IsHeader h → IsHeader other → header_text h ≡ header_text other → h ≡ other
   pub syntax : (unit : Part) (result other : Result Syntax ScpiError) → SyntaxGives unit result → SyntaxGives unit other → result ≡ other
 
 -- ---- the value of a datum
@@ -87,7 +87,7 @@ two_of {A} {B} Takes value Follows other same alike (d ∷ k ∷ []) r q (a, b, 
     e ∙ ap (λ (z : Result A ScpiError). paired z value b other) (same d a x t v) ∙ ap (λ (z : Result B ScpiError). paired x value z other) (alike k b y u w) ∙ sym i
 two_of Takes value Follows other same alike (d ∷ k ∷ l ∷ more) r q g h = g ∙ sym h
 
-makes_of : {A : Type 0} (Gives : Result A ScpiError → Type 0) (make : A → Command) → ((x y : Result A ScpiError) → Gives x → Gives y → x ≡ y) → (r q : Result Command ScpiError) → Makes Gives make r → Makes Gives make q → r ≡ q
+makes_of : {A : Type 0} (Gives : Result A ScpiError → Type 0) (make : A → Command) → ((x y : Result A ScpiError) → Gives x → Gives y → x ≡ y) → (r q : Result Command ScpiError) → MakesCommand Gives make r → MakesCommand Gives make q → r ≡ q
 makes_of Gives make same r q (x, g, e) (y, h, i) = e ∙ ap (mapped make) (same x y g h) ∙ sym i
 
 wholes : Lawful → Same TakesWhole
@@ -140,7 +140,7 @@ one_syntax : Lawful → (path : List (List ℕ)) (given : Result Syntax ScpiErro
 one_syntax law path (Err e) r q g h = g ∙ sym h
 one_syntax law path (Ok s) r q (h, is, e, g) (k, js, i, l) =
     let same : k ≡ h = law.header k h js is (sym i ∙ e) in
-    one_form law (header_reads (words_of path h) h.asks) s.parameters r q g (subst (λ (z : Header). FormReads (header_reads (words_of path z) z.asks) s.parameters q) same l)
+    one_form law (header_reads (words_of path h) h.asks) s.parameters r q g (subst (λ (z : HeaderParts). FormReads (header_reads (words_of path z) z.asks) s.parameters q) same l)
 
 pub one_reading : Lawful → (path : List (List ℕ)) (unit : Part) (r q : Result Command ScpiError) → Reads path unit r → Reads path unit q → r ≡ q
 one_reading law path unit r q (x, s, g) (y, t, h) =

@@ -6,13 +6,13 @@ use Rattle.psu_lex.specs.Syntax.{Datum, Lists, Syntax, SyntaxGives, TextGives, F
 use Rattle.psu_lex.specs.declared.unit.UnitFault.{UnitFault}
 use Rattle.psu_lex.specs.declared.scpi_error.ScpiError.{ScpiError}
 use Rattle.psu_lex.specs.declared.scpi_error.ScpiError.TheVariants.{MissingParameter, ParameterNotAllowed}
-use Rattle.psu_tree.specs.Commands.{CommandReads, Makes, alone, unit_of, greatest_of}
+use Rattle.psu_tree.specs.Commands.{CommandReads, MakesCommand, alone, unit_of, greatest_of}
 use Rattle.psu_tree.specs.Parameters.{One, Perhaps, Two, mapped, next, paired, TakesWhole, TakesSwitch, TakesAmount, TakesWord, TakesString, TakesBlock, counted, flagged, switched, extreme_of, leveled, recalled, at_most, labeled, named}
 use Rattle.psu_tree.specs.Path.{words_of}
 use Rattle.psu_tree.specs.Reading.{FormReads, SyntaxReads, Reads, header_reads}
 use Rattle.psu_tree.specs.declared.command.Command.{Command}
 use Rattle.psu_tree.specs.declared.command.Command.TheVariants as c
-use Rattle.psu_tree.specs.declared.values.Flag.TheVariants.{Protection, Recall}
+use Rattle.psu_tree.specs.declared.values.Flag.TheVariants.{UserDataProtection, Recall}
 use Rattle.psu_tree.specs.declared.form.Form.{Form}
 use Rattle.psu_tree.specs.declared.form.Form.TheVariants as f
 use Rattle.psu_outputs.specs.declared.output.Output.{Output}
@@ -47,7 +47,7 @@ two_some Takes value Follows other some more (d ∷ []) g = (Err MissingParamete
 two_some Takes value Follows other some more (d ∷ k ∷ []) g = let t = some d g.0 in let u = more k g.1.0 in (paired t.0 value u.0 other, (t.0, u.0, t.1, u.1, refl))
 two_some Takes value Follows other some more (d ∷ k ∷ l ∷ list) g = (Err ParameterNotAllowed, refl)
 
-makes_some : {A : Type 0} (Gives : Result A ScpiError → Type 0) (make : A → Command) → ((x : Result A ScpiError) × Gives x) → (r : Result Command ScpiError) × Makes Gives make r
+makes_some : {A : Type 0} (Gives : Result A ScpiError → Type 0) (make : A → Command) → ((x : Result A ScpiError) × Gives x) → (r : Result Command ScpiError) × MakesCommand Gives make r
 makes_some Gives make x = (mapped make x.0, (x.0, x.1, refl))
 
 some_command : (form : Form) (output : Output) (list : List Datum) → Good list → (r : Result Command ScpiError) × CommandReads form output list r
@@ -63,7 +63,7 @@ some_command f.Load output list g = makes_some _ (c.Load output) (one_some Takes
 some_command (f.Level which) output list g = makes_some _ (c.Level which output) (one_some (TakesAmount (unit_of which)) (leveled (greatest_of which)) (some_amount (unit_of which)) list g)
 some_command (f.LevelQuery which) output list g = makes_some _ (c.LevelQuery which output) (perhaps_some TakesWord extreme_of some_word list g)
 some_command (f.Switch which) output list g = makes_some _ (c.Switch which output) (one_some TakesSwitch switched some_switch list g)
-some_command f.Protect output list g = makes_some _ (c.Flag Protection) (one_some TakesSwitch switched some_switch list g)
+some_command f.Protect output list g = makes_some _ (c.Flag UserDataProtection) (one_some TakesSwitch switched some_switch list g)
 some_command f.PowerOn output list g = makes_some _ (c.Flag Recall) (one_some TakesWord recalled some_word list g)
 some_command f.UserData output list g = makes_some _ c.UserData (one_some TakesBlock (at_most 63) some_block list g)
 some_command f.Define output list g = makes_some _ _ (two_some TakesString labeled TakesBlock (λ body. Ok body) some_string some_block list g)

@@ -5,7 +5,7 @@ use Rattle.psu_lex.specs.Bytes.{value_after}
 use Rattle.psu_lex.specs.Message.{Part}
 use Rattle.psu_lex.specs.Names.{is_label}
 use Rattle.psu_lex.specs.Shown.{HoldsData}
-use Rattle.psu_lex.specs.Syntax.{Datum, Syntax, SyntaxGives, Header, IsHeader, header_text}
+use Rattle.psu_lex.specs.Syntax.{Datum, Syntax, SyntaxGives, HeaderParts, IsHeader, header_text}
 use Rattle.psu_lex.specs.declared.scpi_error.ScpiError.{ScpiError}
 use Rattle.psu_lex.specs.declared.scpi_error.ScpiError.TheVariants.{UndefinedHeader, HeaderSuffixOutOfRange}
 use Rattle.psu_tree.specs.Commands.{CommandReads}
@@ -14,7 +14,7 @@ use Rattle.psu_tree.specs.Path.{words_of, path_after}
 use Rattle.psu_tree.specs.Table.{table}
 use Rattle.psu_tree.specs.declared.command.Command.{Command}
 use Rattle.psu_tree.specs.declared.form.Form.{Form}
-use Rattle.psu_tree.specs.declared.unit_request.MacroCall as rust_call
+use Rattle.psu_tree.specs.declared.command.MacroCall as rust_call
 use Rattle.psu_outputs.specs.declared.output.Output.{Output}
 use Rattle.psu_outputs.specs.declared.output.Output.TheVariants.{First, Second, Third, Fourth}
 
@@ -59,7 +59,7 @@ FormReads (Ok placed) list reading = CommandReads placed.0 placed.1 list reading
 abbrev pub SyntaxReads : List (List ℕ) → Result Syntax ScpiError → Result Command ScpiError → Type 0
 SyntaxReads path (Err e) reading = reading ≡ Err e
 SyntaxReads path (Ok syntax) reading =
-    (h : Header) × IsHeader h × (syntax.header ≡ header_text h) × FormReads (header_reads (words_of path h) h.asks) syntax.parameters reading
+    (h : HeaderParts) × IsHeader h × (syntax.header ≡ header_text h) × FormReads (header_reads (words_of path h) h.asks) syntax.parameters reading
 
 -- the result of a unit at the path
 abbrev pub Reads : List (List ℕ) → Part → Result Command ScpiError → Type 0
@@ -70,7 +70,7 @@ Reads path unit reading = (given : Result Syntax ScpiError) × SyntaxGives unit 
 abbrev pub SyntaxMoves : List (List ℕ) → Result Syntax ScpiError → Result Command ScpiError → List (List ℕ) → Type 0
 SyntaxMoves path (Err e) reading next = next ≡ path
 SyntaxMoves path (Ok syntax) reading next =
-    (h : Header) × IsHeader h × (syntax.header ≡ header_text h) × (next ≡ path_after (is_ok reading) path h)
+    (h : HeaderParts) × IsHeader h × (syntax.header ≡ header_text h) × (next ≡ path_after (is_ok reading) path h)
 
 -- the path after a unit with this result
 abbrev pub Moves : List (List ℕ) → Part → Result Command ScpiError → List (List ℕ) → Type 0
@@ -85,5 +85,5 @@ SyntaxCalls (Ok syntax) None = is_label syntax.header ≡ false
 SyntaxCalls (Ok syntax) (Some call) = (is_label syntax.header ≡ true) × (call.label.now ≡ syntax.header) × HoldsData call.args syntax.parameters
 
 -- the macro call that a unit may be: its syntax alone determines this, whatever its result
-abbrev pub Calls : Part → Option rust_call.MacroCall → Type 0
-Calls unit call = (given : Result Syntax ScpiError) × SyntaxGives unit given × SyntaxCalls given call
+abbrev pub CallsMacro : Part → Option rust_call.MacroCall → Type 0
+CallsMacro unit call = (given : Result Syntax ScpiError) × SyntaxGives unit given × SyntaxCalls given call

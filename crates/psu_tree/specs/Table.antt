@@ -7,8 +7,8 @@ use Rattle.psu_tree.specs.declared.queries.Action.TheVariants as a
 use Rattle.psu_tree.specs.declared.queries.Query.TheVariants as q
 use Rattle.psu_tree.specs.declared.values.Enable.TheVariants as e
 use Rattle.psu_tree.specs.declared.values.Flag.TheVariants as g
-use Rattle.psu_status.specs.declared.group.Group.TheVariants.{Operation, Questionable}
-use Rattle.psu_status.specs.declared.filter.Filter.TheVariants as f
+use Rattle.psu_status.specs.declared.groups.Group.TheVariants.{Operation, Questionable}
+use Rattle.psu_status.specs.declared.groups.Filter.TheVariants as f
 use Rattle.psu_tree.specs.declared.queries.OutputQuery.TheVariants as o
 use Rattle.psu_tree.specs.declared.values.Level.TheVariants as l
 use Rattle.psu_tree.specs.declared.values.Switch.TheVariants as s
@@ -59,7 +59,7 @@ table =
     ∷ asks (codes "MEASure<n>[:SCALar]:VOLTage[:DC]") (OutputQuery o.Voltage)
     ∷ asks (codes "MEASure<n>[:SCALar]:CURRent[:DC]") (OutputQuery o.Current)
     ∷ both (codes "SIMulation:LOAD<n>") Load (OutputQuery o.Load)
-    ∷ both (codes "DIAGnostic:PUD:PROTect") Protect (Query (q.Flag g.Protection))
+    ∷ both (codes "DIAGnostic:PUD:PROTect") Protect (Query (q.Flag g.UserDataProtection))
     ∷ asks (codes "MMEMory:CATalog") (Query q.Catalog)
     ∷ kept (both (codes "MMEMory:DATA") Contents (File on_file.Ask))
     ∷ kept (only (codes "MMEMory:DELete") (File on_file.Delete))

@@ -1,4 +1,4 @@
-// Parsed commands, and which of them change nonvolatile memory.
+//! Parsed commands and units, and which commands change nonvolatile memory.
 ghost use Rattle.std.specs.Prelude.{◌≡◌};
 ghost use Rattle.psu_tree.specs.Nonvolatile.{is_nonvolatile};
 
@@ -6,6 +6,7 @@ use crate::{
     Action, Enable, Extreme, Flag, Level, OnFile, OnMacro, OnNames, OnRegister, OutputQuery, Query,
     Switch, Text, Transfer,
 };
+use psu_lex::{Data, ScpiError};
 use psu_outputs::Output;
 use psu_status::{Filter, Group};
 
@@ -74,4 +75,24 @@ pub fn nonvolatile(command: &Command<'_>, flag: bool) -> bool
         | Command::LevelQuery(_, _, _)
         | Command::Switch(_, _, _) => false,
     }
+}
+
+/// A unit whose header has the form of a macro label (IEEE 488.2, 10.8).
+#[derive(Drop)]
+pub struct MacroCall<'a> {
+    /// The header as written.
+    pub label: &'a [u8],
+    /// The data, each as written.
+    pub args: Data<'a>,
+}
+
+/// A parsed unit.
+#[derive(Drop)]
+pub struct Request<'a> {
+    /// The macro call that the unit is where a macro of this label is defined.
+    pub call: Option<MacroCall<'a>>,
+    /// The command of the unit, or its first error.
+    pub reading: Result<Command<'a>, ScpiError>,
+    /// Whether the unit is in an expansion.
+    pub inside: bool,
 }

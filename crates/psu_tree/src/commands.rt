@@ -1,4 +1,4 @@
-// The parameters of the table's commands, form by form.
+//! The parameters of the table's commands, form by form.
 ghost use Rattle.std.specs.Prelude.{List};
 ghost use Rattle.psu_lex.specs.Shown.{HoldsData};
 ghost use Rattle.psu_lex.specs.Syntax.{Datum as DatumData};
@@ -15,7 +15,7 @@ use crate::single::{
 use crate::{
     Command, Enable, Flag, Form, Level, OnFile, OnMacro, OnNames, OnRegister, Switch, Transfer,
 };
-use psu_lex::{Data, ScpiError};
+use psu_lex::{Data, FILE_MOST, ScpiError, USER_DATA_MOST};
 use psu_outputs::Output;
 use psu_status::{Filter, Group};
 
@@ -96,7 +96,7 @@ fn protect<'a>(parameters: &Data<'a>) -> Result<Command<'a>, ScpiError>
     ensures { (output : SomeOutput) (list : List DatumData) → HoldsData parameters.now list → CommandReads f.Protect output list result }
 {
     let value = one_switch(parameters)?;
-    Ok(Command::Flag(Flag::Protection, value))
+    Ok(Command::Flag(Flag::UserDataProtection, value))
 }
 
 // Parses the command that chooses the settings at power-on.
@@ -111,7 +111,7 @@ fn power_on<'a>(parameters: &Data<'a>) -> Result<Command<'a>, ScpiError>
 fn user_data<'a>(parameters: &Data<'a>) -> Result<Command<'a>, ScpiError>
     ensures { (output : SomeOutput) (list : List DatumData) → HoldsData parameters.now list → CommandReads f.UserData output list result }
 {
-    let value = one_block(parameters, 63)?;
+    let value = one_block(parameters, USER_DATA_MOST)?;
     Ok(Command::UserData(value))
 }
 
@@ -135,7 +135,7 @@ fn on_macro<'a>(what: OnMacro, parameters: &Data<'a>) -> Result<Command<'a>, Scp
 fn contents<'a>(parameters: &Data<'a>) -> Result<Command<'a>, ScpiError>
     ensures { (output : SomeOutput) (list : List DatumData) → HoldsData parameters.now list → CommandReads f.Contents output list result }
 {
-    let value = name_and_bytes(parameters, 32_768)?;
+    let value = name_and_bytes(parameters, FILE_MOST)?;
     Ok(Command::Contents(value.0, value.1))
 }
 
@@ -172,7 +172,7 @@ fn macro_file<'a>(what: Transfer, parameters: &Data<'a>) -> Result<Command<'a>, 
 }
 
 /// Returns the command of a form at an output with its data, or their first error.
-pub fn command_of<'a>(
+pub(crate) fn command_of<'a>(
     form: Form,
     output: Output,
     parameters: &Data<'a>,

@@ -1,4 +1,4 @@
-// The number of data of a header.
+//! The number of data of a header.
 ghost use Rattle.std.specs.Prelude.{◌≡◌, List};
 ghost use Rattle.psu_lex.specs.Shown.{HoldsData};
 ghost use Rattle.psu_lex.specs.Syntax.{Datum as DatumData};
@@ -9,7 +9,10 @@ use crate::Command;
 use psu_lex::{Data, Datum, ScpiError};
 
 /// Returns the command, if it has no parameter.
-pub fn alone<'a>(command: Command<'a>, parameters: &Data<'_>) -> Result<Command<'a>, ScpiError>
+pub(crate) fn alone<'a>(
+    command: Command<'a>,
+    parameters: &Data<'_>,
+) -> Result<Command<'a>, ScpiError>
     ensures { (list : List DatumData) → HoldsData parameters.now list → result ≡ alone command.entry list }
 {
     match parameters.first() {
@@ -19,7 +22,7 @@ pub fn alone<'a>(command: Command<'a>, parameters: &Data<'_>) -> Result<Command<
 }
 
 /// Returns the only parameter, or `None` where there is none.
-pub fn perhaps<'a>(parameters: &Data<'a>) -> Result<Option<Datum<'a>>, ScpiError>
+pub(crate) fn perhaps<'a>(parameters: &Data<'a>) -> Result<Option<Datum<'a>>, ScpiError>
     ensures { (list : List DatumData) → HoldsData parameters.now list → PerhapsIs result list }
 {
     match parameters.first() {
@@ -32,7 +35,7 @@ pub fn perhaps<'a>(parameters: &Data<'a>) -> Result<Option<Datum<'a>>, ScpiError
 }
 
 /// Returns the only parameter.
-pub fn one<'a>(parameters: &Data<'a>) -> Result<Datum<'a>, ScpiError>
+pub(crate) fn one<'a>(parameters: &Data<'a>) -> Result<Datum<'a>, ScpiError>
     ensures { (list : List DatumData) → HoldsData parameters.now list → OneIs result list }
 {
     match parameters.first() {
@@ -45,7 +48,7 @@ pub fn one<'a>(parameters: &Data<'a>) -> Result<Datum<'a>, ScpiError>
 }
 
 /// Returns the only two parameters.
-pub fn two<'a>(parameters: &Data<'a>) -> Result<(Datum<'a>, Datum<'a>), ScpiError>
+pub(crate) fn two<'a>(parameters: &Data<'a>) -> Result<(Datum<'a>, Datum<'a>), ScpiError>
     ensures { (list : List DatumData) → HoldsData parameters.now list → TwoIs result list }
 {
     match parameters.first() {

@@ -1,4 +1,4 @@
-// Headers with two parameters: the classes of both are checked before the range of either.
+//! Headers with two parameters: the classes of both are checked before the range of either.
 ghost use Rattle.std.specs.Prelude.{◌≡◌, ◌≤◌, List, Ok, IfOk};
 ghost use Rattle.psu_lex.specs.Shown.{HoldsData};
 ghost use Rattle.psu_lex.specs.Syntax.{Datum as DatumData};
@@ -11,7 +11,9 @@ use crate::texts::{at_most, block, label, name};
 use psu_lex::{Data, ScpiError};
 
 /// Returns a label, or none where the string is not a valid label, and a body.
-pub fn label_and_body<'a>(parameters: &Data<'a>) -> Result<(Option<Text<'a>>, Text<'a>), ScpiError>
+pub(crate) fn label_and_body<'a>(
+    parameters: &Data<'a>,
+) -> Result<(Option<Text<'a>>, Text<'a>), ScpiError>
     ensures { (list : List DatumData) → HoldsData parameters.now list → Two TakesString labeled TakesBlock (λ body. Ok body) list result }
 {
     let (first, second) = two(parameters)?;
@@ -20,7 +22,7 @@ pub fn label_and_body<'a>(parameters: &Data<'a>) -> Result<(Option<Text<'a>>, Te
 }
 
 /// Returns a name, or none where the string is not a valid name, and at most `most` bytes.
-pub fn name_and_bytes<'a>(
+pub(crate) fn name_and_bytes<'a>(
     parameters: &Data<'a>,
     most: usize,
 ) -> Result<(Option<Text<'a>>, Text<'a>), ScpiError>
@@ -32,7 +34,7 @@ pub fn name_and_bytes<'a>(
 }
 
 /// Returns two names, each none where the string is not a valid name.
-pub fn two_names<'a>(
+pub(crate) fn two_names<'a>(
     parameters: &Data<'a>,
 ) -> Result<(Option<Text<'a>>, Option<Text<'a>>), ScpiError>
     ensures { (list : List DatumData) → HoldsData parameters.now list → Two TakesString named TakesString named list result }
@@ -43,7 +45,9 @@ pub fn two_names<'a>(
 }
 
 /// Returns a register number, and a name, or none where the string is not a valid name.
-pub fn register_and_name<'a>(parameters: &Data<'a>) -> Result<(u8, Option<Text<'a>>), ScpiError>
+pub(crate) fn register_and_name<'a>(
+    parameters: &Data<'a>,
+) -> Result<(u8, Option<Text<'a>>), ScpiError>
     ensures { (list : List DatumData) → HoldsData parameters.now list → Two TakesWhole (counted 0 99) TakesString named list result }
 {
     let (first, second) = two(parameters)?;
@@ -53,7 +57,7 @@ pub fn register_and_name<'a>(parameters: &Data<'a>) -> Result<(u8, Option<Text<'
 }
 
 /// Returns a label and a name, each none where the string is not a valid one.
-pub fn label_and_name<'a>(
+pub(crate) fn label_and_name<'a>(
     parameters: &Data<'a>,
 ) -> Result<(Option<Text<'a>>, Option<Text<'a>>), ScpiError>
     ensures { (list : List DatumData) → HoldsData parameters.now list → Two TakesString labeled TakesString named list result }

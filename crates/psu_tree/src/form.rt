@@ -1,4 +1,4 @@
-// The forms of the table's headers.
+//! The forms of the table's headers.
 use crate::{
     Action, Enable, Flag, Level, OnFile, OnMacro, OnNames, OnRegister, OutputQuery, Query, Switch,
     Transfer,

@@ -8,7 +8,7 @@ ghost use Rattle.psu_tree.specs.Rows.{EachIsFoundByItsHeaders, HaveNoHeaderInCom
 ghost use Rattle.psu_tree.specs.Table.{table};
 ghost use Rattle.psu_tree.specs.declared.command.Command.{Command};
 
-use psu_lex::laws::{
+use psu_lex::{
     every_unit_has_a_syntax, one_content_of_a_datum, one_content_of_a_string, one_header_of_a_text,
     one_number_of_a_text, one_syntax_of_a_unit,
 };

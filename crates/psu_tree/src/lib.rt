@@ -7,7 +7,7 @@ mod commands;
 mod counts;
 mod double;
 mod form;
-pub mod laws;
+mod laws;
 mod lookups;
 mod parameters;
 mod path;
@@ -19,13 +19,16 @@ mod suffixes;
 mod table;
 mod text;
 mod texts;
-mod unit_request;
 mod values;
 mod walks;
 mod words;
 
-pub use command::{Command, nonvolatile};
+pub use command::{Command, MacroCall, Request, nonvolatile};
 pub use form::Form;
+pub use laws::{
+    a_header_asks_for_its_row, a_row_fits_where_it_matches, every_unit_reads,
+    no_header_of_two_rows, one_number_of_a_header, one_reading_of_a_unit,
+};
 pub use lookups::form_of;
 pub use path::{Path, SavedPath};
 pub use queries::{Action, OutputQuery, Query};
@@ -34,7 +37,6 @@ pub use rows::{Kind, Node, Row, Section};
 pub use table::PATTERNS;
 use text::Choice;
 pub use text::Text;
-pub use unit_request::{MacroCall, Request};
 pub use values::{
     Enable, Extreme, Flag, Level, OnFile, OnMacro, OnNames, OnRegister, Switch, Transfer,
 };

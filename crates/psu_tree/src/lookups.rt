@@ -1,4 +1,4 @@
-// The row of a header. Rows whose first letter differs from the header's are skipped.
+//! The row of a header. Rows whose first letter differs from the header's are skipped.
 ghost use Rattle.std.specs.Prelude.{◌≡◌, ◌==◌, ◌&&◌, not, true, false, map, if◌then◌else◌};
 ghost use Rattle.std.specs.Option.{option_copied};
 ghost use Rattle.psu_tree.specs.Headers.{form_for, fits, in_brackets};

@@ -1,4 +1,4 @@
-// The values of data.
+//! The values of data.
 ghost use Rattle.std.specs.Prelude.{◌≡◌, ◌≤◌, ◌||◌, ℕ, [], ◌∷◌, IfOk};
 ghost use Rattle.psu_lex.specs.Number.{Number, IsNumber, number_text};
 ghost use Rattle.psu_lex.specs.Shown.{IsSomeDatum};
@@ -23,7 +23,7 @@ fn is_word(text: &[u8], word: &[u8]) -> bool
 // ---- numbers
 
 /// Returns the whole number of a datum.
-pub fn whole(datum: &Datum<'_>) -> Result<i64, ScpiError>
+pub(crate) fn whole(datum: &Datum<'_>) -> Result<i64, ScpiError>
     ensures { IsSomeDatum (datum_of datum.now) → TakesWhole (datum_of datum.now) result }
 {
     match datum.class {
@@ -35,7 +35,7 @@ pub fn whole(datum: &Datum<'_>) -> Result<i64, ScpiError>
 }
 
 /// Returns the number, if it is in a range.
-pub fn counted(number: i64, least: u32, most: u32) -> Result<u32, ScpiError>
+pub(crate) fn counted(number: i64, least: u32, most: u32) -> Result<u32, ScpiError>
     ensures value { result ≡ counted least most number }
     ensures within { IfOk result (λ n. n ≤ most) }
 {
@@ -49,7 +49,7 @@ pub fn counted(number: i64, least: u32, most: u32) -> Result<u32, ScpiError>
 }
 
 /// Whether the number, from -32767 to 32767, is not 0.
-pub fn flagged(number: i64) -> Result<bool, ScpiError>
+pub(crate) fn flagged(number: i64) -> Result<bool, ScpiError>
     ensures { result ≡ flagged number }
 {
     if number.unsigned_abs() > 32767 {
@@ -71,7 +71,7 @@ fn chosen<'a>(number: Result<i64, ScpiError>) -> Result<Choice<'a>, ScpiError>
 // ---- switches
 
 /// Returns the choice of a switch: ON, OFF, or a number.
-pub fn switch_of<'a>(datum: &Datum<'a>) -> Result<Choice<'a>, ScpiError>
+pub(crate) fn switch_of<'a>(datum: &Datum<'a>) -> Result<Choice<'a>, ScpiError>
     ensures { IsSomeDatum (datum_of datum.now) → TakesSwitch (datum_of datum.now) result }
 {
     match datum.class {
@@ -95,7 +95,7 @@ fn is_on(word: &[u8]) -> Result<bool, ScpiError>
 }
 
 /// Whether a switch is on: a number is ON unless it is 0.
-pub fn switched(choice: &Choice<'_>) -> Result<bool, ScpiError>
+pub(crate) fn switched(choice: &Choice<'_>) -> Result<bool, ScpiError>
     ensures { result ≡ switched choice.now }
 {
     match choice {
@@ -164,7 +164,7 @@ fn amount_of(text: &[u8], unit: u8) -> Result<i64, ScpiError>
 }
 
 /// Returns a number in thousandths of the level's unit, or a word.
-pub fn amount<'a>(datum: &Datum<'a>, level: Level) -> Result<Choice<'a>, ScpiError>
+pub(crate) fn amount<'a>(datum: &Datum<'a>, level: Level) -> Result<Choice<'a>, ScpiError>
     ensures { IsSomeDatum (datum_of datum.now) → TakesAmount (unit_of level) (datum_of datum.now) result }
 {
     match datum.class {
@@ -204,7 +204,7 @@ fn end_of(level: Level, extreme: Extreme) -> u16
 }
 
 /// Returns the value of a level, from 0 to its maximum.
-pub fn leveled(choice: &Choice<'_>, level: Level) -> Result<u16, ScpiError>
+pub(crate) fn leveled(choice: &Choice<'_>, level: Level) -> Result<u16, ScpiError>
     ensures { result ≡ leveled (greatest_of level) choice.now }
 {
     match choice {
@@ -214,7 +214,7 @@ pub fn leveled(choice: &Choice<'_>, level: Level) -> Result<u16, ScpiError>
 }
 
 /// Returns the end of a range that a datum names: MIN or MAX.
-pub fn extreme(datum: &Datum<'_>) -> Result<Extreme, ScpiError>
+pub(crate) fn extreme(datum: &Datum<'_>) -> Result<Extreme, ScpiError>
     ensures { Gives TakesWord extreme_of (datum_of datum.now) result }
 {
     match datum.class {
@@ -241,7 +241,7 @@ fn recalled(word: &[u8]) -> Result<bool, ScpiError>
 }
 
 /// Whether a datum is RCL0 (true) or RST (false).
-pub fn recall(datum: &Datum<'_>) -> Result<bool, ScpiError>
+pub(crate) fn recall(datum: &Datum<'_>) -> Result<bool, ScpiError>
     ensures { Gives TakesWord recalled (datum_of datum.now) result }
 {
     match datum.class {

@@ -1,4 +1,4 @@
-// The header path of a message.
+//! The header path of a message.
 ghost use Rattle.std.specs.Prelude.{◌≡◌, ◌<◌, ◌≤◌, List, ℕ, [], length, map, IfOk, OnErr};
 
 use crate::words::Words;

@@ -1,4 +1,4 @@
-// Actions and queries, which have no parameters.
+//! Actions and queries, which have no parameters.
 use crate::{Enable, Flag};
 use psu_status::{Filter, Group};
 

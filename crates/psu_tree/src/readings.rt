@@ -1,11 +1,11 @@
-// The command of a unit.
+//! The command of a unit.
 ghost use Rattle.std.specs.Prelude.{◌≡◌, List, [], OnOk, map};
 ghost use Rattle.psu_lex.specs.Message.{part};
 ghost use Rattle.psu_lex.specs.Names.{is_label};
 ghost use Rattle.psu_lex.specs.Shown.{HoldsData, ShowsHeader, ShowsSyntax};
-ghost use Rattle.psu_lex.specs.Syntax.{Datum as DatumData, Header as HeaderParts, IsHeader, Syntax as Parts, header_text};
+ghost use Rattle.psu_lex.specs.Syntax.{Datum as DatumData, HeaderParts, IsHeader, Syntax as Parts, header_text};
 ghost use Rattle.psu_tree.specs.Path.{next_path, words_of};
-ghost use Rattle.psu_tree.specs.Reading.{Calls, FormReads, Moves, Reads, SyntaxCalls, SyntaxReads, header_reads, placed};
+ghost use Rattle.psu_tree.specs.Reading.{CallsMacro, FormReads, Moves, Reads, SyntaxCalls, SyntaxReads, header_reads, placed};
 
 use crate::commands::command_of;
 use crate::lookups::form_of;
@@ -13,7 +13,7 @@ use crate::suffixes::header_output;
 use crate::words::{Words, add_words};
 use crate::{Command, Form, MacroCall, Path, Request};
 use arrayvec::ArrayVec;
-use psu_lex::{Data, Header, HeaderMark, ScpiError, Syntax, Unit, is_label, syntax};
+use psu_lex::{Data, HeaderMark, ScpiError, Syntax, Unit, UnitHeader, is_label, syntax};
 use psu_outputs::Output;
 use std::mem;
 
@@ -73,7 +73,8 @@ fn read_parts<'a>(
 
 /// Returns the command of a unit at a path, or its first error. The order of the errors: those of its syntax; -113,
 /// -114; -109, -108; then for each parameter from the left its class, the digits of its number and its suffix (-104,
-/// -123, -124, -131); then for each its range (-222, -223, -224).
+/// -123, -124, -131); then for each its range (-222, -223, -224). It is for programs that parse a unit without executing
+/// it; the path does not move.
 pub fn read_unit<'a>(path: &Path<'a>, unit: &Unit<'a>) -> Result<Command<'a>, ScpiError>
     ensures { Reads path.now (part unit.now) result }
 {
@@ -87,7 +88,7 @@ pub fn read_unit<'a>(path: &Path<'a>, unit: &Unit<'a>) -> Result<Command<'a>, Sc
 }
 
 // Whether a header has the form of a label; none with a `?` has.
-fn is_call(header: &Header<'_>) -> bool
+fn is_call(header: &UnitHeader<'_>) -> bool
     ensures { (h : HeaderParts) → IsHeader h → ShowsHeader header.now h → result ≡ is_label (header_text h) }
 {
     !header.asks && is_label(header.text)
@@ -132,7 +133,7 @@ fn move_path<'a>(path: &mut Path<'a>, words: &mut Words<'a>, mark: HeaderMark)
 pub fn request<'a>(path: &mut Path<'a>, unit: &Unit<'a>, inside: bool) -> Request<'a>
     ensures reading { Reads path.old (part unit.now) result.reading }
     ensures moves { Moves path.old (part unit.now) result.reading path.new }
-    ensures call { Calls (part unit.now) result.call }
+    ensures call { CallsMacro (part unit.now) result.call }
     ensures inside { result.inside ≡ inside }
 {
     let given = &syntax(unit);

@@ -1,4 +1,4 @@
-// The rows of the table of commands, in sections, and the nodes of their headers.
+//! The rows of the table of commands, in sections, and the nodes of their headers.
 use crate::Form;
 
 /// Whether a node is optional (in brackets), and whether a numeric suffix may follow it (`<n>`).

@@ -1,4 +1,4 @@
-// Headers with one parameter.
+//! Headers with one parameter.
 ghost use Rattle.std.specs.Prelude.{◌≡◌, ◌≤◌, List, IfOk};
 ghost use Rattle.psu_lex.specs.Shown.{HoldsData};
 ghost use Rattle.psu_lex.specs.Syntax.{Datum as DatumData};
@@ -14,7 +14,7 @@ use crate::{Extreme, Level, Text};
 use psu_lex::{Data, ScpiError};
 
 /// Returns a number in a range.
-pub fn one_count(parameters: &Data<'_>, least: u32, most: u32) -> Result<u32, ScpiError>
+pub(crate) fn one_count(parameters: &Data<'_>, least: u32, most: u32) -> Result<u32, ScpiError>
     ensures reads { (list : List DatumData) → HoldsData parameters.now list → One TakesWhole (counted least most) list result }
     ensures within { IfOk result (λ n. n ≤ most) }
 {
@@ -23,7 +23,7 @@ pub fn one_count(parameters: &Data<'_>, least: u32, most: u32) -> Result<u32, Sc
 }
 
 /// Whether a number from -32767 to 32767 is not 0.
-pub fn one_flag(parameters: &Data<'_>) -> Result<bool, ScpiError>
+pub(crate) fn one_flag(parameters: &Data<'_>) -> Result<bool, ScpiError>
     ensures { (list : List DatumData) → HoldsData parameters.now list → One TakesWhole flagged list result }
 {
     let datum = one(parameters)?;
@@ -31,7 +31,7 @@ pub fn one_flag(parameters: &Data<'_>) -> Result<bool, ScpiError>
 }
 
 /// Whether a switch is on: ON, OFF, or a number.
-pub fn one_switch(parameters: &Data<'_>) -> Result<bool, ScpiError>
+pub(crate) fn one_switch(parameters: &Data<'_>) -> Result<bool, ScpiError>
     ensures { (list : List DatumData) → HoldsData parameters.now list → One TakesSwitch switched list result }
 {
     let datum = one(parameters)?;
@@ -39,7 +39,7 @@ pub fn one_switch(parameters: &Data<'_>) -> Result<bool, ScpiError>
 }
 
 /// Returns the value of a level.
-pub fn one_level(parameters: &Data<'_>, level: Level) -> Result<u16, ScpiError>
+pub(crate) fn one_level(parameters: &Data<'_>, level: Level) -> Result<u16, ScpiError>
     ensures { (list : List DatumData) → HoldsData parameters.now list → One (TakesAmount (unit_of level)) (leveled (greatest_of level)) list result }
 {
     let datum = one(parameters)?;
@@ -47,7 +47,7 @@ pub fn one_level(parameters: &Data<'_>, level: Level) -> Result<u16, ScpiError>
 }
 
 /// Returns MIN or MAX, or `None` where there is no parameter.
-pub fn perhaps_extreme(parameters: &Data<'_>) -> Result<Option<Extreme>, ScpiError>
+pub(crate) fn perhaps_extreme(parameters: &Data<'_>) -> Result<Option<Extreme>, ScpiError>
     ensures { (list : List DatumData) → HoldsData parameters.now list → Perhaps TakesWord extreme_of list result }
 {
     let Some(datum) = perhaps(parameters)? else {
@@ -57,7 +57,7 @@ pub fn perhaps_extreme(parameters: &Data<'_>) -> Result<Option<Extreme>, ScpiErr
 }
 
 /// Whether the parameter is RCL0 (true) or RST (false).
-pub fn one_recall(parameters: &Data<'_>) -> Result<bool, ScpiError>
+pub(crate) fn one_recall(parameters: &Data<'_>) -> Result<bool, ScpiError>
     ensures { (list : List DatumData) → HoldsData parameters.now list → One TakesWord recalled list result }
 {
     let datum = one(parameters)?;
@@ -65,7 +65,7 @@ pub fn one_recall(parameters: &Data<'_>) -> Result<bool, ScpiError>
 }
 
 /// Returns a block of at most `most` bytes.
-pub fn one_block<'a>(parameters: &Data<'a>, most: usize) -> Result<Text<'a>, ScpiError>
+pub(crate) fn one_block<'a>(parameters: &Data<'a>, most: usize) -> Result<Text<'a>, ScpiError>
     ensures { (list : List DatumData) → HoldsData parameters.now list → One TakesBlock (at_most most) list result }
 {
     let datum = one(parameters)?;
@@ -73,7 +73,7 @@ pub fn one_block<'a>(parameters: &Data<'a>, most: usize) -> Result<Text<'a>, Scp
 }
 
 /// Returns a label, or none where the string is not a valid label.
-pub fn one_label<'a>(parameters: &Data<'a>) -> Result<Option<Text<'a>>, ScpiError>
+pub(crate) fn one_label<'a>(parameters: &Data<'a>) -> Result<Option<Text<'a>>, ScpiError>
     ensures { (list : List DatumData) → HoldsData parameters.now list → One TakesString labeled list result }
 {
     let datum = one(parameters)?;
@@ -81,7 +81,7 @@ pub fn one_label<'a>(parameters: &Data<'a>) -> Result<Option<Text<'a>>, ScpiErro
 }
 
 /// Returns a file name, or none where the string is not a valid name.
-pub fn one_name<'a>(parameters: &Data<'a>) -> Result<Option<Text<'a>>, ScpiError>
+pub(crate) fn one_name<'a>(parameters: &Data<'a>) -> Result<Option<Text<'a>>, ScpiError>
     ensures { (list : List DatumData) → HoldsData parameters.now list → One TakesString named list result }
 {
     let datum = one(parameters)?;

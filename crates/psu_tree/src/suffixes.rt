@@ -1,4 +1,4 @@
-// Numeric suffixes of headers.
+//! Numeric suffixes of headers.
 ghost use Rattle.std.specs.Prelude.{◌≡◌, ◌≤◌, min, true, map};
 ghost use Rattle.psu_lex.specs.Bytes.{all_digits, value_after};
 ghost use Rattle.psu_tree.specs.Reading.{output_at, output_of, suffix_of};
@@ -61,7 +61,7 @@ fn suffix_of<'a>(words: &[&'a [u8]]) -> &'a [u8]
 
 /// Returns the output of a header: the number of the node that has one.
 #[tactic(auto, using(crate::proofs::SuffixNumbers::suffix_digits))]
-pub fn header_output(words: &[&[u8]]) -> Result<Output, ScpiError>
+pub(crate) fn header_output(words: &[&[u8]]) -> Result<Output, ScpiError>
     ensures { result ≡ output_of (suffix_of (map (λ word. word.now) words.now)) }
 {
     output_of(suffix_of(words))

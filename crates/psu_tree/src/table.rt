@@ -1,4 +1,4 @@
-// The table of commands.
+//! The table of commands.
 use crate::Form::{
     Action, ClearTrip, Contents, Define, Enable, File, Filter, Flag, Level, LevelQuery, Load,
     Macro, MacroFile, Names, OutputQuery, PowerOn, Protect, Query, Register, StateFile, Switch,
@@ -91,7 +91,7 @@ const MEASURE: [Row; 2] = [
 
 const SIMULATION: [Row; 1] = [row!({LOAD<n>} Load, OutputQuery(O::Load))];
 
-const DIAGNOSTIC: [Row; 1] = [row!({PUD:PROTect} Protect, Query(Q::Flag(G::Protection)))];
+const DIAGNOSTIC: [Row; 1] = [row!({PUD:PROTect} Protect, Query(Q::Flag(G::UserDataProtection)))];
 
 const MEMORY: [Row; 9] = [
     row!({CATalog}? Query(Q::Catalog)),

@@ -1,4 +1,4 @@
-// Strings and blocks as data.
+//! Strings and blocks as data.
 ghost use Rattle.std.specs.Prelude.{◌≡◌};
 ghost use Rattle.psu_lex.specs.Shown.{IsSomeDatum};
 ghost use Rattle.psu_lex.specs.Syntax.{datum_of};
@@ -32,7 +32,7 @@ fn name_of(text: &[u8]) -> Option<Text<'_>>
 
 /// Returns the label that a string is, or `None` where it is not a valid label. A quote in a string is doubled, and a
 /// label has no quote.
-pub fn label<'a>(datum: &Datum<'a>) -> Result<Option<Text<'a>>, ScpiError>
+pub(crate) fn label<'a>(datum: &Datum<'a>) -> Result<Option<Text<'a>>, ScpiError>
     ensures { IsSomeDatum (datum_of datum.now) → Gives TakesString labeled (datum_of datum.now) result }
 {
     match datum.class {
@@ -45,7 +45,7 @@ pub fn label<'a>(datum: &Datum<'a>) -> Result<Option<Text<'a>>, ScpiError>
 
 /// Returns the file name that a string is, or `None` where it is not a valid name. A quote in a string is doubled, and
 /// a name has no quote.
-pub fn name<'a>(datum: &Datum<'a>) -> Result<Option<Text<'a>>, ScpiError>
+pub(crate) fn name<'a>(datum: &Datum<'a>) -> Result<Option<Text<'a>>, ScpiError>
     ensures { IsSomeDatum (datum_of datum.now) → Gives TakesString named (datum_of datum.now) result }
 {
     match datum.class {
@@ -57,7 +57,7 @@ pub fn name<'a>(datum: &Datum<'a>) -> Result<Option<Text<'a>>, ScpiError>
 }
 
 /// Returns the bytes of a block.
-pub fn block<'a>(datum: &Datum<'a>) -> Result<Text<'a>, ScpiError>
+pub(crate) fn block<'a>(datum: &Datum<'a>) -> Result<Text<'a>, ScpiError>
     ensures { IsSomeDatum (datum_of datum.now) → TakesBlock (datum_of datum.now) result }
 {
     match datum.class {
@@ -71,7 +71,7 @@ pub fn block<'a>(datum: &Datum<'a>) -> Result<Text<'a>, ScpiError>
 }
 
 /// Returns the text, if it has at most `most` bytes.
-pub fn at_most(text: Text<'_>, most: usize) -> Result<Text<'_>, ScpiError>
+pub(crate) fn at_most(text: Text<'_>, most: usize) -> Result<Text<'_>, ScpiError>
     ensures { result ≡ at_most most text.entry }
 {
     if text.bytes.len() > most {

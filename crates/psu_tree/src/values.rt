@@ -1,4 +1,4 @@
-// The values of commands with parameters: registers, flags, settings and operations.
+//! The values of commands with parameters: registers, flags, settings and operations.
 
 /// The enable registers of the common commands.
 #[derive(Clone, Copy)]
@@ -12,7 +12,8 @@ pub enum Enable {
 pub enum Flag {
     PowerOnClear,
     Macros,
-    Protection,
+    /// Whether `*PUD` is refused.
+    UserDataProtection,
     /// Whether the power-on settings are those of register 0.
     Recall,
 }

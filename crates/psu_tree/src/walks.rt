@@ -1,4 +1,4 @@
-// Matching headers with the rows of the table.
+//! Matching headers with the rows of the table.
 ghost use Rattle.std.specs.Prelude.{◌≡◌, ◌≤◌, [], length, map, true, IsTrue, ◌↔◌};
 ghost use Rattle.psu_tree.specs.Headers.{Matches, capital, fits, in_brackets, is_form, is_numbered, is_small, names, same_letters, stem};
 ghost use Rattle.psu_tree.specs.Scans.{digit_before};
@@ -18,21 +18,21 @@ pub fn patterns() -> &'static [Section]
 }
 
 /// Whether the byte is a lowercase letter.
-pub fn is_small(byte: u8) -> bool
+pub(crate) fn is_small(byte: u8) -> bool
     ensures { result ≡ is_small byte }
 {
     byte >= b'a' && byte <= b'z'
 }
 
 /// Returns a letter as a capital.
-pub fn capital(byte: u8) -> u8
+pub(crate) fn capital(byte: u8) -> u8
     ensures { result ≡ capital byte }
 {
     if is_small(byte) { byte - 32 } else { byte }
 }
 
 /// Whether the texts are equal, ignoring case.
-pub fn is_same(name: &[u8], word: &[u8]) -> bool
+pub(crate) fn is_same(name: &[u8], word: &[u8]) -> bool
     ensures { result ≡ same_letters name.now word.now }
 {
     let Some((letter, letters)) = name.split_first() else {
@@ -99,7 +99,7 @@ fn without_number(word: &[u8]) -> &[u8]
 }
 
 /// Returns the digits at the end of a word.
-pub fn number_of(word: &[u8]) -> &[u8]
+pub(crate) fn number_of(word: &[u8]) -> &[u8]
     ensures { result.now ≡ digits_of word.now }
 {
     &word[without_number(word).len()..]
@@ -116,7 +116,7 @@ fn is_numbered(kind: Kind) -> bool
 }
 
 // Whether the node is optional.
-pub fn may_miss(kind: Kind) -> bool
+pub(crate) fn may_miss(kind: Kind) -> bool
     ensures { result ≡ in_brackets kind }
 {
     match kind {
@@ -127,7 +127,7 @@ pub fn may_miss(kind: Kind) -> bool
 
 /// Whether a word is a form of the node.
 #[inline(always)]
-pub fn is_named(node: &Node, word: &[u8]) -> bool
+pub(crate) fn is_named(node: &Node, word: &[u8]) -> bool
     ensures { result ≡ names (mnemonic node.now) word.now }
 {
     let form = if is_numbered(node.kind) {

@@ -1,19 +1,19 @@
-// The nodes of a header.
+//! The nodes of a header.
 ghost use Rattle.std.specs.Prelude.{◌≡◌, ◌≤◌, ◌<◌, [], ◌∷◌, ◌++◌, ℕ, List, length, take, drop, map, true, MatchBool};
 ghost use Rattle.psu_lex.specs.Shown.{ShowsHeader};
-ghost use Rattle.psu_lex.specs.Syntax.{Header as Parts, IsHeader, all_nodes, behind, is_node};
+ghost use Rattle.psu_lex.specs.Syntax.{HeaderParts, IsHeader, all_nodes, behind, is_node};
 ghost use Rattle.psu_tree.specs.Path.{words_of};
 ghost use Rattle.psu_tree.specs.Scans.{after_node, node_of};
 
 use crate::Path;
 use arrayvec::ArrayVec;
-use psu_lex::{Header, HeaderMark};
+use psu_lex::{HeaderMark, UnitHeader};
 
 /// The maximum number of nodes of a header in the table.
-pub const MOST: usize = 5;
+pub(crate) const NODES_MOST: usize = 5;
 
 /// Nodes as written.
-pub type Words<'a> = ArrayVec<&'a [u8], MOST>;
+pub(crate) type Words<'a> = ArrayVec<&'a [u8], NODES_MOST>;
 
 // Returns the length of the first node.
 fn node_end(text: &[u8]) -> usize
@@ -59,9 +59,9 @@ fn add_path<'a>(words: &mut Words<'a>, path: &Path<'a>)
 
 /// Makes `words` the nodes of a header from the root on, where `*` is a node of its own. Returns false where there are
 /// more than a header of the table has.
-pub fn add_words<'a>(words: &mut Words<'a>, path: &Path<'a>, header: &Header<'a>) -> bool
+pub(crate) fn add_words<'a>(words: &mut Words<'a>, path: &Path<'a>, header: &UnitHeader<'a>) -> bool
     requires { words.old.items ≡ [] }
-    ensures { (h : Parts) → IsHeader h → ShowsHeader header.now h →
+    ensures { (h : HeaderParts) → IsHeader h → ShowsHeader header.now h →
         MatchBool result (map (λ word. word.now) words.new.items ≡ words_of path.now h) (5 < length (words_of path.now h)) }
 {
     match header.mark {

@@ -8,7 +8,7 @@ use lib.Seq.{set-get_or}
 use prog.Atomic.{either}
 use Rattle.atomic_table.specs.Table.{State, step, Act, keeps, takes, gives, Valid, carried_after, stepped, Allows}
 use Rattle.atomic_table.proofs.Lists.{at_set, set_here, set_again, exchanged}
-use Rattle.psu_turn.specs.declared.held.Held.{Held}
+use Rattle.psu_turn.specs.declared.counted_object.CountedObject.{CountedObject}
 use Rattle.psu_turn.specs.declared.view.View.{View}
 use Rattle.psu_turn.specs.declared.stage.Stage.{Stage}
 use Rattle.psu_turn.specs.declared.stage.Stage.TheVariants.{Idle, Waiting, Called, Out, Done}
@@ -17,12 +17,12 @@ use Rattle.psu_turn.specs.declared.name.Name.TheVariants.{Spent, Unnamed, Named}
 use Rattle.psu_turn.specs.declared.inherited.Inherited.{Inherited}
 use Rattle.psu_turn.specs.declared.inherited.Inherited.TheVariants.{Nothing, From}
 use Rattle.psu_turn.specs.declared.numbered.Numbered.{Numbered}
-use Rattle.psu_turn.specs.History.{numbered, calls_by, Leads}
-use Rattle.psu_turn.specs.Rule.{view, at_stage, HasTicket, IsIn, Stands, Owns, Recalls, Fits, OneHistory}
+use Rattle.psu_turn.specs.History.{numbered, calls_by, HistoryLeads}
+use Rattle.psu_turn.specs.Rule.{view, at_stage, HasTicket, IsIn, IsAtStage, Owns, Recalls, Fits, OneHistory}
 use Rattle.psu_turn.specs.Sights.{number_of}
 use Rattle.psu_turn.specs.Steps.{Sat, draws, takes_turn, is_called, leaves, adds, Extends}
 use Rattle.psu_turn.proofs.Lists.{at_bound, starts_itself, starts_more, calls_more, calls_same, length_append, leads_more}
-use Rattle.psu_turn.proofs.Moves.{named_unspent, more_tickets, next_served, other_called, drawn, recalls_set, board, served_once, all_in, were_in, moved}
+use Rattle.psu_turn.proofs.Moves.{named_unspent, more_tickets, next_served, other_called, drawn, recalls_set, board, served_once, all_in, were_in, step_keeps}
 
 abbrev ticket_of : {T : Type 0} → Stage T → ℕ
 ticket_of Idle = 0
@@ -60,16 +60,16 @@ module _ {T E : Type 0} where
       (starts_more log (numbered k e ∷ []) seen r.0, calls_same p k log mine e ne r.1, (recalls_set log views id v w me keep (From p seen mine) r).2)
 
 module _ {T S E : Type 0} (of : T → S) (allows : S → E → S → Type 0) (start : S) where
-  abbrev Rule : State (Option (Held T)) (View S E) → Type 0
+  abbrev Rule : State (Option (CountedObject T)) (View S E) → Type 0
   Rule = OneHistory of allows start
 
   -- what the stage of a seat says
-  pub stands : (s : State (Option (Held T)) (View S E)) (o : Rule s) (id : ℕ) (v : View S E) (g : Stage S) → get_elem? s.views id ≡ some v → v.stage ≡ g → Stands (get_or s.words 1 0) (get_or s.words 2 0) (length o.log) o.state g
-  stands s o id v g me is = subst (λ (x : Stage S). Stands (get_or s.words 1 0) (get_or s.words 2 0) (length o.log) o.state x) is ((o.fits id v me).stage)
+  pub stands : (s : State (Option (CountedObject T)) (View S E)) (o : Rule s) (id : ℕ) (v : View S E) (g : Stage S) → get_elem? s.views id ≡ some v → v.stage ≡ g → IsAtStage (get_or s.words 1 0) (get_or s.words 2 0) (length o.log) o.state g
+  stands s o id v g me is = subst (λ (x : Stage S). IsAtStage (get_or s.words 1 0) (get_or s.words 2 0) (length o.log) o.state x) is ((o.fits id v me).stage)
 
   -- nothing happened
-  stays : (s : State (Option (Held T)) (View S E)) (o : Rule s) (i id : ℕ) (m : Sat T S E) → get_elem? s.views id ≡ some m.0 → Rule (stepped s i (get_or s.words i 0) id m.1 m.0 keeps)
-  stays s o i id m me = subst (λ (x : State (Option (Held T)) (View S E)). Rule x)
+  stays : (s : State (Option (CountedObject T)) (View S E)) (o : Rule s) (i id : ℕ) (m : Sat T S E) → get_elem? s.views id ≡ some m.0 → Rule (stepped s i (get_or s.words i 0) id m.1 m.0 keeps)
+  stays s o i id m me = subst (λ (x : State (Option (CountedObject T)) (View S E)). Rule x)
       (λ k. record { words = sym (set-get_or s.words i 0) k; homes = s.homes; views = sym (set_again s.views id m.0 me) k }) o
 
   pub draws_on : (n id : ℕ) (m : Sat T S E) (t k : ℕ) → m.0.stage ≡ Idle → m.0.name ≡ Named k → t < 2 ^ 62
@@ -77,18 +77,18 @@ module _ {T S E : Type 0} (of : T → S) (allows : S → E → S → Type 0) (st
   draws_on n id m t k idle name room s o narrow me _ =
       let w : View S E = at_stage m.0 (Waiting t) in
       let ws : List ℕ = set s.words 1 (t + 1) in
-      let F : ℕ → Type 0 = λ x. (w : View S E) × (a : Act (Option (Held T))) × Valid s.homes m.1 a × Rule (stepped s 1 x id m.1 w a) × draws (step n 1 t (t + 1) none) m (get_or s.words 1 0) (w, carried_after m.1 a) in
+      let F : ℕ → Type 0 = λ x. (w : View S E) × (a : Act (Option (CountedObject T))) × Valid s.homes m.1 a × Rule (stepped s 1 x id m.1 w a) × draws (step n 1 t (t + 1) none) m (get_or s.words 1 0) (w, carried_after m.1 a) in
       let long = o.wide in let few = o.few in
       exchanged (get_or s.words 1 0) t (t + 1) F
       (λ hit. let f = o.fits id m.0 me in
       let one : get_or ws 1 0 ≡ t + 1 = get_or-set_same s.words 1 (t + 1) 0 (omega arith) in
       let two : get_or ws 2 0 ≡ get_or s.words 2 0 = get_or-set_other s.words 1 2 (t + 1) 0 (λ e. omega arith) in
-      let in_it : (g : Stage S) (c : ℕ) (st : S) → Stands (get_or s.words 1 0) (get_or s.words 2 0) c st g → Stands (get_or ws 1 0) (get_or ws 2 0) c st g =
-      λ g c st x. subst (λ (y : ℕ). Stands (get_or ws 1 0) y c st g) (sym two) (more_tickets g (get_or s.words 1 0) (get_or ws 1 0) (get_or s.words 2 0) c st (omega arith) x) in (
+      let in_it : (g : Stage S) (c : ℕ) (st : S) → IsAtStage (get_or s.words 1 0) (get_or s.words 2 0) c st g → IsAtStage (get_or ws 1 0) (get_or ws 2 0) c st g =
+      λ g c st x. subst (λ (y : ℕ). IsAtStage (get_or ws 1 0) y c st g) (sym two) (more_tickets g (get_or s.words 1 0) (get_or ws 1 0) (get_or s.words 2 0) c st (omega arith) x) in (
         w,
         keeps,
         tt,
-        moved of allows start s o id m.0 w ws s.homes me (λ z. absurd (named_unspent m.0.name k name z)) (length-set s.words 1 (t + 1) ∙ o.wide) o.one_slot
+        step_keeps of allows start s o id m.0 w ws s.homes me (λ z. absurd (named_unspent m.0.name k name z)) (length-set s.words 1 (t + 1) ∙ o.wide) o.one_slot
             (get_or-set_other s.words 1 0 (t + 1) 0 (λ e. omega arith)) (omega arith) (omega arith)
             (record { seen = f.seen; own = f.own; inherited = recalls_set o.log s.views id m.0 w me (λ z. absurd (named_unspent m.0.name k name z)) m.0.inherited f.inherited; stage = (omega arith, omega arith) })
             (λ j u ne at x. in_it u.stage (length o.log) o.state x)
@@ -99,7 +99,7 @@ module _ {T S E : Type 0} (of : T → S) (allows : S → E → S → Type 0) (st
       (λ miss. (m.0, keeps, tt, stays s o 1 id m me, ((λ hit. absurd (miss hit)), λ _. refl)))
 
   -- a load that finds the seat's ticket
-  module _ (s : State (Option (Held T)) (View S E)) (o : Rule s) (id : ℕ) (m : Sat T S E) (t : ℕ) (me : get_elem? s.views id ≡ some m.0) (waits : m.0.stage ≡ Waiting t) (hit : get_or s.words 2 0 ≡ t) where
+  module _ (s : State (Option (CountedObject T)) (View S E)) (o : Rule s) (id : ℕ) (m : Sat T S E) (t : ℕ) (me : get_elem? s.views id ≡ some m.0) (waits : m.0.stage ≡ Waiting t) (hit : get_or s.words 2 0 ≡ t) where
     same_words : set s.words 2 (get_or s.words 2 0) ≡ s.words
     same_words = set-get_or s.words 2 0
 
@@ -109,17 +109,17 @@ module _ {T S E : Type 0} (of : T → S) (allows : S → E → S → Type 0) (st
     is_in : IsIn m.0.stage
     is_in = subst (λ (g : Stage S). IsIn g) (sym waits) tt
 
-    the_home : (h : Held T) × (get_elem? s.homes 0 ≡ some (some (Some h))) × (of h.object ≡ o.state) × (h.count ≡ length o.log) × (length o.log ≤ get_or s.words 2 0)
+    the_home : (h : CountedObject T) × (get_elem? s.homes 0 ≡ some (some (Some h))) × (of h.object ≡ o.state) × (h.count ≡ length o.log) × (length o.log ≤ get_or s.words 2 0)
     the_home = o.home (all_in of allows start s o id m.0 me has_it is_in)
 
     -- the seat moves to a stage with the same ticket
-    continues : (k : ℕ) → m.0.name ≡ Named k → (g : Stage S) (hs : List (mathlib.Core.Option.Option (Option (Held T)))) → ((x : ℕ) → HasTicket x g → t ≡ x) → length hs ≡ 1
-        → Stands (get_or s.words 1 0) (get_or s.words 2 0) (length o.log) o.state g
-        → (((j : ℕ) (u : View S E) → get_elem? (set s.views id (at_stage m.0 g)) j ≡ some u → IsIn u.stage) → (h : Held T) × (get_elem? hs 0 ≡ some (some (Some h))) × (of h.object ≡ o.state) × (h.count ≡ length o.log) × (length o.log ≤ get_or s.words 2 0))
+    continues : (k : ℕ) → m.0.name ≡ Named k → (g : Stage S) (hs : List (mathlib.Core.Option.Option (Option (CountedObject T)))) → ((x : ℕ) → HasTicket x g → t ≡ x) → length hs ≡ 1
+        → IsAtStage (get_or s.words 1 0) (get_or s.words 2 0) (length o.log) o.state g
+        → (((j : ℕ) (u : View S E) → get_elem? (set s.views id (at_stage m.0 g)) j ≡ some u → IsIn u.stage) → (h : CountedObject T) × (get_elem? hs 0 ≡ some (some (Some h))) × (of h.object ≡ o.state) × (h.count ≡ length o.log) × (length o.log ≤ get_or s.words 2 0))
         → Rule (board of allows start (set s.words 2 (get_or s.words 2 0)) hs (set s.views id (at_stage m.0 g)))
     continues k name g hs only narrow here home = let w : View S E = at_stage m.0 g in let f = o.fits id m.0 me in
         subst (λ (ws : List ℕ). Rule (board of allows start ws hs (set s.views id w))) (sym same_words)
-        (moved of allows start s o id m.0 w s.words hs me (λ z. absurd (named_unspent m.0.name k name z)) o.wide narrow refl o.few o.most
+        (step_keeps of allows start s o id m.0 w s.words hs me (λ z. absurd (named_unspent m.0.name k name z)) o.wide narrow refl o.few o.most
         (record { seen = f.seen; own = f.own; inherited = recalls_set o.log s.views id m.0 w me (λ z. absurd (named_unspent m.0.name k name z)) m.0.inherited f.inherited; stage = here })
         (λ j u ne at x. x)
         (λ j u x ne at mine theirs. served_once of allows start s o id j x m.0 u me (subst (λ (y : Stage S). HasTicket x y) (sym waits) (only x mine)) ne at theirs)
@@ -128,7 +128,7 @@ module _ {T S E : Type 0} (of : T → S) (allows : S → E → S → Type 0) (st
   pub takes_on : (n id : ℕ) (m : Sat T S E) (t k : ℕ) → m.0.stage ≡ Waiting t → m.0.name ≡ Named k
       → Allows Rule n id m 2 (λ y. y) (takes_turn of (step n 2 0 0 none) m)
   takes_on n id m t k waits name s o narrow me _ = let long = o.wide in let most = o.most in let st = stands s o id m.0 (Waiting t) me waits in
-      let Continues : Type 0 = (w : View S E) × (a : Act (Option (Held T))) × Valid s.homes m.1 a × Rule (stepped s 2 (get_or s.words 2 0) id m.1 w a) × takes_turn of (step n 2 0 0 none) m (get_or s.words 2 0) (w, carried_after m.1 a) in
+      let Continues : Type 0 = (w : View S E) × (a : Act (Option (CountedObject T))) × Valid s.homes m.1 a × Rule (stepped s 2 (get_or s.words 2 0) id m.1 w a) × takes_turn of (step n 2 0 0 none) m (get_or s.words 2 0) (w, carried_after m.1 a) in
       dite (ℕ_discrete (get_or s.words 2 0) t)
       (λ hit. let h = the_home s o id m t me waits hit in let w : View S E = at_stage m.0 (Out t (of h.0.object) h.0.count) in let low = h.4 in (
         w,
@@ -155,7 +155,7 @@ module _ {T S E : Type 0} (of : T → S) (allows : S → E → S → Type 0) (st
       ))
       (λ miss. (m.0, keeps, tt, stays s o 2 id m me, λ t' waits'. let same : t ≡ t' = ticket_is m.0.stage t t' waits waits' in ((λ hit. absurd (miss (hit ∙ sym same))), λ _. refl)))
 
-  pub leaves_on : (n id : ℕ) (m : Sat T S E) (t new k : ℕ) (h : Held T) → m.0.stage ≡ Done t (of h.object) h.count → m.1 ≡ (0, Some h) ∷ [] → new ≡ t + 1 → m.0.name ≡ Named k
+  pub leaves_on : (n id : ℕ) (m : Sat T S E) (t new k : ℕ) (h : CountedObject T) → m.0.stage ≡ Done t (of h.object) h.count → m.1 ≡ (0, Some h) ∷ [] → new ≡ t + 1 → m.0.name ≡ Named k
       → Allows Rule n id m 2 (λ _. new) (λ _. leaves (step n 2 new 0 none) m new)
   leaves_on n id m t new k h done has is name s o narrow me _ =
       let st = stands s o id m.0 (Done t (of h.object) h.count) me done in let w : View S E = at_stage m.0 Idle in let ws : List ℕ = set s.words 2 new in let hs = set s.homes 0 (some (Some h)) in
@@ -170,19 +170,19 @@ module _ {T S E : Type 0} (of : T → S) (allows : S → E → S → Type 0) (st
         w,
         gives,
         tt,
-        subst (λ (c : List (ℕ × Option (Held T))). Rule (stepped s 2 new id c w gives)) (sym has)
-            (moved of allows start s o id m.0 w ws hs me (λ z. absurd (named_unspent m.0.name k name z)) (length-set s.words 2 new ∙ o.wide) (length-set s.homes 0 (some (Some h)) ∙ o.one_slot)
+        subst (λ (c : List (ℕ × Option (CountedObject T))). Rule (stepped s 2 new id c w gives)) (sym has)
+            (step_keeps of allows start s o id m.0 w ws hs me (λ z. absurd (named_unspent m.0.name k name z)) (length-set s.words 2 new ∙ o.wide) (length-set s.homes 0 (some (Some h)) ∙ o.one_slot)
             (get_or-set_other s.words 2 0 new 0 (λ e. omega arith)) (omega arith) (omega arith)
             (record { seen = f.seen; own = f.own; inherited = recalls_set o.log s.views id m.0 w me (λ z. absurd (named_unspent m.0.name k name z)) m.0.inherited f.inherited; stage = tt })
-            (λ j u ne at x. subst (λ (y : ℕ). Stands y (get_or ws 2 0) (length o.log) o.state u.stage) (sym one) (subst (λ (y : ℕ). Stands (get_or s.words 1 0) y (length o.log) o.state u.stage) (sym next)
+            (λ j u ne at x. subst (λ (y : ℕ). IsAtStage y (get_or ws 2 0) (length o.log) o.state u.stage) (sym one) (subst (λ (y : ℕ). IsAtStage (get_or s.words 1 0) y (length o.log) o.state u.stage) (sym next)
             (next_served u.stage (get_or s.words 1 0) (get_or s.words 2 0) (length o.log) o.state (λ theirs. served_once of allows start s o id j (get_or s.words 2 0) m.0 u me mine ne at theirs) x)))
             (λ j u x ne at none theirs. absurd none)
             (λ all. (h, set_here s.homes 0 (some (Some h)) (omega arith), st.2, st.3, let c = st.4 in omega arith))),
-        ap (λ (c : List (ℕ × Option (Held T))). (w, carried_after c gives)) has,
+        ap (λ (c : List (ℕ × Option (CountedObject T))). (w, carried_after c gives)) has,
       )
 
   -- the log after a call of the seat id
-  pub adds_on : (n id : ℕ) (m : Sat T S E) (t new k : ℕ) (o x : S) (c : ℕ) (h' : Held T) (entry : Option E) (e : E)
+  pub adds_on : (n id : ℕ) (m : Sat T S E) (t new k : ℕ) (o x : S) (c : ℕ) (h' : CountedObject T) (entry : Option E) (e : E)
       → m.0.opening ≡ Some o → m.0.name ≡ Named k → m.0.stage ≡ Out t x c → m.1 ≡ (0, Some h') ∷ [] → entry ≡ Some e
       → new ≡ c + 1 → h'.count ≡ new → allows x e (of h'.object)
       → Allows Rule n id m 0 (λ _. new) (λ _. adds of allows entry (step n 0 new 0 none) m new)
@@ -203,7 +203,7 @@ module _ {T S E : Type 0} (of : T → S) (allows : S → E → S → Type 0) (st
       let two : get_or ws 2 0 ≡ get_or s.words 2 0 = get_or-set_other s.words 0 2 new 0 (λ z. omega arith) in
       let few = r.few in let most = r.most in
       let mine_calls : calls_by k log' ≡ m.0.mine ++ e ∷ [] = calls_more k r.log m.0.mine e (subst (λ (x : ℕ). calls_by x r.log ≡ m.0.mine) (sym same) own.2) in
-      let legal' : Leads allows start log' (of h'.object) = leads_more allows start r.state (of h'.object) r.log k e r.legal (subst (λ (x : S). allows x e (of h'.object)) st.2 led) in
+      let legal' : HistoryLeads allows start log' (of h'.object) = leads_more allows start r.state (of h'.object) r.log k e r.legal (subst (λ (x : S). allows x e (of h'.object)) st.2 led) in
       let mine : (x : ℕ) → t ≡ x → HasTicket x m.0.stage = λ x p. subst (λ (g : Stage S). HasTicket x g) (sym out) p in
       let served : get_or s.words 2 0 ≡ t = st.0 in
       let apart_from : (j : ℕ) (u : View S E) → j ≢ id → get_elem? s.views j ≡ some u → HasTicket (get_or s.words 2 0) u.stage → ⊥ = λ j u ne at theirs. served_once of allows start s r id j (get_or s.words 2 0) m.0 u me (mine (get_or s.words 2 0) (sym served)) ne at theirs in
@@ -234,7 +234,7 @@ module _ {T S E : Type 0} (of : T → S) (allows : S → E → S → Type 0) (st
                 seen = starts_more r.log (numbered k e ∷ []) u.seen g.seen;
                 own = owns_more r.log j k e (λ p. q.0 (sym p ∙ same)) u.opening u.mine u.name start g.own;
                 inherited = recalls u.inherited g.inherited;
-                stage = subst (λ (y : ℕ). Stands y (get_or ws 2 0) (length log') (of h'.object) u.stage) (sym one) (subst (λ (y : ℕ). Stands (get_or s.words 1 0) y (length log') (of h'.object) u.stage) (sym two)
+                stage = subst (λ (y : ℕ). IsAtStage y (get_or ws 2 0) (length log') (of h'.object) u.stage) (sym one) (subst (λ (y : ℕ). IsAtStage (get_or s.words 1 0) y (length log') (of h'.object) u.stage) (sym two)
                     (other_called u.stage (get_or s.words 1 0) (get_or s.words 2 0) (length r.log) (length log') r.state (of h'.object) (apart_from j u q.0 q.1) g.stage));
               })
               (at_set s.views id j w u at);
@@ -255,7 +255,7 @@ module _ {T S E : Type 0} (of : T → S) (allows : S → E → S → Type 0) (st
             let same_k : k ≡ k₁ = name_is m.0.name k k₁ name name₁ in
             let same_e : e ≡ e₁ = some_is e e₁ (sym is ∙ is₁) in
             let same_t : t ≡ t₁ = out_is m.0.stage t t₁ x x₁ c c₁ out out₁ in
-            let same_h : Some h' ≡ Some h₁' = ap (λ (c : List (ℕ × Option (Held T))). (get_or c 0 (0, None)).1) (sym has ∙ has₁) in
+            let same_h : Some h' ≡ Some h₁' = ap (λ (c : List (ℕ × Option (CountedObject T))). (get_or c 0 (0, None)).1) (sym has ∙ has₁) in
             let same_h' : h' ≡ h₁' = some_is h' h₁' same_h in (
               refl,
               refl,
@@ -263,7 +263,7 @@ module _ {T S E : Type 0} (of : T → S) (allows : S → E → S → Type 0) (st
               refl,
               (λ i. Done (same_t i) (of (same_h' i).object) (same_h' i).count),
               subst (λ (x : S). Extends allows x k₁ m.0 e₁ w) same_o (subst (λ (x : ℕ). Extends allows o x m.0 e₁ w) same_k (subst (λ (x : E). Extends allows o k m.0 x w) same_e
-                  (f.seen.0, ap (λ (l : List (Numbered E)). l ++ numbered k e ∷ []) f.seen.1, (of h'.object, subst (λ (x : S). Leads allows x log' (of h'.object)) (sym same_start) legal'), refl, mine_calls))),
+                  (f.seen.0, ap (λ (l : List (Numbered E)). l ++ numbered k e ∷ []) f.seen.1, (of h'.object, subst (λ (x : S). HistoryLeads allows x log' (of h'.object)) (sym same_start) legal'), refl, mine_calls))),
             ),
       )
 
@@ -277,5 +277,5 @@ module _ {T S E : Type 0} where
   pub same_opening : (m m' : Sat T S E) (o : Option S) → m' ≡ m → m.0.opening ≡ o → m'.0.opening ≡ o
   same_opening m m' o e is = ap (λ (x : Sat T S E). x.0.opening) e ∙ is
 
-  pub same_slots : (m m' : Sat T S E) (l : List (ℕ × Option (Held T))) → m' ≡ m → m.1 ≡ l → m'.1 ≡ l
+  pub same_slots : (m m' : Sat T S E) (l : List (ℕ × Option (CountedObject T))) → m' ≡ m → m.1 ≡ l → m'.1 ≡ l
   same_slots m m' l e is = ap (λ (x : Sat T S E). x.1) e ∙ is

@@ -5,7 +5,7 @@ use mathlib.Core.Option.{some, some-injective, some-ne-none}
 use native.Mathlib.Decide.{ℕ_discrete}
 use lib.ListN.{get_elem?}
 use Rattle.psu_turn.specs.declared.numbered.Numbered.{Numbered}
-use Rattle.psu_turn.specs.History.{numbered, calls_by, StartsWith, Leads}
+use Rattle.psu_turn.specs.History.{numbered, calls_by, StartsWith, HistoryLeads}
 
 module _ {A : Type 0} where
   pub at_bound : (l : List A) (i : ℕ) (a : A) → get_elem? l i ≡ some a → i < length l
@@ -74,6 +74,6 @@ module _ {E : Type 0} where
   calls_none k log seen s none = nil_of (calls_by k seen) (calls_by k s.0) (ap (λ (x : List E). length x) (sym (calls_append k seen s.0) ∙ (ap (calls_by k) (sym s.1) ∙ none)))
 
 module _ {T E : Type 0} (allows : T → E → T → Type 0) where
-  pub leads_more : (s m t : T) (log : List (Numbered E)) (k : ℕ) (e : E) → Leads allows s log m → allows m e t → Leads allows s (log ++ numbered k e ∷ []) t
+  pub leads_more : (s m t : T) (log : List (Numbered E)) (k : ℕ) (e : E) → HistoryLeads allows s log m → allows m e t → HistoryLeads allows s (log ++ numbered k e ∷ []) t
   leads_more s m t [] k e way last = (t, subst (λ (x : T). allows x e t) (sym way) last, refl)
   leads_more s m t (x ∷ xs) k e way last = (way.0, way.1, leads_more way.0 m t xs k e way.2 last)

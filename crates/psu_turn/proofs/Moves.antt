@@ -6,7 +6,7 @@ use native.Mathlib.Decide.{ℕ_discrete}
 use lib.ListN.{get_elem?}
 use Rattle.atomic_table.specs.Table.{State}
 use Rattle.atomic_table.proofs.Lists.{at_set, set_here, set_else}
-use Rattle.psu_turn.specs.declared.held.Held.{Held}
+use Rattle.psu_turn.specs.declared.counted_object.CountedObject.{CountedObject}
 use Rattle.psu_turn.specs.declared.view.View.{View}
 use Rattle.psu_turn.specs.declared.stage.Stage.{Stage}
 use Rattle.psu_turn.specs.declared.stage.Stage.TheVariants.{Idle, Waiting, Called, Out, Done}
@@ -15,7 +15,7 @@ use Rattle.psu_turn.specs.declared.name.Name.TheVariants.{Spent, Unnamed, Named}
 use Rattle.psu_turn.specs.declared.inherited.Inherited.{Inherited}
 use Rattle.psu_turn.specs.declared.inherited.Inherited.TheVariants.{Nothing, From}
 use Rattle.psu_turn.specs.declared.numbered.Numbered.{Numbered}
-use Rattle.psu_turn.specs.Rule.{HasTicket, IsIn, Stands, Recalls, Fits, OneHistory}
+use Rattle.psu_turn.specs.Rule.{HasTicket, IsIn, IsAtStage, Recalls, Fits, OneHistory}
 use Rattle.psu_turn.proofs.Lists.{at_bound}
 
 abbrev name_code : Name → ℕ
@@ -30,7 +30,7 @@ pub unnamed_unspent : (n : Name) (k : ℕ) → n ≡ Unnamed k → n ≡ Spent �
 unnamed_unspent n k e z = absurd (omega (arith, ap name_code (sym e ∙ z)))
 
 module _ {T : Type 0} where
-  pub more_tickets : (g : Stage T) (tk tk' sv c : ℕ) (st : T) → tk ≤ tk' → Stands tk sv c st g → Stands tk' sv c st g
+  pub more_tickets : (g : Stage T) (tk tk' sv c : ℕ) (st : T) → tk ≤ tk' → IsAtStage tk sv c st g → IsAtStage tk' sv c st g
   more_tickets Idle tk tk' sv c st h s = tt
   more_tickets (Waiting t) tk tk' sv c st h s = let a = s.0 in let b = s.1 in (a, omega arith)
   more_tickets (Called t) tk tk' sv c st h s = let b = s.1 in (s.0, omega arith)
@@ -38,7 +38,7 @@ module _ {T : Type 0} where
   more_tickets (Done t x n) tk tk' sv c st h s = let b = s.1 in (s.0, omega arith, s.2, s.3, s.4)
 
   -- the next ticket is served, and the one served before is not this seat's
-  pub next_served : (g : Stage T) (tk sv c : ℕ) (st : T) → (HasTicket sv g → ⊥) → Stands tk sv c st g → Stands tk (sv + 1) c st g
+  pub next_served : (g : Stage T) (tk sv c : ℕ) (st : T) → (HasTicket sv g → ⊥) → IsAtStage tk sv c st g → IsAtStage tk (sv + 1) c st g
   next_served Idle tk sv c st un s = tt
   next_served (Waiting t) tk sv c st un s = let a = s.0 in (dite (ℕ_discrete t sv) (λ e. absurd (un e)) (λ n. omega arith), s.1)
   next_served (Called t) tk sv c st un s = absurd (un (sym s.0))
@@ -46,7 +46,7 @@ module _ {T : Type 0} where
   next_served (Done t x n) tk sv c st un s = absurd (un (sym s.0))
 
   -- another seat made a call
-  pub other_called : (g : Stage T) (tk sv c c' : ℕ) (st st' : T) → (HasTicket sv g → ⊥) → Stands tk sv c st g → Stands tk sv c' st' g
+  pub other_called : (g : Stage T) (tk sv c c' : ℕ) (st st' : T) → (HasTicket sv g → ⊥) → IsAtStage tk sv c st g → IsAtStage tk sv c' st' g
   other_called Idle tk sv c c' st st' un s = tt
   other_called (Waiting t) tk sv c c' st st' un s = s
   other_called (Called t) tk sv c c' st st' un s = absurd (un (sym s.0))
@@ -54,7 +54,7 @@ module _ {T : Type 0} where
   other_called (Done t x n) tk sv c c' st st' un s = absurd (un (sym s.0))
 
   -- a seat doesn't have the object, or its ticket is served
-  pub in_or_served : (g : Stage T) (tk sv c : ℕ) (st : T) → Stands tk sv c st g → IsIn g ⊎ HasTicket sv g
+  pub in_or_served : (g : Stage T) (tk sv c : ℕ) (st : T) → IsAtStage tk sv c st g → IsIn g ⊎ HasTicket sv g
   in_or_served Idle tk sv c st s = inl tt
   in_or_served (Waiting t) tk sv c st s = inl tt
   in_or_served (Called t) tk sv c st s = inl tt
@@ -62,7 +62,7 @@ module _ {T : Type 0} where
   in_or_served (Done t x n) tk sv c st s = inr (sym s.0)
 
   -- a ticket that was drawn
-  pub drawn : (g : Stage T) (tk sv c n : ℕ) (st : T) → HasTicket n g → Stands tk sv c st g → n < tk
+  pub drawn : (g : Stage T) (tk sv c n : ℕ) (st : T) → HasTicket n g → IsAtStage tk sv c st g → n < tk
   drawn Idle tk sv c n st h s = absurd h
   drawn (Waiting t) tk sv c n st h s = let b = s.1 in omega (arith, h)
   drawn (Called t) tk sv c n st h s = let b = s.1 in omega (arith, h)
@@ -84,9 +84,9 @@ module _ {T E : Type 0} where
 
 module _ {T S E : Type 0} (of : T → S) (allows : S → E → S → Type 0) (opening : S) where
   abbrev pub St : Type 0
-  St = State (Option (Held T)) (View S E)
+  St = State (Option (CountedObject T)) (View S E)
 
-  abbrev pub board : List ℕ → List (mathlib.Core.Option.Option (Option (Held T))) → List (View S E) → St
+  abbrev pub board : List ℕ → List (mathlib.Core.Option.Option (Option (CountedObject T))) → List (View S E) → St
   board ws hs vs = record { words = ws; homes = hs; views = vs }
 
   -- no two seats have the same ticket
@@ -110,15 +110,15 @@ module _ {T S E : Type 0} (of : T → S) (allows : S → E → S → Type 0) (op
       (λ n. all j u (set_else views id j w n ∙ at))
 
   -- a step that makes no call
-  unfoldable pub moved : (s : St) (o : OneHistory of allows opening s) (id : ℕ) (v w : View S E) (ws : List ℕ) (hs : List (mathlib.Core.Option.Option (Option (Held T)))) → get_elem? s.views id ≡ some v
+  unfoldable pub step_keeps : (s : St) (o : OneHistory of allows opening s) (id : ℕ) (v w : View S E) (ws : List ℕ) (hs : List (mathlib.Core.Option.Option (Option (CountedObject T)))) → get_elem? s.views id ≡ some v
       → (v.name ≡ Spent → w.name ≡ Spent) → length ws ≡ 3 → length hs ≡ 1
       → get_or ws 0 0 ≡ get_or s.words 0 0 → get_or ws 2 0 ≤ get_or ws 1 0 → get_or ws 1 0 ≤ 2 ^ 62
       → Fits opening o.state o.log (get_or ws 1 0) (get_or ws 2 0) (set s.views id w) id w
-      → ((j : ℕ) (u : View S E) → j ≢ id → get_elem? s.views j ≡ some u → Stands (get_or s.words 1 0) (get_or s.words 2 0) (length o.log) o.state u.stage → Stands (get_or ws 1 0) (get_or ws 2 0) (length o.log) o.state u.stage)
+      → ((j : ℕ) (u : View S E) → j ≢ id → get_elem? s.views j ≡ some u → IsAtStage (get_or s.words 1 0) (get_or s.words 2 0) (length o.log) o.state u.stage → IsAtStage (get_or ws 1 0) (get_or ws 2 0) (length o.log) o.state u.stage)
       → ((j : ℕ) (u : View S E) (t : ℕ) → j ≢ id → get_elem? s.views j ≡ some u → HasTicket t w.stage → HasTicket t u.stage → ⊥)
-      → (((j : ℕ) (u : View S E) → get_elem? (set s.views id w) j ≡ some u → IsIn u.stage) → (h : Held T) × (get_elem? hs 0 ≡ some (some (Some h))) × (of h.object ≡ o.state) × (h.count ≡ length o.log) × (length o.log ≤ get_or ws 2 0))
+      → (((j : ℕ) (u : View S E) → get_elem? (set s.views id w) j ≡ some u → IsIn u.stage) → (h : CountedObject T) × (get_elem? hs 0 ≡ some (some (Some h))) × (of h.object ≡ o.state) × (h.count ≡ length o.log) × (length o.log ≤ get_or ws 2 0))
       → OneHistory of allows opening (board ws hs (set s.views id w))
-  moved s o id v w ws hs me name wide one count few most fit others alone home = record {
+  step_keeps s o id v w ws hs me name wide one count few most fit others alone home = record {
     log = o.log;
     state = o.state;
     wide = wide;

@@ -1,7 +1,7 @@
 -- A seat that has taken the object.
 use Rattle.std.proofs.Common.{◌≡◌, ℕ, ◌+◌, ◌^◌, ◌<◌, ◌≤◌, ◌==◌, nat_le, Bool, true, false, List, [], ◌∷◌, refl, sym, ap, ◌∙◌, subst, arith, Option, Some, None, is_some}
 use Rattle.std.proofs.lemmas.Bool.{and_parts, eqb-true, leb-true}
-use Rattle.psu_turn.specs.declared.held.Held.{Held}
+use Rattle.psu_turn.specs.declared.counted_object.CountedObject.{CountedObject}
 use Rattle.psu_turn.specs.declared.stage.Stage.{Stage}
 use Rattle.psu_turn.specs.declared.stage.Stage.TheVariants.{Idle, Waiting, Called, Out, Done}
 use Rattle.psu_turn.specs.declared.name.Name.{Name}
@@ -11,7 +11,7 @@ use Rattle.psu_turn.specs.declared.inherited.Inherited.TheVariants.{Nothing, Fro
 use Rattle.psu_turn.specs.Steps.{Sat}
 use Rattle.psu_turn.specs.Sights.{number_of, state_out, is_named, has_taken, is_alone, has_slot, is_out}
 
-abbrev pub held : {T : Type 0} → T → ℕ → Held T
+abbrev pub held : {T : Type 0} → T → ℕ → CountedObject T
 held object count = record { object = object; count = count }
 
 -- each fact of `is_out`
@@ -45,7 +45,7 @@ opened_is : {S : Type 0} (o : Option S) → is_some o ≡ true → (x : S) × (o
 opened_is None e = absurd (false_true e)
 opened_is (Some x) e = (x, refl)
 
-slot_is : {T : Type 0} (l : List (ℕ × Option (Held T))) → has_slot l ≡ true → l ≡ (0, None) ∷ []
+slot_is : {T : Type 0} (l : List (ℕ × Option (CountedObject T))) → has_slot l ≡ true → l ≡ (0, None) ∷ []
 slot_is [] e = absurd (false_true e)
 slot_is ((k, None) ∷ []) e = ap (λ (n : ℕ). (n, None) ∷ []) (eqb-true k 0 e)
 slot_is ((k, Some h) ∷ []) e = absurd (false_true e)

@@ -7,7 +7,7 @@ use lib.ListN.{get_elem?}
 use lib.Seq.{set-get_or}
 use Rattle.atomic_table.specs.Table.{State, step, keeps, opening, Allows, Splits, Joins, Final, Seen}
 use Rattle.atomic_table.proofs.Lists.{set_here, set_else, set_again, at_longer}
-use Rattle.psu_turn.specs.declared.held.Held.{Held}
+use Rattle.psu_turn.specs.declared.counted_object.CountedObject.{CountedObject}
 use Rattle.psu_turn.specs.declared.view.View.{View}
 use Rattle.psu_turn.specs.declared.stage.Stage.{Stage}
 use Rattle.psu_turn.specs.declared.stage.Stage.TheVariants.{Idle, Called}
@@ -16,30 +16,30 @@ use Rattle.psu_turn.specs.declared.name.Name.TheVariants.{Spent, Unnamed, Named}
 use Rattle.psu_turn.specs.declared.inherited.Inherited.{Inherited}
 use Rattle.psu_turn.specs.declared.inherited.Inherited.TheVariants.{Nothing, From}
 use Rattle.psu_turn.specs.declared.numbered.Numbered.{Numbered}
-use Rattle.psu_turn.specs.History.{calls_by, StartsWith, Leads}
-use Rattle.psu_turn.specs.Rule.{view, newcomer, spent, HasTicket, IsIn, Stands, Owns, Recalls, Fits, OneHistory}
+use Rattle.psu_turn.specs.History.{calls_by, StartsWith, HistoryLeads}
+use Rattle.psu_turn.specs.Rule.{view, newcomer, spent, HasTicket, IsIn, IsAtStage, Owns, Recalls, Fits, OneHistory}
 use Rattle.psu_turn.specs.Sights.{number_of}
 use Rattle.psu_turn.specs.Steps.{Sat, child_name, child, taken_over, joined, is_named, looks, Tells}
 use Rattle.psu_turn.proofs.Lists.{at_bound, at_end, starts_itself, calls_none, set_swap, length_append}
-use Rattle.psu_turn.proofs.Moves.{named_unspent, unnamed_unspent, recalls_set, board, served_once, all_in, were_in, moved}
+use Rattle.psu_turn.proofs.Moves.{named_unspent, unnamed_unspent, recalls_set, board, served_once, all_in, were_in, step_keeps}
 use Rattle.psu_turn.proofs.Keeping.{some_is, name_is, stands}
 
 module _ {T S E : Type 0} (of : T → S) (allows : S → E → S → Type 0) (start : S) where
-  abbrev Rule : State (Option (Held T)) (View S E) → Type 0
+  abbrev Rule : State (Option (CountedObject T)) (View S E) → Type 0
   Rule = OneHistory of allows start
 
   -- a step that leaves a seat's stage the same keeps the rule
-  same_stage : (s : State (Option (Held T)) (View S E)) (r : Rule s) (i id : ℕ) (v w : View S E) → get_elem? s.views id ≡ some v → (v.name ≡ Spent → ⊥) → w.stage ≡ v.stage
+  same_stage : (s : State (Option (CountedObject T)) (View S E)) (r : Rule s) (i id : ℕ) (v w : View S E) → get_elem? s.views id ≡ some v → (v.name ≡ Spent → ⊥) → w.stage ≡ v.stage
       → StartsWith r.log w.seen → Owns start r.log id w.opening w.mine w.name → Recalls r.log s.views w.inherited
       → Rule (board of allows start (set s.words i (get_or s.words i 0)) s.homes (set s.views id w))
   same_stage s r i id v w me alive is seen own inherited = let f = r.fits id v me in
       subst (λ (ws : List ℕ). Rule (board of allows start ws s.homes (set s.views id w))) (sym (set-get_or s.words i 0))
-      (moved of allows start s r id v w s.words s.homes me (λ z. absurd (alive z)) r.wide r.one_slot refl r.few r.most
+      (step_keeps of allows start s r id v w s.words s.homes me (λ z. absurd (alive z)) r.wide r.one_slot refl r.few r.most
       (record {
         seen = seen;
         own = own;
         inherited = recalls_set r.log s.views id v w me (λ z. absurd (alive z)) w.inherited inherited;
-        stage = subst (λ (g : Stage S). Stands (get_or s.words 1 0) (get_or s.words 2 0) (length r.log) r.state g) (sym is) f.stage;
+        stage = subst (λ (g : Stage S). IsAtStage (get_or s.words 1 0) (get_or s.words 2 0) (length r.log) r.state g) (sym is) f.stage;
       })
       (λ j u ne at x. x)
       (λ j u x ne at mine theirs. served_once of allows start s r id j x v u me (subst (λ (g : Stage S). HasTicket x g) is mine) ne at theirs)
@@ -49,10 +49,10 @@ module _ {T S E : Type 0} (of : T → S) (allows : S → E → S → Type 0) (st
       (λ n. all j u (set_else s.views id j w n ∙ at)))))
 
   -- a seat that was taken over is released, and a seat that looks has a number
-  told : (log : List (Numbered E)) (views : List (View S E)) (id n own : ℕ) (v w : View S E) → get_elem? views id ≡ some v → v.name ≡ Named n → own ≡ id → w.seen ≡ log
+  inherits : (log : List (Numbered E)) (views : List (View S E)) (id n own : ℕ) (v w : View S E) → get_elem? views id ≡ some v → v.name ≡ Named n → own ≡ id → w.seen ≡ log
       → (x : Inherited E) → Recalls log views x → Tells own w x
-  told log views id n own v w me name here is Nothing q = tt
-  told log views id n own v w me name here is (From k seen mine) q = (
+  inherits log views id n own v w me name here is Nothing q = tt
+  inherits log views id n own v w me name here is (From k seen mine) q = (
     subst (λ (l : List (Numbered E)). StartsWith l seen) (sym is) q.0,
     ap (calls_by k) is ∙ q.1,
     λ e. let same : q.2.0 ≡ v = some-injective q.2.0 v (sym q.2.1 ∙ (ap (get_elem? views) (e ∙ here) ∙ me)) in named_unspent v.name n name (ap (λ (y : View S E). y.name) (sym same) ∙ q.2.2),
@@ -75,8 +75,8 @@ module _ {T S E : Type 0} (of : T → S) (allows : S → E → S → Type 0) (st
           refl,
           refl,
           sym r.count,
-          (f.seen, (r.state, subst (λ (x : S). Leads allows x r.log r.state) (some_is start o₁ (sym own.0 ∙ opens₁)) r.legal), refl, ap (λ (x : ℕ). calls_by x r.log) same ∙ own.2),
-          told r.log s.views id k k₁ m.0 w me name same refl m.0.inherited f.inherited,
+          (f.seen, (r.state, subst (λ (x : S). HistoryLeads allows x r.log r.state) (some_is start o₁ (sym own.0 ∙ opens₁)) r.legal), refl, ap (λ (x : ℕ). calls_by x r.log) same ∙ own.2),
+          inherits r.log s.views id k k₁ m.0 w me name same refl m.0.inherited f.inherited,
         ),
       )
 
@@ -94,7 +94,7 @@ module _ {T S E : Type 0} (of : T → S) (allows : S → E → S → Type 0) (st
       )
 
   -- one more seat, which is idle
-  joins_in : (s : State (Option (Held T)) (View S E)) (r : Rule s) (w : View S E) → w.stage ≡ Idle → StartsWith r.log w.seen
+  joins_in : (s : State (Option (CountedObject T)) (View S E)) (r : Rule s) (w : View S E) → w.stage ≡ Idle → StartsWith r.log w.seen
       → Owns start r.log (length s.views) w.opening w.mine w.name → w.inherited ≡ Nothing
       → Rule (board of allows start s.words s.homes (s.views ++ w ∷ []))
   joins_in s r w idle seen own alone = record {
@@ -115,7 +115,7 @@ module _ {T S E : Type 0} (of : T → S) (allows : S → E → S → Type 0) (st
           seen = seen;
           own = own;
           inherited = subst (λ (x : Inherited E). Recalls r.log (s.views ++ w ∷ []) x) (sym alone) tt;
-          stage = subst (λ (g : Stage S). Stands (get_or s.words 1 0) (get_or s.words 2 0) (length r.log) r.state g) (sym idle) tt;
+          stage = subst (λ (g : Stage S). IsAtStage (get_or s.words 1 0) (get_or s.words 2 0) (length r.log) r.state g) (sym idle) tt;
         })))
         (at_end s.views w u j at);
     apart = λ i j x y t ei ej hx hy. ⊎_elim
@@ -142,7 +142,7 @@ module _ {T S E : Type 0} (of : T → S) (allows : S → E → S → Type 0) (st
 
   pub joins_on : (id : ℕ) (v : View S E) (other : ℕ) (u : View S E) (k p : ℕ) → v.name ≡ Named k → u.name ≡ Named p → u.stage ≡ Idle
       → Joins Rule id v other u (joined v u) spent
-  unfolding moved
+  unfolding step_keeps
   joins_on id v other u k p name theirs idle s r me apart them =
       let w : View S E = joined v u in
       let vs : List (View S E) = set s.views id w in
@@ -151,7 +151,7 @@ module _ {T S E : Type 0} (of : T → S) (allows : S → E → S → Type 0) (st
       let g = r.fits other u there in
       let own : Owns start r.log other u.opening u.mine (Named p) = subst (λ (x : Name). Owns start r.log other u.opening u.mine x) theirs g.own in
       let gone : Rule (board of allows start s.words s.homes (set s.views other spent)) =
-      moved of allows start s r other u spent s.words s.homes there (λ z. refl) r.wide r.one_slot refl r.few r.most
+      step_keeps of allows start s r other u spent s.words s.homes there (λ z. refl) r.wide r.one_slot refl r.few r.most
       (record { seen = (r.log, refl); own = tt; inherited = tt; stage = tt })
       (λ j x ne at q. q)
       (λ j x t ne at none them. absurd none)
@@ -171,7 +171,7 @@ module _ {T S E : Type 0} (of : T → S) (allows : S → E → S → Type 0) (st
       (subst (λ (x : Name). Recalls gone.log (set s.views other spent) (taken_over x u)) (sym theirs) its)) in
       subst (λ (xs : List (View S E)). Rule (board of allows start s.words s.homes xs)) (sym (set_swap s.views id other w spent apart)) last
 
-  pub opens_on : (h : Held T) → of h.object ≡ start → h.count ≡ 0 → Rule (opening (0 ∷ 0 ∷ 0 ∷ []) (Some h ∷ []) (newcomer start))
+  pub opens_on : (h : CountedObject T) → of h.object ≡ start → h.count ≡ 0 → Rule (opening (0 ∷ 0 ∷ 0 ∷ []) (Some h ∷ []) (newcomer start))
   opens_on h is zero_calls = record {
     log = [];
     state = start;
@@ -195,8 +195,8 @@ module _ {T S E : Type 0} (of : T → S) (allows : S → E → S → Type 0) (st
   }
 
   -- the last state, where the seat's ticket is served
-  pub closes_on : (id : ℕ) (v : View S E) (t : ℕ) (ws : List ℕ) (xs : List (Option (Held T))) → Final (Seen Rule id v) ws xs → v.stage ≡ Called t → (x : Option (Held T)) → get_elem? xs 0 ≡ some x
-      → (h : Held T) × (x ≡ Some h) × ((o : S) (k : ℕ) → v.opening ≡ Some o → v.name ≡ Named k → (log : List (Numbered E)) × Leads allows o log (of h.object) × StartsWith log v.seen × (calls_by k log ≡ v.mine))
+  pub closes_on : (id : ℕ) (v : View S E) (t : ℕ) (ws : List ℕ) (xs : List (Option (CountedObject T))) → Final (Seen Rule id v) ws xs → v.stage ≡ Called t → (x : Option (CountedObject T)) → get_elem? xs 0 ≡ some x
+      → (h : CountedObject T) × (x ≡ Some h) × ((o : S) (k : ℕ) → v.opening ≡ Some o → v.name ≡ Named k → (log : List (Numbered E)) × HistoryLeads allows o log (of h.object) × StartsWith log v.seen × (calls_by k log ≡ v.mine))
   closes_on id v t ws xs final called x at =
       let s = final.0 in let r : Rule s = final.1.0 in let me : get_elem? s.views id ≡ some v = final.1.1 in
       let st = stands of allows start s r id v (Called t) me called in
@@ -208,7 +208,7 @@ module _ {T S E : Type 0} (of : T → S) (allows : S → E → S → Type 0) (st
         some-injective x (Some h.0) (sym at ∙ there),
         λ o k opens name. let own : Owns start r.log id v.opening v.mine (Named k) = subst (λ (y : Name). Owns start r.log id v.opening v.mine y) name f.own in (
           r.log,
-          subst (λ (y : S). Leads allows o r.log y) (sym h.2) (subst (λ (y : S). Leads allows y r.log r.state) (some_is start o (sym own.0 ∙ opens)) r.legal),
+          subst (λ (y : S). HistoryLeads allows o r.log y) (sym h.2) (subst (λ (y : S). HistoryLeads allows y r.log r.state) (some_is start o (sym own.0 ∙ opens)) r.legal),
           f.seen,
           ap (λ (y : ℕ). calls_by y r.log) own.1 ∙ own.2,
         ),

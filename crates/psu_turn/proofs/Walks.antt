@@ -2,7 +2,7 @@
 use Rattle.std.proofs.Common.{◌≡◌, ◌≢◌, ℕ, List, [], ◌∷◌, sym, refl, ap, ◌∙◌, subst, Option, Some, None, length}
 use Rattle.atomic_table.specs.Table.{Step, rest}
 use Rattle.psu_turn.specs.Turns.{TurnId}
-use Rattle.psu_turn.specs.declared.held.Held.{Held}
+use Rattle.psu_turn.specs.declared.counted_object.CountedObject.{CountedObject}
 use Rattle.psu_turn.specs.declared.numbered.Numbered.{Numbered}
 use Rattle.psu_turn.specs.declared.view.View.{View}
 use Rattle.psu_turn.specs.declared.stage.Stage.TheVariants.{Idle, Called}
@@ -10,9 +10,9 @@ use Rattle.psu_turn.specs.declared.name.Name.{Name}
 use Rattle.psu_turn.specs.declared.name.Name.TheVariants.{Unnamed, Named}
 use Rattle.psu_turn.specs.declared.inherited.Inherited.{Inherited}
 use Rattle.psu_turn.specs.declared.inherited.Inherited.TheVariants.{Nothing}
-use Rattle.psu_turn.specs.History.{calls_by, StartsWith, Leads}
+use Rattle.psu_turn.specs.History.{calls_by, StartsWith, HistoryLeads}
 use Rattle.psu_turn.specs.Rule.{view, at_stage}
-use Rattle.psu_turn.specs.Seats.{Sight, IsSame, IsOf, Calls, Sees, Closes}
+use Rattle.psu_turn.specs.Seats.{Sight, IsSame, IsOf, SeatCalls, Sees, Closes}
 use Rattle.psu_turn.specs.Sights.{number_of, sight, IsIdle, IsReady}
 use Rattle.psu_turn.specs.Steps.{Sat, child_name, child, taken_over, joined, looks, Extends, Tells}
 use Rattle.psu_turn.proofs.Keeping.{some_is}
@@ -48,12 +48,12 @@ module _ {T S E : Type 0} where
   pub joined_same : (m j : Sat T S E) (w : View S E) → j ≡ (joined m.0 w, m.1) → (j.0.opening ≡ m.0.opening) × (j.0.name ≡ m.0.name)
   joined_same m j w e = (ap (λ (x : Sat T S E). x.0.opening) e, ap (λ (x : Sat T S E). x.0.name) e)
 
-  pub filled : (m m' : Sat T S E) (x : Held T) → m' ≡ (m.0, (0, Some x) ∷ rest m.1) → m.1 ≡ (0, None) ∷ [] → m' ≡ (m.0, (0, Some x) ∷ [])
-  filled m m' x e out = e ∙ ap (λ (c : List (ℕ × Option (Held T))). (m.0, (0, Some x) ∷ rest c)) out
+  pub filled : (m m' : Sat T S E) (x : CountedObject T) → m' ≡ (m.0, (0, Some x) ∷ rest m.1) → m.1 ≡ (0, None) ∷ [] → m' ≡ (m.0, (0, Some x) ∷ [])
+  filled m m' x e out = e ∙ ap (λ (c : List (ℕ × Option (CountedObject T))). (m.0, (0, Some x) ∷ rest c)) out
 
   module _ (allows : S → E → S → Type 0) where
     -- a seat that has looked, and has taken over x
-    module _ (st : Step (Option (Held T))) (v : View S E) (x : Inherited E) (slots : List (ℕ × Option (Held T))) (a : Sat T S E) (found : ℕ) (idle : IsIdle v) (none : slots ≡ [])
+    module _ (st : Step (Option (CountedObject T))) (v : View S E) (x : Inherited E) (slots : List (ℕ × Option (CountedObject T))) (a : Sat T S E) (found : ℕ) (idle : IsIdle v) (none : slots ≡ [])
         (looked : looks allows st (view v.name v.opening v.seen v.mine x v.stage, slots) found a) where
       pub look_ready : IsReady a
       look_ready = let t = looked idle.opening (number_of v.name) idle.opened idle.named in (idle_of v a.0 idle t.1 t.2 (t.4 ∙ idle.idle) t.3, t.0 ∙ none)
@@ -75,12 +75,12 @@ module _ {T S E : Type 0} where
       look_tells = (looked idle.opening (number_of v.name) idle.opened idle.named).7
 
     -- a look of a seat that another was joined to
-    pub join_looks : (st : Step (Option (Held T))) (m : Sat T S E) (w : View S E) (j a : Sat T S E) (found : ℕ) → j ≡ (joined m.0 w, m.1) → looks allows st j found a
+    pub join_looks : (st : Step (Option (CountedObject T))) (m : Sat T S E) (w : View S E) (j a : Sat T S E) (found : ℕ) → j ≡ (joined m.0 w, m.1) → looks allows st j found a
         → looks allows st (view m.0.name m.0.opening m.0.seen m.0.mine (taken_over w.name w) m.0.stage, m.1) found a
     join_looks st m w j a found is looked = subst (λ (x : Sat T S E). looks allows st x found a) is looked
 
     -- a seat that has made its call and released the turn
-    module _ (m m' n a : Sat T S E) (t c : ℕ) (slots : List (ℕ × Option (Held T))) (out : IsOut t c m) (before : m' ≡ (m.0, slots)) (name : n.0.name ≡ m'.0.name) (opens : n.0.opening ≡ m'.0.opening) (alone : n.0.inherited ≡ m'.0.inherited) (after : a ≡ (at_stage n.0 Idle, [])) where
+    module _ (m m' n a : Sat T S E) (t c : ℕ) (slots : List (ℕ × Option (CountedObject T))) (out : IsOut t c m) (before : m' ≡ (m.0, slots)) (name : n.0.name ≡ m'.0.name) (opens : n.0.opening ≡ m'.0.opening) (alone : n.0.inherited ≡ m'.0.inherited) (after : a ≡ (at_stage n.0 Idle, [])) where
       same_name_n : n.0.name ≡ m.0.name
       same_name_n = name ∙ ap (λ (x : Sat T S E). x.0.name) before
 
@@ -99,11 +99,11 @@ module _ {T S E : Type 0} where
         refl,
       )
 
-      pub left_calls : (z z' : TurnId) (e : E) → z' ≡ z → Extends allows out.opening (number_of m.0.name) m'.0 e n.0 → Calls allows (sight z m.0) e (sight z' a.0)
+      pub left_calls : (z z' : TurnId) (e : E) → z' ≡ z → Extends allows out.opening (number_of m.0.name) m'.0 e n.0 → SeatCalls allows (sight z m.0) e (sight z' a.0)
       left_calls z z' e same extends =
           let d : Extends allows out.opening (number_of m.0.name) m.0 e n.0 = subst (λ (x : Sat T S E). Extends allows out.opening (number_of m.0.name) x.0 e n.0) before extends in
           let number : number_of n.0.name ≡ number_of m.0.name = ap number_of same_name_n in
-          subst (λ (x : Sat T S E). Calls allows (sight z m.0) e (sight z' x.0)) (sym after) (record {
+          subst (λ (x : Sat T S E). SeatCalls allows (sight z m.0) e (sight z' x.0)) (sym after) (record {
             same = record { turn = same; number = number; opening = same_opening_n };
             seen = (d.0, d.1);
             legal = (out.opening, same_opening_n ∙ out.opened, d.2);
@@ -112,17 +112,17 @@ module _ {T S E : Type 0} where
           })
 
     -- the last state
-    pub close_tells : (of : T → S) (z : TurnId) (m v : Sat T S E) (h x : Held T) (t : ℕ) (s : Sight S E) → IsReady m → sight z m.0 ≡ s → v ≡ (at_stage m.0 (Called t), m.1) → Some x ≡ Some h
-        → ((o : S) (k : ℕ) → v.0.opening ≡ Some o → v.0.name ≡ Named k → (log : List (Numbered E)) × Leads allows o log (of h.object) × StartsWith log v.0.seen × (calls_by k log ≡ v.0.mine))
+    pub close_tells : (of : T → S) (z : TurnId) (m v : Sat T S E) (h x : CountedObject T) (t : ℕ) (s : Sight S E) → IsReady m → sight z m.0 ≡ s → v ≡ (at_stage m.0 (Called t), m.1) → Some x ≡ Some h
+        → ((o : S) (k : ℕ) → v.0.opening ≡ Some o → v.0.name ≡ Named k → (log : List (Numbered E)) × HistoryLeads allows o log (of h.object) × StartsWith log v.0.seen × (calls_by k log ≡ v.0.mine))
         → Closes allows s (of x.object)
     close_tells of z m v h x t s ready is e same f =
         let idle = ready.0 in
-        let q = subst (λ (y : Sat T S E). (o : S) (k : ℕ) → y.0.opening ≡ Some o → y.0.name ≡ Named k → (log : List (Numbered E)) × Leads allows o log (of h.object) × StartsWith log y.0.seen × (calls_by k log ≡ y.0.mine)) e f idle.opening (number_of m.0.name) idle.opened idle.named in
+        let q = subst (λ (y : Sat T S E). (o : S) (k : ℕ) → y.0.opening ≡ Some o → y.0.name ≡ Named k → (log : List (Numbered E)) × HistoryLeads allows o log (of h.object) × StartsWith log y.0.seen × (calls_by k log ≡ y.0.mine)) e f idle.opening (number_of m.0.name) idle.opened idle.named in
         subst (λ (y : Sight S E). Closes allows y (of x.object)) is (record {
           opening = idle.opening;
           opening_is = idle.opened;
           history = q.0;
-          leads = subst (λ (y : Held T). Leads allows idle.opening q.0 (of y.object)) (sym (some_is x h same)) q.1;
+          leads = subst (λ (y : CountedObject T). HistoryLeads allows idle.opening q.0 (of y.object)) (sym (some_is x h same)) q.1;
           seen = q.2;
           own = q.3;
         })

@@ -17,10 +17,10 @@ StartsWith {X} history seen = (rest : List X) × (history ≡ seen ++ rest)
 
 module _ {S E : Type 0} (allows : S → E → S → Type 0) where
   -- there are states in between, from the first to the last, such that each call may have its reply
-  abbrev pub Leads : S → List (Numbered E) → S → Type 0
-  Leads first [] last = first ≡ last
-  Leads first (x ∷ xs) last = (next : S) × allows first x.entry next × Leads next xs last
+  abbrev pub HistoryLeads : S → List (Numbered E) → S → Type 0
+  HistoryLeads first [] last = first ≡ last
+  HistoryLeads first (x ∷ xs) last = (next : S) × allows first x.entry next × HistoryLeads next xs last
 
   -- the history is legal: it leads to some state
   abbrev pub IsLegal : S → List (Numbered E) → Type 0
-  IsLegal first history = (last : S) × Leads first history last
+  IsLegal first history = (last : S) × HistoryLeads first history last

@@ -4,7 +4,7 @@ use Rattle.std.specs.Prelude.{◌≡◌, ℕ, ◌+◌, ◌^◌, ◌<◌, ◌≤�
 use mathlib.Core.Option.{some}
 use lib.ListN.{get_elem?}
 use Rattle.atomic_table.specs.Table.{State}
-use Rattle.psu_turn.specs.declared.held.Held.{Held}
+use Rattle.psu_turn.specs.declared.counted_object.CountedObject.{CountedObject}
 use Rattle.psu_turn.specs.declared.numbered.Numbered.{Numbered}
 use Rattle.psu_turn.specs.declared.view.View.{View}
 use Rattle.psu_turn.specs.declared.stage.Stage.{Stage}
@@ -13,7 +13,7 @@ use Rattle.psu_turn.specs.declared.name.Name.{Name}
 use Rattle.psu_turn.specs.declared.name.Name.TheVariants.{Spent, Unnamed, Named}
 use Rattle.psu_turn.specs.declared.inherited.Inherited.{Inherited}
 use Rattle.psu_turn.specs.declared.inherited.Inherited.TheVariants.{Nothing, From}
-use Rattle.psu_turn.specs.History.{calls_by, StartsWith, Leads}
+use Rattle.psu_turn.specs.History.{calls_by, StartsWith, HistoryLeads}
 
 module _ {S E : Type 0} where
   abbrev pub view : Name → Option S → List (Numbered E) → List E → Inherited E → Stage S → View S E
@@ -49,12 +49,12 @@ IsIn (Done t x c) = ⊥
 -- What a stage says about the next ticket, the one that is served, the number of calls and the state. No more calls
 -- were made than tickets served.
 module _ {S : Type 0} (ticket serving count : ℕ) (state : S) where
-  abbrev pub Stands : Stage S → Type 0
-  Stands Idle = Unit {0}
-  Stands (Waiting t) = (serving ≤ t) × (t < ticket)
-  Stands (Called t) = (serving ≡ t) × (t < ticket)
-  Stands (Out t x c) = (serving ≡ t) × (t < ticket) × (x ≡ state) × (c ≡ count) × (count ≤ t)
-  Stands (Done t x c) = (serving ≡ t) × (t < ticket) × (x ≡ state) × (c ≡ count) × (count ≤ t + 1)
+  abbrev pub IsAtStage : Stage S → Type 0
+  IsAtStage Idle = Unit {0}
+  IsAtStage (Waiting t) = (serving ≤ t) × (t < ticket)
+  IsAtStage (Called t) = (serving ≡ t) × (t < ticket)
+  IsAtStage (Out t x c) = (serving ≡ t) × (t < ticket) × (x ≡ state) × (c ≡ count) × (count ≤ t)
+  IsAtStage (Done t x c) = (serving ≡ t) × (t < ticket) × (x ≡ state) × (c ≡ count) × (count ≤ t + 1)
 
 -- Under the number of seat j the history has exactly its calls. A seat that has no number yet is younger than the seat
 -- that it was split from.
@@ -76,20 +76,20 @@ pub record Fits {S E : Type 0} (opening state : S) (log : List (Numbered E)) (ti
   pub seen : StartsWith log v.seen
   pub own : Owns opening log j v.opening v.mine v.name
   pub inherited : Recalls log views v.inherited
-  pub stage : Stands ticket serving (length log) state v.stage
+  pub stage : IsAtStage ticket serving (length log) state v.stage
 
 -- There is one legal history. Its length is the count, and unless a seat has taken it, the slot has the object as the
 -- history leaves it.
-pub record OneHistory {T S E : Type 0} (of : T → S) (allows : S → E → S → Type 0) (opening : S) (s : State (Option (Held T)) (View S E)) : Type 0 where
+pub record OneHistory {T S E : Type 0} (of : T → S) (allows : S → E → S → Type 0) (opening : S) (s : State (Option (CountedObject T)) (View S E)) : Type 0 where
   pub log : List (Numbered E)
   pub state : S
   pub wide : length s.words ≡ 3
   pub one_slot : length s.homes ≡ 1
   pub count : slice_index s.words 0 ≡ length log
-  pub legal : Leads allows opening log state
+  pub legal : HistoryLeads allows opening log state
   pub few : slice_index s.words 2 ≤ slice_index s.words 1
   pub most : slice_index s.words 1 ≤ 2 ^ 62
   pub unmade : (j : ℕ) → length s.views ≤ j → calls_by j log ≡ []
   pub fits : (j : ℕ) (v : View S E) → get_elem? s.views j ≡ some v → Fits opening state log (slice_index s.words 1) (slice_index s.words 2) s.views j v
   pub apart : (i j : ℕ) (v w : View S E) (t : ℕ) → get_elem? s.views i ≡ some v → get_elem? s.views j ≡ some w → HasTicket t v.stage → HasTicket t w.stage → i ≡ j
-  pub home : ((j : ℕ) (v : View S E) → get_elem? s.views j ≡ some v → IsIn v.stage) → (h : Held T) × (get_elem? s.homes 0 ≡ some (some (Some h))) × (of h.object ≡ state) × (h.count ≡ length log) × (length log ≤ slice_index s.words 2)
+  pub home : ((j : ℕ) (v : View S E) → get_elem? s.views j ≡ some v → IsIn v.stage) → (h : CountedObject T) × (get_elem? s.homes 0 ≡ some (some (Some h))) × (of h.object ≡ state) × (h.count ≡ length log) × (length log ≤ slice_index s.words 2)

@@ -2,7 +2,7 @@
 use Rattle.std.specs.Prelude.{◌≡◌, ◌≢◌, ℕ, List, [], ◌∷◌, ◌++◌, Option, Some}
 use Rattle.psu_turn.specs.Turns.{TurnId}
 use Rattle.psu_turn.specs.declared.numbered.Numbered.{Numbered}
-use Rattle.psu_turn.specs.History.{numbered, calls_by, StartsWith, Leads, IsLegal}
+use Rattle.psu_turn.specs.History.{numbered, calls_by, StartsWith, HistoryLeads, IsLegal}
 
 -- The turn that the seat belongs to, its number there, the state of the object when the turn was created (`None`: a
 -- call is being made with the seat), the history that it has seen, and its own calls.
@@ -47,7 +47,7 @@ module _ {S E : Type 0} where
 
     -- After its call e the seat has seen one legal history, which begins with all that it had seen and ends with e.
     -- Under the seat's number the history has exactly the seat's calls, each once.
-    pub record Calls (v : Sight S E) (e : E) (w : Sight S E) : Type 0 where
+    pub record SeatCalls (v : Sight S E) (e : E) (w : Sight S E) : Type 0 where
       pub same : IsSame v w
       pub seen : (between : List (Numbered E)) × (w.seen ≡ (v.seen ++ between) ++ numbered v.number e ∷ [])
       pub legal : IsLegalFrom w.opening w.seen
@@ -77,6 +77,6 @@ module _ {S E : Type 0} where
       pub opening : S
       pub opening_is : v.opening ≡ Some opening
       pub history : List (Numbered E)
-      pub leads : Leads allows opening history state
+      pub leads : HistoryLeads allows opening history state
       pub seen : StartsWith history v.seen
       pub own : calls_by v.number history ≡ v.mine

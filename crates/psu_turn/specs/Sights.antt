@@ -2,7 +2,7 @@
 use Rattle.std.specs.Prelude.{◌≡◌, ℕ, ◌+◌, ◌^◌, nat_le, ◌==◌, ◌&&◌, Bool, true, false, List, [], ◌∷◌, Option, Some, None, is_some}
 use Rattle.psu_turn.specs.Turns.{TurnId}
 use Rattle.atomic_table.specs.declared.shared.Seat.{Seat}
-use Rattle.psu_turn.specs.declared.held.Held.{Held}
+use Rattle.psu_turn.specs.declared.counted_object.CountedObject.{CountedObject}
 use Rattle.psu_turn.specs.declared.view.View.{View}
 use Rattle.psu_turn.specs.declared.stage.Stage.{Stage}
 use Rattle.psu_turn.specs.declared.stage.Stage.TheVariants.{Idle, Waiting, Called, Out, Done}
@@ -67,7 +67,7 @@ is_alone Nothing = true
 is_alone (From k seen mine) = false
 
 -- the seat has slot 0, and there is nothing in it
-abbrev pub has_slot : {T : Type 0} → List (ℕ × Option (Held T)) → Bool
+abbrev pub has_slot : {T : Type 0} → List (ℕ × Option (CountedObject T)) → Bool
 has_slot [] = false
 has_slot ((k, None) ∷ []) = k == 0
 has_slot ((k, Some h) ∷ []) = false
@@ -83,7 +83,7 @@ module _ {T S E : Type 0} where
   is_out ticket count m = is_some m.0.opening && is_named m.0.name && has_taken ticket count m.0.stage && is_alone m.0.inherited && has_slot m.1
 
   -- q is the seat p, with the view and the slots of p
-  pub record Stays (p q : Seat (Option (Held T)) (View S E)) : Type 0 where
+  pub record Stays (p q : Seat (Option (CountedObject T)) (View S E)) : Type 0 where
     pub turn : q.table_id ≡ p.table_id
     pub id : q.id ≡ p.id
     pub me : q.me ≡ p.me

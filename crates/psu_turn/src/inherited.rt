@@ -1,4 +1,4 @@
-// What a seat takes over when another is joined to it.
+//! What a seat takes over when another is joined to it.
 use crate::Numbered;
 use std::collections::LinkedList;
 

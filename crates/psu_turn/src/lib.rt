@@ -6,9 +6,8 @@
 //! relation of a [`Machine`].
 #![tactic(auto)]
 
-mod held;
+mod counted_object;
 mod inherited;
-mod law;
 mod machine;
 mod name;
 mod naming;
@@ -20,9 +19,10 @@ mod stage;
 mod steps;
 mod taken;
 mod turn;
+mod turn_rule;
 mod view;
 
-pub use held::Held;
+pub use counted_object::CountedObject;
 pub use inherited::Inherited;
 pub use machine::Machine;
 pub use name::Name;

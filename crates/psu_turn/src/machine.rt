@@ -1,4 +1,4 @@
-// The objects that threads may share by a turn.
+//! The objects that threads may share by a turn.
 
 /// An object whose calls are specified by one relation: which entry, a call with its reply, leads from which state to
 /// which.

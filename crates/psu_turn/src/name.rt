@@ -1,4 +1,4 @@
-// The number under which the history has the calls of a seat.
+//! The number under which the history has the calls of a seat.
 
 /// The number of a seat. No value of it is constructed.
 pub enum Name {

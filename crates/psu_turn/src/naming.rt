@@ -1,4 +1,4 @@
-// The entry of a call.
+//! The entry of a call.
 ghost use Rattle.std.specs.Prelude.{Option};
 
 use std::marker::Brand;

@@ -1,4 +1,4 @@
-// The error of creating a turn.
+//! The error of creating a turn.
 
 /// There was no memory for a turn. The object is returned.
 #[derive(Drop)]

@@ -1,4 +1,4 @@
-// How a thread waits for its turn.
+//! How a thread waits for its turn.
 use std::thread;
 
 // The number of times that a thread looks again at once.

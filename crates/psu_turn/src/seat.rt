@@ -1,14 +1,14 @@
-// A caller's seat.
+//! A caller's seat.
 ghost use Rattle.std.specs.Prelude.{◌≡◌, Some, None};
 ghost use Rattle.psu_turn.specs.Sights.{sight, IsReady};
 
-use crate::{Held, View};
+use crate::{CountedObject, View};
 use atomic_table::Badge;
 use std::marker::Model;
 use std::mem;
 
 // A seat at the table, which may have the slot.
-pub(crate) type Place<T, S, E> = atomic_table::Seat<Option<Held<T>>, View<S, E>>;
+pub(crate) type Place<T, S, E> = atomic_table::Seat<Option<CountedObject<T>>, View<S, E>>;
 
 /// A caller's seat: what a thread needs for its calls. It doesn't name the object's type, and may be passed to another
 /// thread.

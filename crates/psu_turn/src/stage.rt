@@ -1,4 +1,4 @@
-// The position of a seat in the queue for the turn.
+//! The position of a seat in the queue for the turn.
 
 /// How far a seat is with its call. No value of it is constructed.
 pub enum Stage<S> {

@@ -1,63 +1,64 @@
-// The kinds of step, each with what its seat learns from it.
+//! The kinds of step, each with what its seat learns from it.
 ghost use Rattle.psu_turn.specs.Rule.{spent};
 ghost use Rattle.psu_turn.specs.Steps.{draws, takes_turn, is_called, adds, leaves, looks, is_named, child, joined};
 
-use crate::{Held, Machine, Naming, View};
+use crate::{CountedObject, Machine, Naming, View};
 use atomic_table::{Join, Play, Split};
 use std::marker::PhantomData;
 
 // A ticket is drawn.
-pub struct Draw;
+pub(crate) struct Draw;
 
-impl<T, S, E> Play<Option<Held<T>>, View<S, E>> for Draw {
+impl<T, S, E> Play<Option<CountedObject<T>>, View<S, E>> for Draw {
     ghost then = { draws };
 }
 
 // The served ticket is looked at, and the object is taken if the ticket is the seat's.
-pub struct Take;
+pub(crate) struct Take;
 
-impl<T: Machine> Play<Option<Held<T>>, View<T::State, T::Entry>> for Take {
+impl<T: Machine> Play<Option<CountedObject<T>>, View<T::State, T::Entry>> for Take {
     ghost then = { takes_turn T.state };
 }
 
 // The served ticket is looked at, and the object stays.
-pub struct Know;
+pub(crate) struct Know;
 
-impl<T, S, E> Play<Option<Held<T>>, View<S, E>> for Know {
+impl<T, S, E> Play<Option<CountedObject<T>>, View<S, E>> for Know {
     ghost then = { is_called };
 }
 
 // An entry is added to the history.
-pub struct Add<J> {
+pub(crate) struct Add<J> {
     marker: PhantomData<J>,
 }
 
-impl<T: Machine, J: Naming<T::Entry>> Play<Option<Held<T>>, View<T::State, T::Entry>> for Add<J> {
+impl<T: Machine, J: Naming<T::Entry>> Play<Option<CountedObject<T>>, View<T::State, T::Entry>>
+    for Add<J> {
     ghost then = { adds T.state T.allows J.entry };
 }
 
 // The turn is released.
-pub struct Leave;
+pub(crate) struct Leave;
 
-impl<T, S, E> Play<Option<Held<T>>, View<S, E>> for Leave {
+impl<T, S, E> Play<Option<CountedObject<T>>, View<S, E>> for Leave {
     ghost then = { leaves };
 }
 
 // The history is looked at.
-pub struct Look;
+pub(crate) struct Look;
 
-impl<T: Machine> Play<Option<Held<T>>, View<T::State, T::Entry>> for Look {
+impl<T: Machine> Play<Option<CountedObject<T>>, View<T::State, T::Entry>> for Look {
     ghost then = { looks T.allows };
 }
 
 // A seat that was split off gets its number.
-pub struct Call;
+pub(crate) struct Call;
 
-impl<T, S, E> Play<Option<Held<T>>, View<S, E>> for Call {
+impl<T, S, E> Play<Option<CountedObject<T>>, View<S, E>> for Call {
     ghost then = { is_named };
 }
 
-pub struct Fork;
+pub(crate) struct Fork;
 
 impl<S, E> Split<View<S, E>> for Fork {
     ghost left = { λ v. v };
@@ -65,7 +66,7 @@ impl<S, E> Split<View<S, E>> for Fork {
     ghost right = { child };
 }
 
-pub struct Merge;
+pub(crate) struct Merge;
 
 impl<S, E> Join<View<S, E>> for Merge {
     ghost both = { joined };

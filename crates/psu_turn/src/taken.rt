@@ -1,4 +1,4 @@
-// The object while it is out of its slot.
+//! The object while it is out of its slot.
 ghost use Rattle.std.specs.Prelude.{◌≡◌, true};
 ghost use Rattle.psu_turn.specs.Sights.{is_out};
 

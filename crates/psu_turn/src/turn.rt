@@ -1,16 +1,16 @@
-// The turn: three words, and a slot that has the object while no seat has taken it.
+//! The turn: three words, and a slot that has the object while no seat has taken it.
 ghost use Rattle.std.specs.Prelude.{◌≡◌, ◌+◌, ◌^◌, ◌<◌, ◌≤◌, nat_lt, [], ◌∷◌, Option, Some, None, IfOk, IfErr, length};
 ghost use Rattle.psu_turn.specs.Rule.{at_stage};
-ghost use Rattle.psu_turn.specs.Seats.{Begins, IsOf, Calls, Sees, Splits, Joins, Closes};
+ghost use Rattle.psu_turn.specs.Seats.{Begins, IsOf, SeatCalls, Sees, Splits, Joins, Closes};
 ghost use Rattle.psu_turn.specs.Sights.{IsReady, number_of};
 ghost use Rattle.psu_turn.specs.declared.stage.Stage.TheVariants.{Waiting, Called, Out};
 ghost use Rattle.psu_turn.specs.declared.name.Name.TheVariants.{Named};
 
-use crate::law::Law;
 use crate::patience::Patience;
 use crate::seat::Place;
 use crate::steps::{Add, Call, Draw, Fork, Know, Leave, Look, Merge, Take};
-use crate::{Held, Machine, Naming, NoMemory, Seat, Taken, View};
+use crate::turn_rule::TurnRule;
+use crate::{CountedObject, Machine, Naming, NoMemory, Seat, Taken, View};
 use atomic_table::{Closed, Refused, Table};
 use std::alloc::Allocator;
 use std::marker::Model;
@@ -37,7 +37,7 @@ const SERVED: usize = 2;
 /// An object that many threads call, each in its turn. Contracts see which turn it is: a seat belongs to one turn only.
 #[derive(Drop)]
 pub struct Turn<T: Machine, A: Allocator + Copy> {
-    table: Table<Option<Held<T>>, View<T::State, T::Entry>, Snapshot<T>, Law, A>,
+    table: Table<Option<CountedObject<T>>, View<T::State, T::Entry>, Snapshot<T>, TurnRule, A>,
 }
 
 impl<T: Machine, A: Allocator + Copy> Model for Turn<T, A> {
@@ -66,11 +66,11 @@ impl<T: Machine, A: Allocator + Copy> Turn<T, A> {
         let Ok(mut slots) = Vec::with_capacity(alloc, 1) else {
             return Err(NoMemory { object });
         };
-        slots.push_reserved(Some(Held { object, count: 0 }));
+        slots.push_reserved(Some(CountedObject { object, count: 0 }));
         match Table::new(alloc, &[0, 0, 0], slots, &about) {
             Ok((table, place)) => Ok((Turn { table }, Seat::rest(place))),
             Err(Refused { mut slots }) => {
-                let Some(Some(Held { object, count: _ })) = slots.pop() else {
+                let Some(Some(CountedObject { object, count: _ })) = slots.pop() else {
                     unreachable!()
                 };
                 slots.destroy_empty();
@@ -91,7 +91,7 @@ impl<T: Machine, A: Allocator + Copy> Turn<T, A> {
     {
         let mut place = seat.rise();
         let ticket = self.draw(rt, &mut place);
-        let Held { object, count } = self.take(rt, &mut place, ticket);
+        let CountedObject { object, count } = self.take(rt, &mut place, ticket);
         Taken {
             object,
             place,
@@ -111,7 +111,7 @@ impl<T: Machine, A: Allocator + Copy> Turn<T, A> {
     )
         requires own { (seat_of taken).turn ≡ self.now }
         requires allowed { (before : _) × (e : _) × (state_of taken ≡ Some before) × (J.entry ≡ Some e) × T.allows before e (T.state taken.object) }
-        ensures call { (e : _) → J.entry ≡ Some e → Calls T.allows (seat_of taken) e seat.new }
+        ensures call { (e : _) → J.entry ≡ Some e → SeatCalls T.allows (seat_of taken) e seat.new }
         ensures own { IsOf self.now seat.new }
     {
         let Taken {
@@ -124,7 +124,7 @@ impl<T: Machine, A: Allocator + Copy> Turn<T, A> {
         let before = self
             .table
             .shared
-            .exchange(&mut place, 0, Some(Held { object, count }));
+            .exchange(&mut place, 0, Some(CountedObject { object, count }));
         let None = before else { unreachable!() };
         self.table.shared.store::<Add<J>>(&mut place, COUNT, count);
         self.table
@@ -185,7 +185,7 @@ impl<T: Machine, A: Allocator + Copy> Turn<T, A> {
         self.await_call(rt, &mut place, ticket);
         let Turn { table } = self;
         let mut closed = table.close_with(place);
-        let Some(Held { object, count: _ }) = closed.take(0) else {
+        let Some(CountedObject { object, count: _ }) = closed.take(0) else {
             unreachable!()
         };
         closed.free();
@@ -222,7 +222,7 @@ impl<T: Machine, A: Allocator + Copy> Turn<T, A> {
         rt: &R,
         place: &mut Place<T, T::State, T::Entry>,
         ticket: u64,
-    ) -> Held<T>
+    ) -> CountedObject<T>
         requires own { place.old.table_id ≡ self.now }
         requires named { place.old.me.0.name ≡ Named (number_of place.old.me.0.name) }
         requires waiting { (place.old.me.0.stage ≡ Waiting ticket) × (place.old.me.1 ≡ []) }

@@ -1,4 +1,4 @@
-// What a seat knows about the turn.
+//! What a seat knows about the turn.
 use crate::{Inherited, Name, Numbered, Stage};
 use std::collections::LinkedList;
 

@@ -1,5 +1,5 @@
-// A command, its response, and the sizes of responses.
-use crate::conversations::goes_as_told;
+//! A command, its response, and the sizes of responses.
+use crate::conversations::converse;
 
 const A_COMMAND: &str = "
 async 'HS 11 00*4 01 -> async 'HS 12
@@ -12,7 +12,7 @@ async 'HS 15 02 -> status no
 
 #[test]
 fn a_command_and_a_status_query(rt: HostRuntime) {
-    goes_as_told(&rt, rt.alloc(), A_COMMAND);
+    converse(&rt, rt.alloc(), A_COMMAND);
 }
 
 // Each maximum message size of a client is answered by the server's own, 65,536 bytes, and bounds the frames of its
@@ -61,5 +61,5 @@ answer 9/0 78*65521 -> 'HS 06 00*4 09 00*6 ff f0 78*65520 'HS 07 00*4 09 00*7 01
 
 #[test]
 fn answers_by_the_size_of_the_client(rt: HostRuntime) {
-    goes_as_told(&rt, rt.alloc(), SIZES);
+    converse(&rt, rt.alloc(), SIZES);
 }

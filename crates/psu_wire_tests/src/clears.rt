@@ -1,9 +1,9 @@
-// Device clears, responses in parts, a feed that is refused memory, and the responses to lock messages.
-//
-// In the conversations `06 .. 'A` is Data with the byte `A`, and `07 .. 'B` DataEnd with `B`, both with MessageID 2;
-// `13` is AsyncDeviceClear, answered only by its acknowledgement `17`, and `08` DeviceClearComplete, answered only by
-// `09`.
-use crate::conversations::goes_as_told;
+//! Device clears, responses in parts, a feed that is refused memory, and the responses to lock messages.
+//!
+//! In the conversations `06 .. 'A` is Data with the byte `A`, and `07 .. 'B` DataEnd with `B`, both with MessageID 2;
+//! `13` is AsyncDeviceClear, answered only by its acknowledgement `17`, and `08` DeviceClearComplete, answered only by
+//! `09`.
+use crate::conversations::converse;
 use crate::frames::{Fed, bare, feed, feed_again, is_frame, leave};
 use crate::holds::holds;
 use bumpalo::Bump;
@@ -32,7 +32,7 @@ answer 2/2 'a 0a -> 'HS 07 00*4 02 00*7 02 'a 0a
 
 #[test]
 fn no_answer_of_before_a_clear(rt: HostRuntime) {
-    goes_as_told(&rt, rt.alloc(), ANSWERS_ACROSS_CLEARS);
+    converse(&rt, rt.alloc(), ANSWERS_ACROSS_CLEARS);
 }
 
 const DISCARDED: &str = "
@@ -55,7 +55,7 @@ sync 'HS 07 00*4 02 00*7 01 'B -> execute 2/1 'B
 
 #[test]
 fn a_clear_discards_all_of_its_channel(rt: HostRuntime) {
-    goes_as_told(&rt, rt.alloc(), DISCARDED);
+    converse(&rt, rt.alloc(), DISCARDED);
 }
 
 const FATAL_ERRORS_IN_A_CLEAR: &str = "
@@ -78,7 +78,7 @@ joined -> yes
 
 #[test]
 fn a_fatal_error_in_a_clear(rt: HostRuntime) {
-    goes_as_told(&rt, rt.alloc(), FATAL_ERRORS_IN_A_CLEAR);
+    converse(&rt, rt.alloc(), FATAL_ERRORS_IN_A_CLEAR);
 }
 
 // A DeviceClearComplete is answered, and the clear after it waits for none, unless Data, DataEnd or a trigger came
@@ -112,7 +112,7 @@ sync 'HS 08 -> sync 'HS 09
 
 #[test]
 fn a_completion_that_no_clear_waits_for(rt: HostRuntime) {
-    goes_as_told(&rt, rt.alloc(), COMPLETIONS);
+    converse(&rt, rt.alloc(), COMPLETIONS);
 }
 
 // The client accepts frames of 20 bytes, 4 of them payload.
@@ -128,7 +128,7 @@ answer 2/0 'k 0a -> 'HS 07 00*4 02 00*7 02 'k 0a
 
 #[test]
 fn an_answer_in_parts(rt: HostRuntime) {
-    goes_as_told(&rt, rt.alloc(), PARTS);
+    converse(&rt, rt.alloc(), PARTS);
 }
 
 // Whether this is the response to a lock request.

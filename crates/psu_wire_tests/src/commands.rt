@@ -1,4 +1,4 @@
-// The commands of units in the command tree: files, nonvolatile commands, and macro calls.
+//! The commands of units in the command tree: files, nonvolatile commands, and macro calls.
 use crate::holds::holds;
 use crate::tree::{read, unit_of};
 use psu_tables::row;
@@ -55,8 +55,8 @@ SETA 1, -> no
 
 // Whether a unit is read inside of a macro call, and is a call itself where it is wanted.
 fn calls(text: &[u8], wanted: bool) -> bool {
-    let asked = request(&mut Path::root(), &unit_of(text), true);
-    asked.inside && asked.call.is_some() == wanted
+    let read = request(&mut Path::root(), &unit_of(text), true);
+    read.inside && read.call.is_some() == wanted
 }
 
 fn is_call(line: &str) -> bool {

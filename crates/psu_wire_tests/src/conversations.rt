@@ -1,10 +1,10 @@
-// Conversations of a session, as tables: one row a line, a step of the session and its result; a blank line begins a
-// new session.
-//
-// A message is a step, given as `sync` or `async` and its bytes, padded with zeros to the 16 of a header. Its result is
-// what it requests, in order, or `nothing`. A command's place in the session is its MessageID and the clears before it,
-// as in `2/0`; the result of an `answer` to it or a `part` of one is frames, or `none`; `current`, `joined` and
-// `failed` query the session, with the result `yes` or `no`.
+//! Conversations of a session, as tables: one row a line, a step of the session and its result; a blank line begins a
+//! new session.
+//!
+//! A message is a step, given as `sync` or `async` and its bytes, padded with zeros to the 16 of a header. Its result is
+//! what it requests, in order, or `nothing`. A command's place in the session is its MessageID and the clears before it,
+//! as in `2/0`; the result of an `answer` to it or a `part` of one is frames, or `none`; `current`, `joined` and
+//! `failed` query the session, with the result `yes` or `no`.
 use crate::frames::feed;
 use crate::holds::holds;
 use psu_hislip::{Action, Actions, Channel, Origin, SessionCore, Side};
@@ -13,7 +13,7 @@ use std::alloc::Global;
 use std::process::Abort;
 
 /// Returns the bytes of a message, padded with zeros to the 16 of a header.
-pub fn message(alloc: Global, cell: &str) -> Option<Vec<u8>> {
+pub(crate) fn message(alloc: Global, cell: &str) -> Option<Vec<u8>> {
     let mut message = bytes(alloc, cell)?;
     for _ in message.len()..16 {
         message.push(0).ok()?;
@@ -22,7 +22,7 @@ pub fn message(alloc: Global, cell: &str) -> Option<Vec<u8>> {
 }
 
 /// Whether these are the bytes of a cell.
-pub fn are_bytes(alloc: Global, given: &[u8], cell: &str) -> bool {
+pub(crate) fn are_bytes(alloc: Global, given: &[u8], cell: &str) -> bool {
     match bytes(alloc, cell) {
         Some(wanted) => wanted.as_slice() == given,
         None => false,
@@ -38,7 +38,7 @@ fn is_message(alloc: Global, given: &[u8], cell: &str) -> bool {
 }
 
 /// Returns the two cells of a text with a space between them; the second is empty where there is none.
-pub fn halves(cell: &str) -> (&str, &str) {
+pub(crate) fn halves(cell: &str) -> (&str, &str) {
     match cell.split_once(" ") {
         Some(halves) => halves,
         None => (cell, ""),
@@ -102,12 +102,12 @@ fn is_asked(alloc: Global, action: &Action<Global>, cell: &str) -> bool {
 }
 
 // Whether the actions are those of a cell, in order.
-fn are_asked(alloc: Global, asked: &[Action<Global>], cell: &str) -> bool {
+fn are_these(alloc: Global, actions: &[Action<Global>], cell: &str) -> bool {
     if cell == "nothing" {
-        return asked.is_empty();
+        return actions.is_empty();
     }
     let mut cells = cell.split(", ");
-    for action in asked {
+    for action in actions {
         match cells.next() {
             Some(cell) if is_asked(alloc, action, cell) => {}
             _ => return false,
@@ -117,7 +117,7 @@ fn are_asked(alloc: Global, asked: &[Action<Global>], cell: &str) -> bool {
 }
 
 // Returns the actions that a message requests.
-fn tell(
+fn actions_of(
     alloc: Global,
     core: &mut SessionCore<Global>,
     side: Side,
@@ -134,8 +134,8 @@ fn asks(
     cell: &str,
     wanted: &str,
 ) -> bool {
-    match tell(alloc, core, side, cell) {
-        Some(asked) => are_asked(alloc, &asked, wanted),
+    match actions_of(alloc, core, side, cell) {
+        Some(actions) => are_these(alloc, &actions, wanted),
         None => false,
     }
 }
@@ -179,7 +179,7 @@ fn says(core: &SessionCore<Global>, word: &str, cell: &str) -> Option<&'static s
 }
 
 // Whether the result of a step is the one of its row.
-fn comes_to(alloc: Global, core: &mut SessionCore<Global>, step: &str, wanted: &str) -> bool {
+fn results_in(alloc: Global, core: &mut SessionCore<Global>, step: &str, wanted: &str) -> bool {
     let (word, rest) = halves(step);
     match word {
         "sync" => asks(alloc, core, Side::Sync, rest, wanted),
@@ -193,11 +193,11 @@ fn comes_to(alloc: Global, core: &mut SessionCore<Global>, step: &str, wanted: &
 // Makes the step of a line, and returns whether its result is the row's; `None` where the line is not a row.
 fn step(alloc: Global, core: &mut SessionCore<Global>, line: &str) -> Option<bool> {
     let (step, wanted) = row(line)?;
-    Some(comes_to(alloc, core, step, wanted))
+    Some(results_in(alloc, core, step, wanted))
 }
 
 /// Checks that the result of each step of some conversations is the one of its row.
-pub fn goes_as_told(rt: &impl Abort, alloc: Global, table: &str) {
+pub(crate) fn converse(rt: &impl Abort, alloc: Global, table: &str) {
     let mut core = SessionCore::new(alloc, 1);
     for line in table.lines() {
         if line.is_empty() {

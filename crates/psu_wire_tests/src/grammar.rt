@@ -1,4 +1,4 @@
-// The worked examples of the grammar; expected values by its rules.
+//! The worked examples of the grammar; expected values by its rules.
 use crate::holds::holds;
 use psu_lex::{
     Bytes, ScpiError, Unit, UnitFault, Units, block, definite, expand, fixed3, is_label, is_name,
@@ -62,7 +62,7 @@ fn is_number(text: &[u8], places: u8, wanted: &str) -> bool {
 fn is_read(read: Result<Bytes<Global>, ScpiError>, error: ScpiError, wanted: &str) -> bool {
     match read {
         Ok(bytes) => inner(wanted) == Some(bytes.as_slice()),
-        Err(told) => told == error && wanted == "none",
+        Err(given) => given == error && wanted == "none",
     }
 }
 
@@ -175,7 +175,7 @@ fn all_hold(rt: &impl Abort, alloc: Global, rows: &str) {
 }
 
 const UNITS: &str = r#"
-# Messages, in which `\n` stands for NL, and the units that they are cut into.
+# Messages, in which `\n` means NL, and the units that they are cut into.
 cut  -> none
 cut *PUD #13a;b;*IDN? -> first *PUD #13a;b | next *IDN?
 cut VOLT 1; \n;CURR 'a;b'\nVO"a;b"LT;X -> first VOLT 1 | first CURR 'a;b' | first/string VO"a;b"LT;X
@@ -245,7 +245,7 @@ fn numbers_are_read_and_written(rt: HostRuntime) {
 }
 
 const DATA: &str = r#"
-# Strings and blocks as data, and the bytes that they are in brackets; in a block `\n` stands for NL.
+# Strings and blocks as data, and the bytes that they are in brackets; in a block `\n` means NL.
 string 'it''s' -> [it's]
 string "it''s" -> [it''s]
 string '' -> []

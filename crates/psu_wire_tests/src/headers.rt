@@ -1,5 +1,5 @@
-// Headers made from the table of the command tree.
-use crate::tree::stands;
+//! Headers made from the table of the command tree.
+use crate::tree::is_in_table;
 use psu_tree::{Kind, Node, Row, Section, patterns};
 use std::alloc::Global;
 
@@ -65,7 +65,7 @@ fn is_defined(alloc: Global, section: &Section, row: &Row, seed: &mut u32) -> Op
     if row.command.is_none() {
         text.push(b'?').ok()?;
     }
-    Some(stands(&text) == good)
+    Some(is_in_table(&text) == good)
 }
 
 // 10,230 headers made from the 55 rows of the table.

@@ -1,4 +1,4 @@
-// Each allocation of a feed, of a message and of a response is refused in turn: nothing has changed.
+//! Each allocation of a feed, of a message and of a response is refused in turn: nothing has changed.
 use crate::frames::{bare, feed, feed_again, is_frame, leave, origin};
 use crate::holds::holds;
 use bumpalo::Bump;
@@ -50,7 +50,7 @@ fn is_whole(actions: &[Action<&Bump>]) -> bool {
 // Whether that transmission is refused as END comes; `None` where it is executed, but not completely.
 fn end_is_refused<'a>(core: &mut SessionCore<&'a Bump>, end: Message<&'a Bump>) -> Option<bool> {
     match core.on(Side::Sync, end) {
-        Ok(asked) => is_whole(&asked).then_some(false),
+        Ok(actions) => is_whole(&actions).then_some(false),
         Err(_) => Some(true),
     }
 }

@@ -1,4 +1,4 @@
-// The locks of two sessions, row by row.
+//! The locks of two sessions, row by row.
 use psu_locks::{Freed, Grant, Info, Kind, LockRefusal, LockString, LockTable, Session, Sessions};
 
 // Returns two sessions.
@@ -68,7 +68,7 @@ fn exclusive(
 }
 
 // Returns the sessions that are granted a lock when a session releases one.
-fn granted_behind(locks: &mut LockTable, session: Session) -> Option<Sessions> {
+fn granted_after(locks: &mut LockTable, session: Session) -> Option<Sessions> {
     match locks.release(session) {
         Ok((_, then)) => Some(then),
         Err(_) => None,
@@ -86,14 +86,19 @@ fn wait(locks: &mut LockTable, one: Session, two: Session, three: Session) -> bo
 }
 
 // Whether the lock passes from one to three, and from three to two.
-fn go_on(locks: &mut LockTable, one: Session, two: Session, three: Session) -> Option<bool> {
+fn continue_after(
+    locks: &mut LockTable,
+    one: Session,
+    two: Session,
+    three: Session,
+) -> Option<bool> {
     // An earlier moment counts as the latest one so far, 20: the second request fails at 70.
     let early = locks.tick(69).is_empty();
-    let behind_one = granted_behind(locks, one)?.as_slice() == [three].as_slice();
+    let after_one = granted_after(locks, one)?.as_slice() == [three].as_slice();
     let failed = locks.tick(70).as_slice() == [two].as_slice();
     let again = exclusive(locks, two, 70, 9) == Ok(Grant::Queued);
     let behind_three = locks.drop_session(three).as_slice() == [two].as_slice();
-    Some(early && behind_one && failed && again && behind_three)
+    Some(early && after_one && failed && again && behind_three)
 }
 
 fn all_wait() -> Option<bool> {
@@ -101,8 +106,8 @@ fn all_wait() -> Option<bool> {
     let three = Session::new(3)?;
     let mut locks = LockTable::new();
     let waited = wait(&mut locks, one, two, three);
-    let went_on = go_on(&mut locks, one, two, three)?;
-    Some(waited && went_on && locks.may_command(two) && !locks.may_command(one))
+    let continued = continue_after(&mut locks, one, two, three)?;
+    Some(waited && continued && locks.may_command(two) && !locks.may_command(one))
 }
 
 #[test]

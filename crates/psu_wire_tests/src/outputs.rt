@@ -1,4 +1,4 @@
-// The outputs with loads: measuring, limits and trips.
+//! The outputs with loads: measuring, limits and trips.
 use psu_lex::ScpiError;
 use psu_outputs::{
     Measured, Milliamperes, Milliohms, Millivolts, Output, Outputs, Setting, Settings,
@@ -100,9 +100,4 @@ fn bytes_that_are_no_settings(rt: HostRuntime) {
     other[6] = 4;
     assert!(rt; Settings::of_bytes(&other).is_none());
     assert!(rt; Settings::of_bytes(&SETTINGS[1..]).is_none());
-}
-
-#[test]
-fn outputs_of_suffixes(rt: HostRuntime) {
-    assert!(rt; Output::of_suffix(4) == Some(Output::Fourth) && Output::of_suffix(5).is_none());
 }

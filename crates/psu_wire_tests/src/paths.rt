@@ -1,11 +1,11 @@
-// The path after each kind of header, by SCPI-1999 volume 1, 6.2.4. 0 means a command, another number the fault of the
-// reading.
-use crate::tree::read_as_told;
+//! The path after each kind of header, by SCPI-1999 volume 1, 6.2.4. 0 means a command, another number the fault of the
+//! reading.
+use crate::tree::read_messages;
 
 // After a path below SYSTem a header, then `ERR?`, which is read below SYSTem, and `CURR 1`, which is read at the root
 // and below SOURce.
-const PATHS_BEHIND_GOOD_HEADERS: &str = r#"
-A single node leaves the path, behind a leading colon it leads to the root.
+const PATHS_AFTER_GOOD_HEADERS: &str = r#"
+A single node leaves the path, after a leading colon it leads to the root.
 SYST:VERS?;ERR?;ERR?;CURR 1 -> 0 0 0 113
 SYST:VERS?;:VOLT 3;ERR?;CURR 1 -> 0 0 113 0
 SYST:VERS?;:VOLT?;ERR?;CURR 1 -> 0 0 113 0
@@ -26,11 +26,11 @@ SYST:VERS?;*IDN?;ERR?;CURR 1 -> 0 0 0 113
 
 #[test]
 fn paths_behind_good_headers(rt: HostRuntime) {
-    read_as_told(&rt, rt.alloc(), PATHS_BEHIND_GOOD_HEADERS);
+    read_messages(&rt, rt.alloc(), PATHS_AFTER_GOOD_HEADERS);
 }
 
 // A unit with a fault leaves the path, whatever its header and whatever the fault.
-const PATHS_BEHIND_FAULTS: &str = r#"
+const PATHS_AFTER_FAULTS: &str = r#"
 SYST:VERS?;FOO;ERR?;CURR 1 -> 0 113 0 113
 SYST:VERS?;:FOO;ERR?;CURR 1 -> 0 113 0 113
 SYST:VERS?;:FOO?;ERR?;CURR 1 -> 0 113 0 113
@@ -48,7 +48,7 @@ SYST:VERS?;:*IDN?;ERR?;CURR 1 -> 0 102 0 113
 
 #[test]
 fn paths_behind_faults(rt: HostRuntime) {
-    read_as_told(&rt, rt.alloc(), PATHS_BEHIND_FAULTS);
+    read_messages(&rt, rt.alloc(), PATHS_AFTER_FAULTS);
 }
 
 // Paths at the root, below STATus, of all nodes of a header, and of a new message.
@@ -62,7 +62,7 @@ SYST:VERS?;:VOLT 1\nERR?;CURR 1 -> 0 0 113 0
 
 #[test]
 fn paths_of_other_places(rt: HostRuntime) {
-    read_as_told(&rt, rt.alloc(), PATHS_OF_OTHER_PLACES);
+    read_messages(&rt, rt.alloc(), PATHS_OF_OTHER_PLACES);
 }
 
 const PATHS_OF_WORKED_ROWS: &str = r#"
@@ -82,5 +82,5 @@ VOLT:LEV:IMM:AMPL 1;AMPL 2;:VOLT:LEV:LEV 1;:STAT:PRES;OPER? -> 0 0 113 0 0
 
 #[test]
 fn paths_of_worked_rows(rt: HostRuntime) {
-    read_as_told(&rt, rt.alloc(), PATHS_OF_WORKED_ROWS);
+    read_messages(&rt, rt.alloc(), PATHS_OF_WORKED_ROWS);
 }

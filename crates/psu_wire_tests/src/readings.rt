@@ -1,7 +1,7 @@
-// The commands that are read from units, and the faults of a reading in their order. A number is rounded half away from
-// zero before it is checked.
+//! The commands that are read from units, and the faults of a reading in their order. A number is rounded half away from
+//! zero before it is checked.
 use crate::holds::holds;
-use crate::tree::{fail_as_told, read};
+use crate::tree::{read, read_units};
 use psu_lex::{ScpiError, Units};
 use psu_outputs::Output;
 use psu_tables::bracketed;
@@ -67,7 +67,7 @@ fn puts(command: &Command<'_>, what: &str, value: &str) -> bool {
 }
 
 // Whether the reading of a unit is the one of a cell, `fault 151` for a fault.
-fn is_told(reading: Result<Command<'_>, ScpiError>, cell: &str) -> bool {
+fn is_reading(reading: Result<Command<'_>, ScpiError>, cell: &str) -> bool {
     match (reading, cell.split_once(" ")) {
         (Ok(command), Some((what, value))) => puts(&command, what, value),
         (Err(error), Some((what, value))) => what == "fault"
@@ -76,9 +76,9 @@ fn is_told(reading: Result<Command<'_>, ScpiError>, cell: &str) -> bool {
     }
 }
 
-fn is_as_told(line: &str) -> bool {
+fn is_line(line: &str) -> bool {
     match bracketed(line) {
-        Some((text, cell)) => is_told(read(text.as_bytes()), cell),
+        Some((text, cell)) => is_reading(read(text.as_bytes()), cell),
         None => line.is_empty(),
     }
 }
@@ -86,7 +86,7 @@ fn is_as_told(line: &str) -> bool {
 #[test]
 fn commands_and_queries_of_units(rt: HostRuntime) {
     for line in UNITS.lines() {
-        holds(&rt, is_as_told(line), line);
+        holds(&rt, is_line(line), line);
     }
 }
 
@@ -125,7 +125,7 @@ FOO 1E99999 -> 113
 
 #[test]
 fn faults_of_a_reading_come_in_order(rt: HostRuntime) {
-    fail_as_told(&rt, FAULTS);
+    read_units(&rt, FAULTS);
 }
 
 // The units of a message: a command, a query, and a fault.
@@ -134,13 +134,13 @@ const MESSAGE: &[u8] = b"*SRE 255; *sre? ;*ESE 'a";
 const READ: &str = "service 255, query service, fault 151";
 
 // Whether the readings of units are the cells of a text.
-fn are_told(units: Units<'_>, cells: &str) -> bool {
+fn are_readings(units: Units<'_>, cells: &str) -> bool {
     let mut units = units;
     let mut path = Path::root();
     let mut cells = cells.split(", ");
     while let Some(unit) = units.next_unit() {
         match cells.next() {
-            Some(cell) if is_told(request(&mut path, &unit, false).reading, cell) => {}
+            Some(cell) if is_reading(request(&mut path, &unit, false).reading, cell) => {}
             _ => return false,
         }
     }
@@ -149,5 +149,5 @@ fn are_told(units: Units<'_>, cells: &str) -> bool {
 
 #[test]
 fn units_of_a_message_are_read(rt: HostRuntime) {
-    assert!(rt; are_told(Units::of(MESSAGE), READ));
+    assert!(rt; are_readings(Units::of(MESSAGE), READ));
 }

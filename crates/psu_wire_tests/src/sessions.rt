@@ -1,5 +1,5 @@
-// Messages of a session.
-use crate::conversations::{goes_as_told, message};
+//! Messages of a session.
+use crate::conversations::{converse, message};
 use crate::frames::feed;
 use crate::holds::holds;
 use psu_hislip::{Channel, FatalCode, First};
@@ -24,7 +24,7 @@ async 'HS 0f -> async 'HS 03 00
 
 #[test]
 fn every_error_in_its_order(rt: HostRuntime) {
-    goes_as_told(&rt, rt.alloc(), ERRORS);
+    converse(&rt, rt.alloc(), ERRORS);
 }
 
 // A message ends the session, joined or not, and each later message finds it closed.
@@ -76,7 +76,7 @@ async 'HS 15 -> closed
 
 #[test]
 fn every_fatal_error_in_its_order(rt: HostRuntime) {
-    goes_as_told(&rt, rt.alloc(), FATAL_ERRORS);
+    converse(&rt, rt.alloc(), FATAL_ERRORS);
 }
 
 // Frames of 32,768 bytes: a transmission of three is too long, and none of it is kept for the next.
@@ -98,7 +98,7 @@ sync 'HS 07 03 00*3 09 -> delivered, execute 9/0 20*32768
 
 #[test]
 fn a_transmission_of_several_frames(rt: HostRuntime) {
-    goes_as_told(&rt, rt.alloc(), FRAMES);
+    converse(&rt, rt.alloc(), FRAMES);
 }
 
 const CLEARS: &str = "
@@ -123,7 +123,7 @@ sync 'HS 07 00*12 01 'B -> execute 0/3 'B
 
 #[test]
 fn a_device_clear_in_each_order(rt: HostRuntime) {
-    goes_as_told(&rt, rt.alloc(), CLEARS);
+    converse(&rt, rt.alloc(), CLEARS);
 }
 
 // A lock's string has at most 256 bytes.
@@ -141,7 +141,7 @@ sync 'HS 0c 01 -> trigger
 
 #[test]
 fn locks_and_the_rest_of_the_types(rt: HostRuntime) {
-    goes_as_told(&rt, rt.alloc(), LOCKS);
+    converse(&rt, rt.alloc(), LOCKS);
 }
 
 // First messages of a connection, and what each requests.

@@ -1,4 +1,4 @@
-// Status reporting: the queue, the groups, and the first service request.
+//! Status reporting: the queue, the groups, and the first service request.
 use psu_lex::ScpiError;
 use psu_status::{Enables, Filter, Group, Status};
 

@@ -1,5 +1,5 @@
-// Streams of messages.
-use crate::conversations::{are_bytes, goes_as_told, halves};
+//! Streams of messages.
+use crate::conversations::{are_bytes, converse, halves};
 use crate::frames::{bare, feed};
 use crate::holds::holds;
 use psu_hislip::{Channel, FatalCode, First, Header, Message, MessageType, SessionCore};
@@ -29,11 +29,11 @@ fn is_read_cut(alloc: Global, at: usize) -> Option<bool> {
     }
     let mut channel = Channel::new(alloc);
     let before = feed(alloc, &mut channel, &INITIALIZE[..at])?;
-    let behind = feed(alloc, &mut channel, &INITIALIZE[at..])?;
+    let after = feed(alloc, &mut channel, &INITIALIZE[at..])?;
     let (given, none) = if at == INITIALIZE.len() {
-        (before, behind)
+        (before, after)
     } else {
-        (behind, before)
+        (after, before)
     };
     Some(none.is_empty() && given.len() == 1 && is_initialize(given.front()?))
 }
@@ -129,5 +129,5 @@ sync 'HS 06 00*5 ff*8 -> sync 'HS 03 04
 
 #[test]
 fn an_oversize_frame_is_passed_over(rt: HostRuntime) {
-    goes_as_told(&rt, rt.alloc(), AN_OVERSIZE_FRAME);
+    converse(&rt, rt.alloc(), AN_OVERSIZE_FRAME);
 }

@@ -1,4 +1,4 @@
-// A unit's header and data by their rules; expected values by the rules of the grammar.
+//! A unit's header and data by their rules; expected values by the rules of the grammar.
 use crate::holds::holds;
 use crate::tree::unit_of;
 use psu_lex::{Data, Datum, DatumClass, ScpiError, Unit, UnitFault, Units, syntax};

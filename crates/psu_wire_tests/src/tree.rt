@@ -1,5 +1,5 @@
-// The command tree: headers of the table, and faults in their order. 0 means a command, another number the fault of the
-// reading.
+//! The command tree: headers of the table, and faults in their order. 0 means a command, another number the fault of the
+//! reading.
 use crate::holds::holds;
 use psu_lex::{ScpiError, Unit, Units};
 use psu_tables::{row, written};
@@ -8,7 +8,7 @@ use std::alloc::Global;
 use std::process::Abort;
 
 /// Returns a unit with this text, as if split from a transmission that has nothing else.
-pub fn unit_of(text: &[u8]) -> Unit<'_> {
+pub(crate) fn unit_of(text: &[u8]) -> Unit<'_> {
     Unit {
         text,
         first: true,
@@ -17,7 +17,7 @@ pub fn unit_of(text: &[u8]) -> Unit<'_> {
 }
 
 /// Reads a unit at the root.
-pub fn read(text: &[u8]) -> Result<Command<'_>, ScpiError> {
+pub(crate) fn read(text: &[u8]) -> Result<Command<'_>, ScpiError> {
     read_unit(&Path::root(), &unit_of(text))
 }
 
@@ -71,7 +71,7 @@ fn reads(alloc: Global, message: &str, wanted: &str) -> Option<bool> {
 
 /// Checks that the messages of a table read as its rows say. A row is a line: a message, in which `\n` means NL,
 /// ` -> `, and the faults of its units. Other lines say what the rows below them are for.
-pub fn read_as_told(rt: &impl Abort, alloc: Global, table: &str) {
+pub(crate) fn read_messages(rt: &impl Abort, alloc: Global, table: &str) {
     let mut rows = 0u32;
     for line in table.lines() {
         if let Some((message, faults)) = row(line) {
@@ -83,7 +83,7 @@ pub fn read_as_told(rt: &impl Abort, alloc: Global, table: &str) {
 }
 
 /// Checks that the units of a table read at the root as its rows say, each by itself.
-pub fn fail_as_told(rt: &impl Abort, table: &str) {
+pub(crate) fn read_units(rt: &impl Abort, table: &str) {
     let mut rows = 0u32;
     for line in table.lines() {
         if let Some((text, wanted)) = row(line) {
@@ -95,7 +95,7 @@ pub fn fail_as_told(rt: &impl Abort, table: &str) {
 }
 
 /// Whether a header is one of the table, whatever its data: it reads, or lacks a parameter.
-pub fn stands(header: &[u8]) -> bool {
+pub(crate) fn is_in_table(header: &[u8]) -> bool {
     let fault = fault(header);
     fault == 0 || fault == 109
 }
@@ -162,10 +162,10 @@ MMEM:LOAD:MACR :MMEMORY:LOAD:MACRO command
 
 // Whether a form of a header is defined as a command and as a query where its kind says so.
 fn form_stands(alloc: Global, form: &str, kind: &str) -> Option<bool> {
-    let command = stands(form.as_bytes());
+    let command = is_in_table(form.as_bytes());
     let mut text = form.as_bytes().to_vec(alloc).ok()?;
     text.push(b'?').ok()?;
-    Some(command == (kind != "query") && stands(&text) == (kind != "command"))
+    Some(command == (kind != "query") && is_in_table(&text) == (kind != "command"))
 }
 
 // Whether both forms of a header are defined as its row says.
@@ -192,13 +192,13 @@ OUTP1 ON;OUTP2 ON;OUTP3 ON;OUTP4 ON;OUTP01 ON -> 0 0 0 0 0
 OUTP0 ON;OUTP5 ON;OUTP99999999999999999999 ON -> 114 114 114
 SOUR0:VOLT 1;:MEAS5:VOLT?;:SIM:LOAD9 1 -> 114 114 114
 
-Where no suffix stands the header is undefined, and that comes first.
+Where there is no suffix the header is undefined, and that comes first.
 SOUR9:FOO;VOLT2 1;:SOUR:VOLT1 1;:SYST1:ERR? -> 113 113 113 113
 "#;
 
 #[test]
 fn numeric_suffixes(rt: HostRuntime) {
-    read_as_told(&rt, rt.alloc(), NUMERIC_SUFFIXES);
+    read_messages(&rt, rt.alloc(), NUMERIC_SUFFIXES);
 }
 
 // One word of two without regard to case, and no node with a number.
@@ -211,7 +211,7 @@ OUTP1:PON:STAT RST;:OUTP:PON1:STAT RST;:OUTP:PON:STAT1 RST;:OUTP1:PON:STAT?;:OUT
 
 #[test]
 fn the_settings_at_power_on(rt: HostRuntime) {
-    read_as_told(&rt, rt.alloc(), SETTINGS_AT_POWER_ON);
+    read_messages(&rt, rt.alloc(), SETTINGS_AT_POWER_ON);
 }
 
 const FAULTS_IN_ORDER: &str = "
@@ -239,7 +239,7 @@ MMEM:STOR:STAT 100,\"/\" -> 222
 
 #[test]
 fn each_fault_before_the_later_ones(rt: HostRuntime) {
-    read_as_told(&rt, rt.alloc(), FAULTS_IN_ORDER);
+    read_messages(&rt, rt.alloc(), FAULTS_IN_ORDER);
 }
 
 const PARAMETERS: &str = r#"
@@ -257,5 +257,5 @@ MMEM:DATA "a/b",#10;:MMEM:DATA "A",5;:MMEM:COPY "A" -> 0 104 109
 
 #[test]
 fn parameters_by_their_kinds(rt: HostRuntime) {
-    read_as_told(&rt, rt.alloc(), PARAMETERS);
+    read_messages(&rt, rt.alloc(), PARAMETERS);
 }

@@ -1,4 +1,4 @@
-// Locks between sessions.
+//! Locks between sessions.
 ghost use Rattle.std.specs.Prelude.{◌≡◌, IfSome, true};
 ghost use Rattle.psu_exec.specs.Device.{is_denied, is_open};
 ghost use Rattle.psu_exec.specs.Calls.{Allows};

@@ -1,4 +1,4 @@
-// Sessions and their service states.
+//! Sessions and their service states.
 ghost use Rattle.std.specs.Prelude.{◌≡◌, true, Some, None, IfOk, OnErr};
 ghost use Rattle.psu_exec.specs.Device.{is_open, service_state_of};
 ghost use Rattle.psu_exec.specs.Calls.{Allows, has_work, unparked, with_answer, with_service_state, with_session};

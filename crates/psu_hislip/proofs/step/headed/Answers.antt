@@ -14,9 +14,9 @@ returns-in_default-clause-moves g c =
     headed_only c.args.bytes.now c.args.after.now c.args.used (BadHeader ∷ []) Ended
     (moves_bad c.args.bytes.now c.told-bytes (λ h. none_some c.read.result c.in_default.is (c.read.ensures.some.1 h)))
 
-pub returns-then-header-gt-MOST-clause-moves : goal.returns-then-header-gt-MOST-clause-moves
-returns-then-header-gt-MOST-clause-moves g c =
+pub returns-then-header-gt-PAYLOAD_MOST-clause-moves : goal.returns-then-header-gt-PAYLOAD_MOST-clause-moves
+returns-then-header-gt-PAYLOAD_MOST-clause-moves g c =
     let h = c.in-Some.header in
     headed_only c.args.bytes.now c.args.after.now c.args.used (Oversize h ∷ []) (Passing h.length)
     (subst (λ (z : List ℕ). Moves (Partial z) [] (Oversize h ∷ []) (Passing h.length)) c.in-Some.ensures.bytes
-    (moves_oversize h c.in-Some.ensures.fits c.if-header-gt-MOST.true))
+    (moves_oversize h c.in-Some.ensures.fits c.if-header-gt-PAYLOAD_MOST.true))

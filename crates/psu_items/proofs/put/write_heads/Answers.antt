@@ -3,7 +3,7 @@ use Rattle.std.specs.List.{AllByRecursion}
 use Rattle.std.proofs.lemmas.List.{drop_all, get_or_default}
 use Rattle.psu_disk.specs.Moments.{started}
 use Rattle.psu_items.specs.Layout.{slots_from, slots_of, IsSized, StandsWritten}
-use Rattle.psu_items.specs.declared.slot.Slot.{Slot}
+use Rattle.psu_items.specs.declared.layout.Slot.{Slot}
 use Rattle.psu_pages.specs.Image.{Head, AreApart, AreClear, IsInPool, pages_of, taken}
 use Rattle.psu_pages.specs.Outcome.{IsPlanned}
 use Rattle.psu_pages.specs.Writing.{IsWritten, Reaches}

@@ -1,6 +1,6 @@
 use Rattle.std.proofs.Common.{◌≡◌, ◌≤◌, ◌∙◌, ap, arith, false, subst, sym, List, ℕ}
 use Rattle.psu_messages.specs.Executions.{IsOver}
-use Rattle.psu_messages.specs.Places.{IsCursor, IsKept}
+use Rattle.psu_messages.specs.Places.{IsCursor, IsSavedPlace}
 use Rattle.psu_messages.specs.Shown.{progress_of}
 use Rattle.psu_messages.specs.Units.{Text}
 use Rattle.psu_messages.proofs.Cursors.{some_kept, some_later}
@@ -17,11 +17,11 @@ returns-clause-kept g c =
     let at : IsCursor false c.pass_to.new.self = c.pass_to.ensures.place (c.cursor-cursor.ensures.place false c.requires.kept) in
     elim c.if-is_some.branch [
       | then-is_some w ↦
-          subst (IsKept false c.args.bytes.now) (sym w.place-is)
+          subst (IsSavedPlace false c.args.bytes.now) (sym w.place-is)
           (w.advance_to-then-is_some.ensures.place false c.args.bytes.now
           (w.advance_to.ensures.place false c.args.bytes.now c.requires.kept (some_kept c.save_between-begun.result c.pass_to.new.self c.args.bytes.now text at c.save_between-begun.ensures.place))
           (some_kept w.save_between-reached.result c.execute_units.new.cursor c.args.bytes.now (ap (λ t. t.now) c.in_ok-need.ensures.text ∙ text) (c.in_ok-need.ensures.place (sym c.is_some.ensures ∙ w.if-is_some.true)) w.save_between-reached.ensures.place))
-      | else-is_some w ↦ subst (IsKept false c.args.bytes.now) (sym w.place-is) c.requires.kept
+      | else-is_some w ↦ subst (IsSavedPlace false c.args.bytes.now) (sym w.place-is) c.requires.kept
     ]
 
 pub returns-clause-done : goal.returns-clause-done

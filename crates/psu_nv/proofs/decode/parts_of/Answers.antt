@@ -1,23 +1,23 @@
 use Rattle.std.proofs.Common.{◌≡◌, sym, ◌∙◌, ap, true, false, rules}
 use Rattle.psu_nv.specs.Parts.{Enables, User, Macros, Recall}
-use Rattle.psu_nv.specs.Decoding.{IsKept, fit_files}
+use Rattle.psu_nv.specs.Decoding.{RepresentsContents, fit_files}
 use Rattle.psu_nv.proofs.Kept.{kept_part, kept_files, at_error, are_contents, items_again}
 use Rattle.psu_nv.proofs.decode.parts_of.Goals as goal
 
 pub returns-in_err-enables-clause-none : goal.returns-in_err-enables-clause-none
-returns-in_err-enables-clause-none g c = at_error c.from_residual.result (λ (kept : IsKept c.args.items.now).
+returns-in_err-enables-clause-none g c = at_error c.from_residual.result (λ (kept : RepresentsContents c.args.items.now).
     c.in_err-enables.ensures.none kept.contents.enables kept.are.mss (kept_part c.args.items.now kept Enables ∙ sym c.get.ensures))
 
 pub returns-in_err-user-clause-none : goal.returns-in_err-user-clause-none
-returns-in_err-user-clause-none g c = at_error c.from_residual-in_err-user.result (λ (kept : IsKept c.args.items.now).
+returns-in_err-user-clause-none g c = at_error c.from_residual-in_err-user.result (λ (kept : RepresentsContents c.args.items.now).
     c.in_err-user.ensures.none kept.contents.user kept.are.user (kept_part c.args.items.now kept User ∙ sym c.get-2.ensures))
 
 pub returns-in_err-macros-clause-none : goal.returns-in_err-macros-clause-none
-returns-in_err-macros-clause-none g c = at_error c.from_residual-in_err-macros.result (λ (kept : IsKept c.args.items.now).
+returns-in_err-macros-clause-none g c = at_error c.from_residual-in_err-macros.result (λ (kept : RepresentsContents c.args.items.now).
     c.in_err-macros.ensures.none kept.contents.macros kept.are.macros kept.are.distinct kept.are.most_macros (kept_part c.args.items.now kept Macros ∙ sym c.get-3.ensures))
 
 pub returns-in_err-recall-clause-none : goal.returns-in_err-recall-clause-none
-returns-in_err-recall-clause-none g c = at_error c.from_residual-in_err-recall.result (λ (kept : IsKept c.args.items.now).
+returns-in_err-recall-clause-none g c = at_error c.from_residual-in_err-recall.result (λ (kept : RepresentsContents c.args.items.now).
     c.in_err-recall.ensures.none kept.contents.recall (kept_part c.args.items.now kept Recall ∙ sym c.get-4.ensures))
 
 pub returns-then-not-fit_files-clause-none : goal.returns-then-not-fit_files-clause-none

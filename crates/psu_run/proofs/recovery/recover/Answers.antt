@@ -1,20 +1,21 @@
 use Rattle.std.proofs.Common.{◌≡◌, ◌∙◌, ◌≤◌, ℕ, true, List, refl, sym, ap, subst, Result, Ok, Err, IfOk, IfErr}
 use Rattle.psu_disk.specs.declared.disk.Disk.{Ghosts}
-use Rattle.psu_disk.specs.Steps.{Step, step_err}
+use Rattle.psu_disk.specs.Steps.{DiskStep, step_err}
 use Rattle.psu_map.specs.Map.{Item, cost}
 use Rattle.psu_items.specs.Image.{EachRepresents, HasReadableRoot, IsRefusal, Represents}
 use Rattle.psu_pages.specs.Finding.{IfImage}
-use Rattle.psu_pages.specs.declared.bad_image.BadImage.TheVariants as BadImage
-use Rattle.psu_pages.specs.declared.open_cause.OpenCause.{OpenCause}
-use Rattle.psu_pages.specs.declared.open_cause.OpenCause.TheVariants as opening
+use Rattle.psu_pages.specs.declared.faults.BadImage.TheVariants as BadImage
+use Rattle.psu_pages.specs.declared.faults.OpenCause.{OpenCause}
+use Rattle.psu_pages.specs.declared.faults.OpenCause.TheVariants as opening
 use Rattle.psu_items.proofs.Fitting.{represents_readable}
 use Rattle.psu_nv.specs.Contents.{items_of, fits, Contents}
 use Rattle.psu_exec.specs.declared.power_fault.PowerCause.{PowerCause}
 use Rattle.psu_exec.specs.declared.power_fault.PowerCause.TheVariants as power
+use Rattle.psu_exec.specs.declared.start_cause.StartCause.TheVariants as start
 use Rattle.psu_exec.specs.declared.idle_store.IdleStore.TheVariants as idle_store
-use Rattle.psu_run.specs.declared.report.Report.{Report}
-use Rattle.psu_run.specs.declared.recover_fault.RecoverFault.{RecoverFault}
-use Rattle.psu_run.specs.declared.recover_fault.RecoverFault.TheVariants.{Device, Memory}
+use Rattle.psu_run.specs.declared.recovery.report.Report.{Report}
+use Rattle.psu_run.specs.declared.recovery.RecoverFault.{RecoverFault}
+use Rattle.psu_run.specs.declared.recovery.RecoverFault.TheVariants.{Start, Memory}
 use Rattle.psu_run.specs.Causes.{HasBadItems}
 use Rattle.psu_run.specs.Recover.{IsReported, IsRecoverRefusal, Reports, recover_open, recover_power}
 use Rattle.psu_run.proofs.recovery.recover.Goals as goal
@@ -59,14 +60,14 @@ returns-in-Ok-power_on-clause-refused g c = λ h.
     only_memory c.report_of.result (IsRecoverRefusal bytes) c.report_of.ensures.wants (represents_readable bytes c.in-Ok.store.limit c.in-Ok.store.items (c.in-Ok.ensures.represented h))
 
 -- a step that returns this result and a disk that is the same as after a step that succeeded
-same_disk : {D T E U F : Type 0} {d : Ghosts D} {a b c : D} {x : T} {one : E → Type 0} {two : F → Type 0} (r : Result U F) → Step d a b (Ok x) one → c ≡ b → IfErr r (λ e. two e → ⊥) → Step d a c r two
+same_disk : {D T E U F : Type 0} {d : Ghosts D} {a b c : D} {x : T} {one : E → Type 0} {two : F → Type 0} (r : Result U F) → DiskStep d a b (Ok x) one → c ≡ b → IfErr r (λ e. two e → ⊥) → DiskStep d a c r two
 same_disk {d = d} {a = a} (Ok y) step same none = record { extent = ap d.extent same ∙ step.extent; works = ap d.failures same ∙ step.works; later = subst (λ disk. d.failures a ≤ d.failures disk) (sym same) step.later; device = tt }
 same_disk {d = d} {a = a} (Err e) step same none = record { extent = ap d.extent same ∙ step.extent; works = tt; later = subst (λ disk. d.failures a ≤ d.failures disk) (sym same) step.later; device = λ is. absurd (none is) }
 
 pub returns-in-Ok-power_on-clause-step : goal.returns-in-Ok-power_on-clause-step
 returns-in-Ok-power_on-clause-step g c =
     same_disk c.report_of.result c.in-Ok.ensures.step (c.disk_of.ensures (idle_store.Whole c.in-Ok.store) c.in-Ok-power_on.ensures.idle_store)
-    (only_memory c.report_of.result (λ e. e ≡ Device → ⊥) c.report_of.ensures.wants (λ is. cc (is)))
+    (only_memory c.report_of.result (λ e. e ≡ Start start.Device → ⊥) c.report_of.ensures.wants (λ is. cc (is)))
 
 by_open : (image : List ℕ) (cause : OpenCause) → IfImage cause (IsRefusal image) → (cause ≡ opening.Memory → HasReadableRoot image) → IsRecoverRefusal image (recover_open cause)
 by_open image opening.Device is memory = tt
@@ -102,7 +103,7 @@ returns-in-Err-power_on-clause-left g c = λ h limit map each.
     (subst (λ s. EachRepresents (g.D.Disk.state s.disk) limit map) (sym c.in-Err-power_on.ensures.back) ((c.in-Ok.ensures.left limit map each).left h))
 
 -- no cause of a failed power-on is a failed call
-not_device : (cause : PowerCause) → recover_power cause ≡ Device → ⊥
+not_device : (cause : PowerCause) → recover_power cause ≡ Start start.Device → ⊥
 not_device power.BadItems is = cc
 not_device power.Memory is = cc
 
@@ -112,7 +113,7 @@ returns-in-Err-power_on-clause-step g c =
     (λ is. not_device c.in-Err-power_on.fault.cause (sym c.from-in-Err-power_on.ensures ∙ is))
 
 -- a refused opening is a device fault exactly where its cause is one
-by_device : (cause : OpenCause) → recover_open cause ≡ Device → cause ≡ opening.Device
+by_device : (cause : OpenCause) → recover_open cause ≡ Start start.Device → cause ≡ opening.Device
 by_device opening.Device is = refl
 by_device (opening.Image BadImage.NoRoot) is = absurd (cc (is))
 by_device (opening.Image BadImage.BadRoot) is = absurd (cc (is))

@@ -1,4 +1,4 @@
-use Rattle.psu_locks.proofs.Requests.{filtered}
+use Rattle.psu_locks.proofs.WaitingRequests.{filtered}
 use Rattle.psu_locks.proofs.Settled.{looked}
 use Rattle.psu_locks.proofs.lock_table.LockTable.drop_session.Goals as goal
 

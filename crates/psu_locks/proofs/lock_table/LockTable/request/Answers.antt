@@ -1,6 +1,6 @@
 use Rattle.std.proofs.Common.{rules, ◌≡◌, true, false, arith}
 use Rattle.psu_locks.specs.Locks.{can_grant, waits}
-use Rattle.psu_locks.proofs.Requests.{room}
+use Rattle.psu_locks.proofs.WaitingRequests.{room}
 use Rattle.psu_locks.proofs.Settled.{granted_one, queued_one}
 use Rattle.psu_locks.proofs.lock_table.LockTable.request.Goals as goal
 

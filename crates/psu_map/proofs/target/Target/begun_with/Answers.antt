@@ -1,6 +1,6 @@
 use Rattle.std.proofs.Common.{◌∙◌, List, ℕ, Some, ap}
 use Rattle.std.specs.Str.{bytes_eq}
-use Rattle.psu_map.proofs.Begun.{IsBegun, begun_insert, begun_set}
+use Rattle.psu_map.proofs.FirstTarget.{IsBegun, begun_insert, begun_set}
 use Rattle.psu_map.proofs.target.Target.begun_with.Given.{Over}
 use Rattle.psu_map.proofs.target.Target.begun_with.Goals.{In_ok-entries-in-Ok, In_ok-entries-in-Err}
 use Rattle.psu_map.proofs.target.Target.begun_with.Goals as goal

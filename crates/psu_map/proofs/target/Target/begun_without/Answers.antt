@@ -1,6 +1,6 @@
 use Rattle.std.proofs.Common.{◌∙◌, [], None, sym}
 use Rattle.psu_map.specs.Map.{item_of}
-use Rattle.psu_map.proofs.Begun.{IsBegun, begun_remove}
+use Rattle.psu_map.proofs.FirstTarget.{IsBegun, begun_remove}
 use Rattle.psu_map.proofs.Sorted.{without-gap}
 use Rattle.psu_map.proofs.target.Target.begun_without.Given.{Over}
 use Rattle.psu_map.proofs.target.Target.begun_without.Goals.{In_ok-entries-in-Ok}

@@ -1,6 +1,6 @@
 use Rattle.std.proofs.Common.{List, sym, subst}
 use Rattle.psu_map.specs.Batch.{Edit, KeepsValue}
-use Rattle.psu_map.proofs.Begun.{keeps_first, keeps_rest}
+use Rattle.psu_map.proofs.FirstTarget.{keeps_first, keeps_rest}
 use Rattle.psu_map.proofs.target.Target.of.Goals as goal
 
 pub returns-in_ok-make_all-in-len1-up-clause-standing : goal.returns-in_ok-make_all-in-len1-up-clause-standing

@@ -18,8 +18,8 @@ pub returns-in-Whole-clause-reason : goal.returns-in-Whole-clause-reason
 returns-in-Whole-clause-reason g c = λ h why worn.
     let store = c.in-Whole.store in
     let disk = g.D.Disk.state c.into_disk.result in
-    let told = c.into_disk.ensures.number h disk.bytes (reads_left disk) in
-    (subst (λ (n : ℕ). 2 ^ 64 ≤ n + 1) (sym told) (worn_number c.args.self.exec store c.in-Whole.ensures.0 why worn))
+    let reported = c.into_disk.ensures.number h disk.bytes (reads_left disk) in
+    (subst (λ (n : ℕ). 2 ^ 64 ≤ n + 1) (sym reported) (worn_number c.args.self.exec store c.in-Whole.ensures.0 why worn))
 
 pub returns-in-Failed-clause-stands : goal.returns-in-Failed-clause-stands
 returns-in-Failed-clause-stands g c = λ h whole. let kind = c.args.self.exec.kind _ c.in-Failed.ensures.0 in let bad = kind ∙ ap not whole in cc

@@ -4,7 +4,7 @@ use Rattle.psu_hislip.specs.Action.{act, acts}
 use Rattle.psu_hislip.specs.declared.action.Action.{Action}
 use Rattle.psu_session.specs.Step.{Each, release_in, works_in}
 use Rattle.psu_session.specs.Shown.{state_of}
-use Rattle.psu_session.specs.State.{State}
+use Rattle.psu_session.specs.State.{SessionState}
 use Rattle.psu_session.proofs.Serving.{DoneSoFar, begins, ends, steps}
 use Rattle.psu_messages.proofs.Going.{passed_on}
 use Rattle.psu_session.specs.Stopping.{IsQueueCause}
@@ -33,7 +33,7 @@ loop-action-preserved g c =
     let here = subst (λ (left : List (Action _)). DoneSoFar does (Each s.lock_waits all) (Each (state_of c.loop-action.self).lock_waits (acts left)) (flat_map works_in all) (flat_map works_in (acts left)) (flat_map asks all) (flat_map asks (acts left)) s c.args.device.now (state_of c.loop-action.self) c.loop-action.device)
     c.in-Some.ensures.steps c.loop-action.invariant.done in
     let left = acts (c.in-Some.action ∷ c.next.new.self) in
-    let room = subst (λ (u : State). DoneSoFar does (Each s.lock_waits all) (Each u.lock_waits left) (flat_map works_in all) (flat_map works_in left) (flat_map asks all) (flat_map asks left) s c.args.device.now u c.loop-action.device)
+    let room = subst (λ (u : SessionState). DoneSoFar does (Each s.lock_waits all) (Each u.lock_waits left) (flat_map works_in all) (flat_map works_in left) (flat_map asks all) (flat_map asks left) s c.args.device.now u c.loop-action.device)
     (sym c.make_room.ensures.same) here in
     record {
       done = steps does asks (Each s.lock_waits all) (flat_map works_in all) (flat_map asks all) (act c.in-Some.action) (acts c.next.new.self) s c.args.device.now (state_of c.make_room.new.self) c.loop-action.device (state_of c.act.new.self)

@@ -1,5 +1,5 @@
 use Rattle.std.proofs.Common.{◌≡◌, ◌∙◌, Bool, Option, None, false, [], ap, refl, subst, sym}
-use Rattle.psu_locks.specs.declared.kind.Kind.{Kind}
+use Rattle.psu_locks.specs.declared.requests.Kind.{Kind}
 use Rattle.psu_hislip.specs.LockResponses.{lock_answer}
 use Rattle.psu_hislip.specs.declared.header.Header.{Header}
 use Rattle.psu_hislip.specs.declared.lock_responses.LockResponse.TheVariants.{Error}

@@ -4,12 +4,12 @@ use Rattle.psu_hislip.specs.declared.header.Header.{Header}
 use Rattle.psu_session.specs.Events.{DeviceCalled, Locked, waits_after, waits_if}
 use Rattle.psu_session.specs.Step.{puts_any}
 use Rattle.psu_session.specs.Shown.{state_of}
-use Rattle.psu_session.specs.State.{State, added}
+use Rattle.psu_session.specs.State.{SessionState, added}
 use Rattle.psu_session.proofs.Serving.{asks_nothing, none_added}
 use Rattle.psu_session.proofs.parts.Parts.ask_for_lock.Goals as goal
 
 -- the state after a request with this response
-abbrev requested : State → Option Header → State
+abbrev requested : SessionState → Option Header → SessionState
 requested s header = record (added s [] [] (puts_any header)) { lock_waits = waits_after (waits_if s.lock_waits header) (puts_any header) }
 
 pub returns-in-Some-clause-done : goal.returns-in-Some-clause-done
@@ -31,5 +31,5 @@ returns-in-None-clause-done g c =
       done = DeviceCalled (Locked c.args.kind c.args.timeout reply) ∷ puts_any (lock_response reply);
       are = (reply, refl);
       runs = (c.lock-reply.new.self, c.lock-reply.ensures, asks_nothing g.D.Device.does (lock_response reply) c.lock-reply.new.self);
-      then = ap (λ (z : State). record z { lock_waits = true }) (sym (none_added (state_of c.args.self.now))) ∙ ap (requested (state_of c.args.self.now)) is;
+      then = ap (λ (z : SessionState). record z { lock_waits = true }) (sym (none_added (state_of c.args.self.now))) ∙ ap (requested (state_of c.args.self.now)) is;
     }

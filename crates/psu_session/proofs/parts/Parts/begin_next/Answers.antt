@@ -1,6 +1,6 @@
 use Rattle.std.proofs.Common.{◌∙◌, ◌∷◌, ap, refl, sym}
 use Rattle.psu_session.specs.Shown.{order_of, state_of, works_of}
-use Rattle.psu_session.specs.declared.work.Work.{Work}
+use Rattle.psu_session.specs.declared.queue.Work.{Work}
 use Rattle.psu_session.proofs.Stepping.{next_begins, next_running, none_running, some_running}
 use Rattle.psu_session.proofs.parts.Parts.begin_next.Goals as goal
 

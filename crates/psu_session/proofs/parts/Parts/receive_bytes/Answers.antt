@@ -3,7 +3,7 @@ use Rattle.psu_hislip.specs.Stream.{received}
 use Rattle.psu_session.specs.Events.{BytesReceived}
 use Rattle.psu_session.specs.Step.{EachReceived}
 use Rattle.psu_session.specs.Shown.{state_of}
-use Rattle.psu_session.specs.State.{State}
+use Rattle.psu_session.specs.State.{SessionState}
 use Rattle.psu_messages.proofs.Going.{passed_on}
 use Rattle.psu_session.specs.Stopping.{StopsReceiving}
 use Rattle.psu_session.specs.declared.phase.EndCause.{EndCause}
@@ -22,7 +22,7 @@ returns-clause-done g c =
         feeds = fed.feeds;
         immediate = m.done;
         are = refl;
-        each = subst (λ (z : State). EachReceived c.args.now c.args.side (map received c.feed.new.messages.items) z m.done (state_of c.receive_messages.new.self)) fed.then
+        each = subst (λ (z : SessionState). EachReceived c.args.now c.args.side (map received c.feed.new.messages.items) z m.done (state_of c.receive_messages.new.self)) fed.then
             m.is;
       };
       runs = m.runs;

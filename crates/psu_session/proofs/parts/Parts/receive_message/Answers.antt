@@ -7,7 +7,7 @@ use Rattle.psu_session.specs.Numbers.{clears, number_on, parameter}
 use Rattle.psu_session.specs.Events.{Came}
 use Rattle.psu_session.specs.Step.{Each, IsMessageReceived, arrived, release_in, works_in}
 use Rattle.psu_session.specs.Shown.{state_of}
-use Rattle.psu_session.specs.State.{State, added, numbered, settled, with_core}
+use Rattle.psu_session.specs.State.{SessionState, added, numbered, settled, with_core}
 use Rattle.psu_session.proofs.Serving.{on_ok}
 use Rattle.psu_messages.proofs.Going.{passed_on}
 use Rattle.psu_session.specs.Stopping.{IsQueueCause, StopsIn}
@@ -29,14 +29,14 @@ returns-clause-done g c =
     = did.then ∙ ap (λ (z : Core). added (with_core s z) (flat_map works_in requested) (flat_map (release_in c.args.now c.parameter-id.result) requested) did.done) c.in_ok-actions.ensures.core
     ∙ ap (λ (z : ℕ). added (with_core s outcome.core) (flat_map works_in requested) (flat_map (release_in c.args.now z) requested) did.done) c.parameter-id.ensures in
     let counted : state_of c.count.new.self ≡ numbered (added (with_core s outcome.core) (flat_map works_in requested) (flat_map (release_in c.args.now (parameter message)) requested) did.done) (number_on c.args.side message)
-    = c.count.ensures.done ∙ ap (λ (z : Option ℕ). numbered (state_of c.act_all.new.self) z) c.number_on-number.ensures ∙ ap (λ (z : State). numbered z (number_on c.args.side message)) begun in
+    = c.count.ensures.done ∙ ap (λ (z : Option ℕ). numbered (state_of c.act_all.new.self) z) c.number_on-number.ensures ∙ ap (λ (z : SessionState). numbered z (number_on c.args.side message)) begun in
     on_ok c.settle.result (λ last. record {
       done = Came c.args.side message ∷ did.done;
       is = record {
         immediate = did.done;
         each = subst (λ (z : List Act). Each s.lock_waits z did.done) is did.are;
         are = refl;
-        then = last ∙ ap (λ (z : State). settled c.clears-all.result c.args.now z) counted
+        then = last ∙ ap (λ (z : SessionState). settled c.clears-all.result c.args.now z) counted
             ∙ ap (λ (z : Bool). settled z c.args.now (numbered (added (with_core s outcome.core) (flat_map works_in requested) (flat_map (release_in c.args.now (parameter message)) requested) did.done) (number_on c.args.side message))) all
             ∙ ap (λ (z : List Act). arrived c.args.now c.args.side message z (with_core s outcome.core) did.done) is;
       };

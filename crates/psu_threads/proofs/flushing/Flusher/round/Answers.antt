@@ -1,5 +1,5 @@
 use Rattle.std.proofs.Common.{refl, subst}
-use Rattle.psu_turn.specs.Seats.{Calls}
+use Rattle.psu_turn.specs.Seats.{SeatCalls}
 use Rattle.psu_exec.specs.Calls.{Job}
 use Rattle.psu_exec.specs.Calls.Entry.{Took}
 use Rattle.psu_exec.specs.Jobs.{job_data, taken_of}
@@ -14,7 +14,7 @@ returns-in-Ok g c = record {
       c.in-Ok.job,
       c.take.new.self.seat,
       refl,
-      subst (λ r. Calls (AdmitsOn g.D.Disk.honest) c.args.self.now.caller.seat (Took (taken_of r)) c.take.new.self.seat) c.in-Ok.is c.take.ensures.call,
+      subst (λ r. SeatCalls (AdmitsOn g.D.Disk.honest) c.args.self.now.caller.seat (Took (taken_of r)) c.take.new.self.seat) c.in-Ok.is c.take.ensures.call,
       c.run.ensures.call,
     ),
   );

@@ -1,5 +1,5 @@
 use Rattle.std.proofs.Common.{rules, refl, sym, subst, ◌+◌, ◌∙◌}
-use Rattle.psu_turn.specs.Seats.{Sight, Calls}
+use Rattle.psu_turn.specs.Seats.{Sight, SeatCalls}
 use Rattle.psu_turn.specs.Sights.{number_of, sight}
 use Rattle.psu_turn.proofs.Keeping.{adds_on, leaves_on, same_name, same_at, same_opening, same_slots}
 use Rattle.psu_turn.proofs.Outs.{held, outs, was_state}
@@ -38,7 +38,7 @@ returns-clause-call g c = λ e is. let m = c.args.taken.place.me in let before =
     let out = outs c.args.taken.ticket c.args.taken.count m c.args.taken.out in let was = filled m before h c.exchange-before.ensures.3 out.empty in
     let t = c.store.ensures.2 out.opening (number_of m.0.name) c.args.taken.ticket out.state c.args.taken.count h e
     (same_opening _ _ _ was out.opened) (same_name _ _ _ was out.named) (same_at _ _ _ was out.stage) (same_slots _ _ _ was refl) is in
-    subst (λ (y : Sight g.row.T-State.Denot g.row.T-Entry.Denot). Calls g.T.Machine.allows (sight c.args.taken.place.table_id m.0) e y) (sym c.rest.ensures.same)
+    subst (λ (y : Sight g.row.T-State.Denot g.row.T-Entry.Denot). SeatCalls g.T.Machine.allows (sight c.args.taken.place.table_id m.0) e y) (sym c.rest.ensures.same)
     (left_calls g.T.Machine.allows m before c.store.new.seat.me c.store-2.new.seat.me c.args.taken.ticket c.args.taken.count _ out was t.1 t.2 t.3 c.store-2.ensures.2 c.args.taken.place.table_id c.store-2.new.seat.table_id e (search rules) t.5)
 
 pub returns-clause-own : goal.returns-clause-own

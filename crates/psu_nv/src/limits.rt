@@ -1,0 +1,7 @@
+//! The limits of the contents. Contracts state them as numbers.
+
+/// The maximum size of a macro's body, in bytes.
+pub(crate) const BODY_MOST: usize = 1_024;
+
+/// The maximum number of macros.
+pub(crate) const MACROS_MOST: usize = 32;

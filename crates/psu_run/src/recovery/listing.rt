@@ -1,0 +1,56 @@
+//! The files of a report.
+ghost use Rattle.std.specs.Prelude.{◌≡◌, IfOk, map};
+ghost use Rattle.psu_run.specs.Recover.{entry, kind_of, of_value, reported};
+
+use crate::ReportedFile;
+use psu_items::Pair;
+use psu_lex::Bytes;
+use psu_nv::FileKind;
+use std::alloc::{AllocError, Allocator};
+
+// The type that a byte encodes.
+fn kind_of(code: u8) -> FileKind
+    ensures { result ≡ kind_of code }
+{
+    match code {
+        0 => FileKind::Binary,
+        1 => FileKind::State,
+        _ => FileKind::Macro,
+    }
+}
+
+// The type of a file, and the number of its bytes.
+fn of_value(value: &[u8]) -> (FileKind, usize)
+    ensures { result ≡ of_value value.now }
+{
+    match value {
+        [] => (FileKind::Macro, 0),
+        [code, bytes @ ..] => (kind_of(*code), bytes.len()),
+    }
+}
+
+// A file as it is reported.
+fn file_of<A: Allocator + Copy>(alloc: A, file: &Pair<A>) -> Result<ReportedFile<A>, AllocError>
+    ensures { IfOk result (λ f. reported f ≡ entry file.now) }
+{
+    let (kind, size) = of_value(file.value());
+    Ok(ReportedFile {
+        name: Bytes::of(alloc, file.key())?,
+        kind,
+        size,
+    })
+}
+
+/// Files as they are reported, in their order.
+pub(crate) fn files_of<A: Allocator + Copy>(
+    alloc: A,
+    kept: &[Pair<A>],
+) -> Result<Vec<ReportedFile<A>, A>, AllocError>
+    ensures { IfOk result (λ files. map reported files.items ≡ map entry kept.now) }
+{
+    let mut files = Vec::new(alloc);
+    for file in kept {
+        files.push(file_of(alloc, file)?)?;
+    }
+    Ok(files)
+}

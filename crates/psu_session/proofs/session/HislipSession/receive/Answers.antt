@@ -1,0 +1,18 @@
+use Rattle.std.proofs.Common.{◌<◌, subst, sym}
+use Rattle.psu_session.specs.Phases.{units_in}
+use Rattle.psu_session.specs.Step.{IsReachable}
+use Rattle.psu_session.specs.Step.SessionStep.{Receives}
+use Rattle.psu_session.specs.declared.phase.Phase.{Phase}
+use Rattle.psu_session.proofs.Stepping.{one_step, reached_on_ok}
+use Rattle.psu_session.proofs.Rooms.{not_over, still_ok}
+use Rattle.psu_session.proofs.session.HislipSession.receive.Goals as goal
+
+pub invariant_of-self : goal.invariant_of-self
+invariant_of-self g c = λ e.
+    let was = c.self.invariant (not_over c.self.inside.phase c.in_default.not-Over) in
+    let ended = c.end_step-self-inside in
+    let kept = still_ok c.receive_bytes-done.new.self ended.new.self c.self.inside.phase ended.result c.receive_bytes-done.result ended.ensures.ended ended.ensures.phase e in (
+      subst IsReachable (sym ended.ensures.same) (reached_on_ok c.receive_bytes-done.result (λ m. (m.done, one_step (Receives _ _ _ m.is))) kept.0 c.receive_bytes-done.ensures.done was.0),
+      kept.2,
+      subst (λ (z : Phase). 0 < units_in z) (sym kept.1) was.2,
+    )

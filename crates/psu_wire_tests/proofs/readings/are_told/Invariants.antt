@@ -1,5 +1,0 @@
-use Rattle.std.proofs.Common.{length}
-use Rattle.psu_wire_tests.proofs.readings.are_told.Given as goal
-
-abbrev pub decreases-loop-unit : goal.decreases-loop-unit
-decreases-loop-unit l = length l.units.text.now
