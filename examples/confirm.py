@@ -11,7 +11,7 @@ Prints nothing where it is confirmed, else one line on standard error, and ends 
     1  anything else; 2 a wrong command line
 Made for ExecStop= of a unit (psu.service), which waits for what was accepted, and with --write as a health check: it
 takes the exclusive lock and gives *PSC the value that it has, which is a change that has to be written. So a disk that
-fails is seen though nobody saves; without --write it is seen only after a save. While it waits the other sessions wait.
+fails is seen though no client saves; without --write it is seen only after a save. While it waits the other sessions wait.
 A broken store refuses with error -320, and all sessions share the error queue. With --write these errors are taken out
 of it again where it was empty before; bit 3 of the event status register (*ESR?) stays set.
 """

@@ -178,11 +178,11 @@ def main() -> Optional[Union[int, str]]:
             image, copy = words.paths
             make(image, copy, words.port, words.timeout, words.program or find_program())
     except (NotMade, HislipError, OSError, ValueError) as fault:
-        return f"{made.prog}: {told(fault)}"
+        return f"{made.prog}: {message_of(fault)}"
     return None
 
 
-def told(fault: Exception) -> str:
+def message_of(fault: Exception) -> str:
     is_of_file = isinstance(fault, OSError) and fault.filename is not None
     return f"{fault.filename}: {fault.strerror}" if is_of_file else str(fault)  # type: ignore[attr-defined]
 

@@ -240,7 +240,7 @@ class Instrument:
         return LockInfo(info.control == 1, info.parameter)
 
     def _ask_lock(self, frame: Frame, timeout: float) -> int:
-        # The responses to two requests at once could not be told apart: one that waits is answered after a later one.
+        # The responses to two requests at once could not be distinguished: one that waits is answered after a later one.
         if not self._lock_call.acquire(blocking=False):
             raise LockError(LockRefusal.REQUEST_WAITS)
         try:

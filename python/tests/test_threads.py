@@ -35,7 +35,7 @@ class Responder:
         try:
             while True:
                 receive(self._script.asynchronous)
-                # The service request is before, between and behind the responses.
+                # The service request is before, between and after the responses.
                 self._requests += 1
                 self.request(self._requests % 64)
                 send(self._script.asynchronous, MessageType.ASYNC_STATUS_RESPONSE, self._requests % 64)
@@ -133,9 +133,9 @@ class Threads(unittest.TestCase):
         self.assertEqual(self.client.wait_for_service_request(WAITS), 5)
 
     def test_a_callback_that_raises_gets_the_next_request(self):
-        seen, told, came = [], [], threading.Event()
+        seen, raised, came = [], [], threading.Event()
         self.addCleanup(setattr, threading, "excepthook", threading.excepthook)
-        threading.excepthook = lambda it: told.append(it.exc_type)
+        threading.excepthook = lambda it: raised.append(it.exc_type)
 
         def called(status):
             seen.append(status)
@@ -147,7 +147,7 @@ class Threads(unittest.TestCase):
         self.responder.request(1)
         self.assertTrue(came.wait(WAITS))
         self.client.close()
-        self.assertEqual((seen, told), ([0x60, 1], [ValueError, ValueError]))
+        self.assertEqual((seen, raised), ([0x60, 1], [ValueError, ValueError]))
 
     def test_a_close_in_a_callback(self):
         closed = threading.Event()
