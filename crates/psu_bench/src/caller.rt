@@ -38,7 +38,8 @@ fn caused_by<D: Disk, R: Wait>(
 ) -> Option<Caused>
     requires own { IsOf bench.now seat.old }
     ensures call { (seat.new ≡ seat.old) ⊎ ((asking : List ℕ) × (work : Bool) × SeatCalls (AdmitsOn D.honest) seat.old (Notified asking work) seat.new) }
-    ensures caused { (session : ℕ) → (request : UnitRequest) → IsNotified D.honest (Executed session request (outcome_of outcome.now)) seat.old result seat.new }
+    ensures caused { (session : ℕ) → (request : UnitRequest)
+        → IsNotified D.honest (Executed session request (outcome_of outcome.now)) seat.old result seat.new }
     ensures own { IsOf bench.now seat.new }
 {
     each_answer_is_quiet();

@@ -126,18 +126,24 @@ impl<D: Disk> Disk for FailingDisk<D> {
     fn read(&mut self, at: u64, into: &mut [u8]) -> Result<(), DiskFault>
         requires { at + length into.old ≤ D.extent self.old.inner }
         ensures extent { D.extent self.new.inner ≡ D.extent self.old.inner }
-        ensures cause { HasCause (min (D.failures self.old.inner + self.old.failed) (2 ^ 64 - 1)) (min (D.failures self.new.inner + self.new.failed) (2 ^ 64 - 1)) result }
+        ensures cause { HasCause (min (D.failures self.old.inner + self.old.failed) (2 ^ 64 - 1))
+            (min (D.failures self.new.inner + self.new.failed) (2 ^ 64 - 1)) result }
         ensures bytes { D.honest → OnOk result (into.new ≡ Range at (length into.old) (D.state self.old.inner).bytes) }
         ensures state { D.honest → D.state self.new.inner ≡ D.state self.old.inner }
         ensures seen { D.honest → (D.state self.new.inner).bytes ≡ (D.state self.old.inner).bytes }
         ensures left { D.honest → (x : List ℕ) → IsCrashImage (D.state self.new.inner) x → IsCrashImage (D.state self.old.inner) x }
-        ensures time { D.records → Elapses (D.moment self.old.inner) (D.moment self.new.inner) (D.left_since self.old.inner) (D.left_since self.new.inner) (IsCrashImage (D.state self.new.inner)) }
+        ensures time { D.records → Elapses (D.moment self.old.inner) (D.moment self.new.inner)
+            (D.left_since self.old.inner) (D.left_since self.new.inner) (IsCrashImage (D.state self.new.inner)) }
         ensures failing { self.new.failing ≡ self.old.failing }
         ensures passes { self.new.passes ≡ self.old.passes - 1 }
         // A call that is to fail isn't passed on.
-        ensures fails { is_failing self.old.failing self.old.passes self.old.failed ≡ true → IsErr result × (self.new.inner ≡ self.old.inner) × (self.new.failed ≡ min (self.old.failed + 1) (2 ^ 64 - 1)) }
+        ensures fails { is_failing self.old.failing self.old.passes self.old.failed ≡ true
+            → IsErr result × (self.new.inner ≡ self.old.inner)
+            × (self.new.failed ≡ min (self.old.failed + 1) (2 ^ 64 - 1)) }
         // Every other call is passed on, and fails only if it fails there.
-        ensures passed { is_failing self.old.failing self.old.passes self.old.failed ≡ false → (self.new.failed ≡ self.old.failed) × HasCause (D.failures self.old.inner) (D.failures self.new.inner) result }
+        ensures passed { is_failing self.old.failing self.old.passes self.old.failed ≡ false
+            → (self.new.failed ≡ self.old.failed)
+            × HasCause (D.failures self.old.inner) (D.failures self.new.inner) result }
     {
         self.step()?;
         self.inner.read(at, into)
@@ -146,19 +152,25 @@ impl<D: Disk> Disk for FailingDisk<D> {
     fn write(&mut self, at: u64, bytes: &[u8]) -> Result<(), DiskFault>
         requires { at + length bytes.now ≤ D.extent self.old.inner }
         ensures extent { D.extent self.new.inner ≡ D.extent self.old.inner }
-        ensures cause { HasCause (min (D.failures self.old.inner + self.old.failed) (2 ^ 64 - 1)) (min (D.failures self.new.inner + self.new.failed) (2 ^ 64 - 1)) result }
+        ensures cause { HasCause (min (D.failures self.old.inner + self.old.failed) (2 ^ 64 - 1))
+            (min (D.failures self.new.inner + self.new.failed) (2 ^ 64 - 1)) result }
         ensures written { D.honest → OnOk result (Holds at bytes.now (D.state self.old.inner).bytes (D.state self.new.inner).bytes) }
         ensures flagged { D.honest → OnOk result (IsFlagged at (length bytes.now) (D.state self.new.inner)) }
         ensures state { D.honest → Touches at (length bytes.now) (D.state self.old.inner) (D.state self.new.inner) }
         ensures seen { D.honest → SameBut at (length bytes.now) (D.state self.old.inner).bytes (D.state self.new.inner).bytes }
         ensures left { D.honest → Follows (SameBut at (length bytes.now)) (IsCrashImage (D.state self.old.inner)) (IsCrashImage (D.state self.new.inner)) }
-        ensures time { D.records → Elapses (D.moment self.old.inner) (D.moment self.new.inner) (D.left_since self.old.inner) (D.left_since self.new.inner) (IsCrashImage (D.state self.new.inner)) }
+        ensures time { D.records → Elapses (D.moment self.old.inner) (D.moment self.new.inner)
+            (D.left_since self.old.inner) (D.left_since self.new.inner) (IsCrashImage (D.state self.new.inner)) }
         ensures failing { self.new.failing ≡ self.old.failing }
         ensures passes { self.new.passes ≡ self.old.passes - 1 }
         // A call that is to fail isn't passed on.
-        ensures fails { is_failing self.old.failing self.old.passes self.old.failed ≡ true → IsErr result × (self.new.inner ≡ self.old.inner) × (self.new.failed ≡ min (self.old.failed + 1) (2 ^ 64 - 1)) }
+        ensures fails { is_failing self.old.failing self.old.passes self.old.failed ≡ true
+            → IsErr result × (self.new.inner ≡ self.old.inner)
+            × (self.new.failed ≡ min (self.old.failed + 1) (2 ^ 64 - 1)) }
         // Every other call is passed on, and fails only if it fails there.
-        ensures passed { is_failing self.old.failing self.old.passes self.old.failed ≡ false → (self.new.failed ≡ self.old.failed) × HasCause (D.failures self.old.inner) (D.failures self.new.inner) result }
+        ensures passed { is_failing self.old.failing self.old.passes self.old.failed ≡ false
+            → (self.new.failed ≡ self.old.failed)
+            × HasCause (D.failures self.old.inner) (D.failures self.new.inner) result }
     {
         self.step()?;
         self.inner.write(at, bytes)
@@ -166,19 +178,25 @@ impl<D: Disk> Disk for FailingDisk<D> {
 
     fn sync(&mut self) -> Result<(), DiskFault>
         ensures extent { D.extent self.new.inner ≡ D.extent self.old.inner }
-        ensures cause { HasCause (min (D.failures self.old.inner + self.old.failed) (2 ^ 64 - 1)) (min (D.failures self.new.inner + self.new.failed) (2 ^ 64 - 1)) result }
+        ensures cause { HasCause (min (D.failures self.old.inner + self.old.failed) (2 ^ 64 - 1))
+            (min (D.failures self.new.inner + self.new.failed) (2 ^ 64 - 1)) result }
         ensures synced { D.honest → OnOk result (IsSynced (D.state self.new.inner)) }
         ensures seen { D.honest → (D.state self.new.inner).bytes ≡ (D.state self.old.inner).bytes }
         ensures err { D.honest → OnErr result (D.state self.new.inner ≡ D.state self.old.inner) }
         ensures only { D.honest → OnOk result (Only (D.state self.new.inner)) }
         ensures left { D.honest → (x : List ℕ) → IsCrashImage (D.state self.new.inner) x → IsCrashImage (D.state self.old.inner) x }
-        ensures time { D.records → Elapses (D.moment self.old.inner) (D.moment self.new.inner) (D.left_since self.old.inner) (D.left_since self.new.inner) (IsCrashImage (D.state self.new.inner)) }
+        ensures time { D.records → Elapses (D.moment self.old.inner) (D.moment self.new.inner)
+            (D.left_since self.old.inner) (D.left_since self.new.inner) (IsCrashImage (D.state self.new.inner)) }
         ensures failing { self.new.failing ≡ self.old.failing }
         ensures passes { self.new.passes ≡ self.old.passes - 1 }
         // A call that is to fail isn't passed on.
-        ensures fails { is_failing self.old.failing self.old.passes self.old.failed ≡ true → IsErr result × (self.new.inner ≡ self.old.inner) × (self.new.failed ≡ min (self.old.failed + 1) (2 ^ 64 - 1)) }
+        ensures fails { is_failing self.old.failing self.old.passes self.old.failed ≡ true
+            → IsErr result × (self.new.inner ≡ self.old.inner)
+            × (self.new.failed ≡ min (self.old.failed + 1) (2 ^ 64 - 1)) }
         // Every other call is passed on, and fails only if it fails there.
-        ensures passed { is_failing self.old.failing self.old.passes self.old.failed ≡ false → (self.new.failed ≡ self.old.failed) × HasCause (D.failures self.old.inner) (D.failures self.new.inner) result }
+        ensures passed { is_failing self.old.failing self.old.passes self.old.failed ≡ false
+            → (self.new.failed ≡ self.old.failed)
+            × HasCause (D.failures self.old.inner) (D.failures self.new.inner) result }
     {
         self.step()?;
         self.inner.sync()

@@ -44,7 +44,9 @@ impl<A: Allocator + Copy> MemDisk<A> {
         ensures size { length self.new.bytes.items ≡ length self.old.bytes.items }
         ensures left { IsCrashImage (memory self.old.bytes.items self.old.unsynced.items) self.new.bytes.items }
         ensures synced { IsSynced (memory self.new.bytes.items self.new.unsynced.items) }
-        ensures choice { (k : ℕ) → IsTrue (slice_index_or self.old.unsynced.items k false) → slice_index self.new.bytes.items k ≡ lost choice (slice_index self.old.synced.items k) (slice_index self.old.bytes.items k) }
+        ensures choice { (k : ℕ) → IsTrue (slice_index_or self.old.unsynced.items k false)
+            → slice_index self.new.bytes.items k
+            ≡ lost choice (slice_index self.old.synced.items k) (slice_index self.old.bytes.items k) }
         ensures made_sure { self.new.synced.items ≡ self.new.bytes.items }
     {
         lose_bytes(&mut self.bytes, &self.synced, &self.unsynced, choice);
@@ -58,7 +60,8 @@ fn lose_bytes(bytes: &mut [u8], synced: &[u8], unsynced: &[bool], choice: Choice
     requires synced { length synced.now ≡ length bytes.old }
     requires unsynced { length unsynced.now ≡ length bytes.old }
     ensures same { (k : ℕ) → slice_index_or unsynced.now k false ≡ false → slice_index bytes.new k ≡ slice_index bytes.old k }
-    ensures choice { (k : ℕ) → IsTrue (slice_index_or unsynced.now k false) → slice_index bytes.new k ≡ lost choice (slice_index synced.now k) (slice_index bytes.old k) }
+    ensures choice { (k : ℕ) → IsTrue (slice_index_or unsynced.now k false)
+        → slice_index bytes.new k ≡ lost choice (slice_index synced.now k) (slice_index bytes.old k) }
 {
     for i in 0..bytes.len() {
         if unsynced[i] {
@@ -151,7 +154,9 @@ impl<A: Allocator + Copy> Disk for MemDisk<A> {
         ensures bytes { Unit {0} → OnOk result (into.new ≡ Range at (length into.old) self.old.bytes.items) }
         ensures state { Unit {0} → memory self.new.bytes.items self.new.unsynced.items ≡ memory self.old.bytes.items self.old.unsynced.items }
         ensures seen { Unit {0} → self.new.bytes.items ≡ self.old.bytes.items }
-        ensures left { Unit {0} → (x : List ℕ) → IsCrashImage (memory self.new.bytes.items self.new.unsynced.items) x → IsCrashImage (memory self.old.bytes.items self.old.unsynced.items) x }
+        ensures left { Unit {0} → (x : List ℕ) → IsCrashImage
+            (memory self.new.bytes.items self.new.unsynced.items) x
+            → IsCrashImage (memory self.old.bytes.items self.old.unsynced.items) x }
         // The call succeeds, and the bytes that the last sync made durable stay.
         ensures works { IsOk result }
         ensures made_sure { self.new.synced.items ≡ self.old.synced.items }
@@ -167,9 +172,13 @@ impl<A: Allocator + Copy> Disk for MemDisk<A> {
         ensures cause { HasCause 0 0 result }
         ensures written { Unit {0} → OnOk result (Holds at bytes.now self.old.bytes.items self.new.bytes.items) }
         ensures flagged { Unit {0} → OnOk result (IsFlagged at (length bytes.now) (memory self.new.bytes.items self.new.unsynced.items)) }
-        ensures state { Unit {0} → Touches at (length bytes.now) (memory self.old.bytes.items self.old.unsynced.items) (memory self.new.bytes.items self.new.unsynced.items) }
+        ensures state { Unit {0} → Touches at (length bytes.now)
+            (memory self.old.bytes.items self.old.unsynced.items)
+            (memory self.new.bytes.items self.new.unsynced.items) }
         ensures seen { Unit {0} → SameBut at (length bytes.now) self.old.bytes.items self.new.bytes.items }
-        ensures left { Unit {0} → Follows (SameBut at (length bytes.now)) (IsCrashImage (memory self.old.bytes.items self.old.unsynced.items)) (IsCrashImage (memory self.new.bytes.items self.new.unsynced.items)) }
+        ensures left { Unit {0} → Follows (SameBut at (length bytes.now))
+            (IsCrashImage (memory self.old.bytes.items self.old.unsynced.items))
+            (IsCrashImage (memory self.new.bytes.items self.new.unsynced.items)) }
         // The call succeeds, and the bytes that the last sync made durable stay.
         ensures works { IsOk result }
         ensures made_sure { self.new.synced.items ≡ self.old.synced.items }
@@ -189,7 +198,9 @@ impl<A: Allocator + Copy> Disk for MemDisk<A> {
         ensures seen { Unit {0} → self.new.bytes.items ≡ self.old.bytes.items }
         ensures err { Unit {0} → OnErr result (memory self.new.bytes.items self.new.unsynced.items ≡ memory self.old.bytes.items self.old.unsynced.items) }
         ensures only { Unit {0} → OnOk result (Only (memory self.new.bytes.items self.new.unsynced.items)) }
-        ensures left { Unit {0} → (x : List ℕ) → IsCrashImage (memory self.new.bytes.items self.new.unsynced.items) x → IsCrashImage (memory self.old.bytes.items self.old.unsynced.items) x }
+        ensures left { Unit {0} → (x : List ℕ) → IsCrashImage
+            (memory self.new.bytes.items self.new.unsynced.items) x
+            → IsCrashImage (memory self.old.bytes.items self.old.unsynced.items) x }
         // The call succeeds, and makes the bytes durable that a read returns.
         ensures works { IsOk result }
         ensures made_sure { self.new.synced.items ≡ self.old.bytes.items }

@@ -145,7 +145,9 @@ impl<A: Allocator + Copy> Device<A> {
 
     // Updates the RQS bits of all sessions after a step that changed their enabled bits, which were `old` before it.
     fn follow(&mut self, old: Enabled)
-        ensures { (before : State) → old ≡ enabled_of before.volatile.instrument.status → before.volatile.service_states ≡ self.old.volatile.service_states → self.new ≡ followed before self.old }
+        ensures { (before : State) → old ≡ enabled_of before.volatile.instrument.status
+            → before.volatile.service_states ≡ self.old.volatile.service_states
+            → self.new ≡ followed before self.old }
     {
         let new = Enabled {
             read: self.instrument.enabled(false),

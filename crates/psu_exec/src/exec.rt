@@ -128,7 +128,8 @@ impl<D: Disk, A: Allocator + Copy> Exec<D, A> {
         ensures parked { result ≡ Outcome.Parked → 0 < self.old.device.flush.unflushed }
         ensures complete { (text : List ℕ) → outcome_of result ≡ Answer text → (c : Completion) × (wait_of self.old.device.flush session ≡ Some (Until c 0)) }
         ensures text { (text : List ℕ) → outcome_of result ≡ Answer text → text ≢ [] }
-        ensures refused { (e : AnyError) → outcome_of result ≡ Error e → self.new.device.volatile ≡ (followed self.old.device (refused self.old.device e)).volatile }
+        ensures refused { (e : AnyError) → outcome_of result ≡ Error e
+            → self.new.device.volatile ≡ (followed self.old.device (refused self.old.device e)).volatile }
         ensures kept { self.new.device.flush.contents ≡ self.old.device.flush.contents }
 
         // Consequences of the step: the precondition still holds, and no lock changes.

@@ -55,7 +55,8 @@ pub fn parts_are_an_answer()
 pub fn closed_after_a_fatal_error()
     ensures gives { (core : Core) (t : Arrival) → sends_fatal_error (outcome core t).actions ≡ true
         → (code : FatalCode) × ((outcome core t).actions ≡ reply t.side FatalError (fatal_code code) ∷ Closed ∷ []) }
-    ensures then { (core : Core) (t : Arrival) (later : List Arrival) → sends_fatal_error (outcome core t).actions ≡ true → AreClosed (outcome core t).core later }
+    ensures then { (core : Core) (t : Arrival) (later : List Arrival)
+        → sends_fatal_error (outcome core t).actions ≡ true → AreClosed (outcome core t).core later }
     ensures silent { (core : Core) (t : Arrival) (later : List Arrival) (o : Origin) → sends_fatal_error (outcome core t).actions ≡ true
         → IsCurrent (core_after (outcome core t).core later) o → ⊥ }
 {}

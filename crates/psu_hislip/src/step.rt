@@ -102,7 +102,8 @@ fn payload<A: Allocator + Copy>(
     requires some { 0 < length piece.now }
     ensures used { IfOk result (λ step. (0 < step.used) × (step.used ≤ length piece.now)) }
     ensures rest { IfOk result (λ step. IsRest step.rest) }
-    ensures moves { IfOk result (λ step. Moves (Partial (header_bytes header ++ payload.items)) (take step.used piece.now) (given step.message) (awaited step.rest)) }
+    ensures moves { IfOk result (λ step. Moves (Partial (header_bytes header ++ payload.items))
+        (take step.used piece.now) (given step.message) (awaited step.rest)) }
 {
     let mut payload = payload;
     let wanted = header.length as usize - payload.len();

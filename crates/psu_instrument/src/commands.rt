@@ -67,7 +67,9 @@ impl Instrument {
 
     // Commands without parameters.
     fn action<'c, A: Allocator + Copy>(&mut self, action: Action) -> Act<'c, A>
-        ensures { (limit : ℕ) (contents : Kept) (available : Bool) → ActsAs (action_means (situation limit contents self.old available) action) self.old (Ok result) self.new }
+        ensures { (limit : ℕ) (contents : Kept) (available : Bool)
+            → ActsAs (action_means (situation limit contents self.old available) action) self.old
+            (Ok result) self.new }
     {
         match action {
             Action::ClearStatus => {
@@ -95,7 +97,9 @@ impl Instrument {
         what: OnRegister,
         number: u8,
     ) -> Result<Act<'c, A>, ScpiError>
-        ensures { (limit : ℕ) (available : Bool) → ActsAs (register_means (situation limit contents.now self.old available) what number) self.old result self.new }
+        ensures { (limit : ℕ) (available : Bool) → ActsAs
+            (register_means (situation limit contents.now self.old available) what number) self.old result
+            self.new }
     {
         match what {
             OnRegister::Save => self.save(number),

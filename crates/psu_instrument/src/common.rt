@@ -103,7 +103,9 @@ impl Instrument {
 
     // `*PSC`, `*EMC`, `DIAGnostic:PUD:PROTect`, `OUTPut:PON:STATe`.
     pub(crate) fn flag<'c, A: Allocator + Copy>(&mut self, which: Flag, on: bool) -> Act<'c, A>
-        ensures { (limit : ℕ) (contents : Kept) (available : Bool) → ActsAs (flagged (situation limit contents self.old available) which on) self.old (Ok result) self.new }
+        ensures { (limit : ℕ) (contents : Kept) (available : Bool)
+            → ActsAs (flagged (situation limit contents self.old available) which on) self.old
+            (Ok result) self.new }
     {
         match which {
             Flag::PowerOnClear => Act::Keep(NvCommand::PowerOnClear(self.enables_kept(on))),
@@ -125,7 +127,9 @@ impl Instrument {
         alloc: A,
         which: Enable,
     ) -> Result<Act<'c, A>, ScpiError>
-        ensures { (limit : ℕ) (contents : Kept) (available : Bool) → ActsAs (enables_queried (situation limit contents self.now available) which) self.now result self.now }
+        ensures { (limit : ℕ) (contents : Kept) (available : Bool)
+            → ActsAs (enables_queried (situation limit contents self.now available) which) self.now result
+            self.now }
     {
         match which {
             Enable::EventStatus => Ok(Act::Answer(whole(alloc, self.status.ese() as u64)?)),
@@ -158,7 +162,8 @@ impl Instrument {
         &mut self,
         alloc: A,
     ) -> Result<Act<'c, A>, ScpiError>
-        ensures { (limit : ℕ) (contents : Kept) (available : Bool) → ActsAs (event_status (situation limit contents self.old available)) self.old result self.new }
+        ensures { (limit : ℕ) (contents : Kept) (available : Bool)
+            → ActsAs (event_status (situation limit contents self.old available)) self.old result self.new }
     {
         let text = whole(alloc, self.status.event() as u64)?;
         let _ = self.status.read_event();
@@ -167,7 +172,8 @@ impl Instrument {
 
     // `*SAV`.
     pub(crate) fn save<'c, A: Allocator + Copy>(&self, number: u8) -> Result<Act<'c, A>, ScpiError>
-        ensures { (limit : ℕ) (contents : Kept) (available : Bool) → ActsAs (saved (situation limit contents self.now available) number) self.now result self.now }
+        ensures { (limit : ℕ) (contents : Kept) (available : Bool)
+            → ActsAs (saved (situation limit contents self.now available) number) self.now result self.now }
     {
         let Some(register) = Register::of(number) else {
             return Err(ScpiError::DataOutOfRange);
@@ -195,7 +201,8 @@ impl Instrument {
         &self,
         bytes: &[u8],
     ) -> Result<Act<'c, A>, ScpiError>
-        ensures { (limit : ℕ) (contents : Kept) (available : Bool) → ActsAs (user_data (situation limit contents self.now available) bytes.now) self.now result self.now }
+        ensures { (limit : ℕ) (contents : Kept) (available : Bool)
+            → ActsAs (user_data (situation limit contents self.now available) bytes.now) self.now result self.now }
     {
         let Some(user) = UserData::of(bytes) else {
             return Err(ScpiError::TooMuchData);

@@ -63,7 +63,9 @@ impl Instrument {
         request: &Request<'_>,
     ) -> Option<Result<Bytes<A>, ScpiError>>
         ensures called { (result ≡ None) ↔ (body_called self.now contents.now.macros (label_in request.now.call) ≡ None) }
-        ensures gives { (list : List DatumData) → HoldsParameters request.now.call list → UnitGives (body_called self.now contents.now.macros (label_in request.now.call)) request.now.inside (written list) result }
+        ensures gives { (list : List DatumData) → HoldsParameters request.now.call list
+            → UnitGives (body_called self.now contents.now.macros (label_in request.now.call)) request.now.inside
+            (written list) result }
     {
         let Some(call) = &request.call else {
             return None;

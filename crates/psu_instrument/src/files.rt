@@ -21,7 +21,8 @@ pub(crate) fn stored<'c, A: Allocator + Copy>(
     name: &Option<Text<'c>>,
     bytes: &Text<'c>,
 ) -> Result<Act<'c, A>, ScpiError>
-    ensures { (limit : ℕ) (contents : Kept) (i : State) (available : Bool) → ActsAs (stored (situation limit contents i available) name.now bytes.now) i result i }
+    ensures { (limit : ℕ) (contents : Kept) (i : State) (available : Bool)
+        → ActsAs (stored (situation limit contents i available) name.now bytes.now) i result i }
 {
     let Some(file) = FileBytes::of(bytes.as_slice()) else {
         return Err(ScpiError::TooMuchData);
@@ -59,7 +60,8 @@ pub(crate) fn on_two<'c, A: Allocator + Copy>(
     from: &Option<Text<'c>>,
     to: &Option<Text<'c>>,
 ) -> Result<Act<'c, A>, ScpiError>
-    ensures { (limit : ℕ) (contents : Kept) (i : State) (available : Bool) → ActsAs (on_two (situation limit contents i available) what from.now to.now) i result i }
+    ensures { (limit : ℕ) (contents : Kept) (i : State) (available : Bool)
+        → ActsAs (on_two (situation limit contents i available) what from.now to.now) i result i }
 {
     let from = text_of(from);
     let to = text_of(to);
@@ -75,7 +77,8 @@ pub(crate) fn state_moved<'c, A: Allocator + Copy>(
     number: u8,
     name: &Option<Text<'c>>,
 ) -> Result<Act<'c, A>, ScpiError>
-    ensures { (limit : ℕ) (contents : Kept) (i : State) (available : Bool) → ActsAs (state_moved (situation limit contents i available) way number name.now) i result i }
+    ensures { (limit : ℕ) (contents : Kept) (i : State) (available : Bool)
+        → ActsAs (state_moved (situation limit contents i available) way number name.now) i result i }
 {
     let Some(register) = Register::of(number) else {
         return Err(ScpiError::DataOutOfRange);
@@ -93,7 +96,8 @@ pub(crate) fn macro_moved<'c, A: Allocator + Copy>(
     label: &Option<Text<'c>>,
     name: &Option<Text<'c>>,
 ) -> Result<Act<'c, A>, ScpiError>
-    ensures { (limit : ℕ) (contents : Kept) (i : State) (available : Bool) → ActsAs (macro_moved (situation limit contents i available) way label.now name.now) i result i }
+    ensures { (limit : ℕ) (contents : Kept) (i : State) (available : Bool)
+        → ActsAs (macro_moved (situation limit contents i available) way label.now name.now) i result i }
 {
     let label = text_of(label);
     let name = text_of(name);

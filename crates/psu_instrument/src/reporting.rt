@@ -38,7 +38,8 @@ impl Instrument {
         &mut self,
         alloc: A,
     ) -> Result<Act<'c, A>, ScpiError>
-        ensures { (limit : ℕ) (contents : Kept) (available : Bool) → ActsAs (next_error (situation limit contents self.old available)) self.old result self.new }
+        ensures { (limit : ℕ) (contents : Kept) (available : Bool)
+            → ActsAs (next_error (situation limit contents self.old available)) self.old result self.new }
     {
         let text = error_text(alloc, self.status.oldest())?;
         let _ = self.status.pop_error();
@@ -51,7 +52,8 @@ impl Instrument {
         alloc: A,
         group: Group,
     ) -> Result<Act<'c, A>, ScpiError>
-        ensures { (limit : ℕ) (contents : Kept) (available : Bool) → ActsAs (events (situation limit contents self.old available) group) self.old result self.new }
+        ensures { (limit : ℕ) (contents : Kept) (available : Bool)
+            → ActsAs (events (situation limit contents self.old available) group) self.old result self.new }
     {
         let text = whole(alloc, self.status.group_event(group) as u64)?;
         let _ = self.status.take_group_events(group);
@@ -60,7 +62,8 @@ impl Instrument {
 
     // `:ENABle`, `:PTRansition`, `:NTRansition`.
     pub(crate) fn filter(&mut self, group: Group, filter: Filter, bits: u16)
-        ensures { self.new ≡ with_status self.old (with_group self.old.status group (with_filter (status.group_of self.old.status group) filter (fifteen_bits bits))) }
+        ensures { self.new ≡ with_status self.old (with_group self.old.status group
+            (with_filter (status.group_of self.old.status group) filter (fifteen_bits bits))) }
     {
         self.status.set_group_filter(group, filter, bits);
     }

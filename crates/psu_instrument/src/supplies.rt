@@ -67,7 +67,8 @@ impl Instrument {
         output: Output,
         thing: Setting,
     ) -> Result<Act<'c, A>, ScpiError>
-        ensures { (limit : ℕ) (contents : Kept) (available : Bool) → ActsAs (set (situation limit contents self.old available) output thing) self.old result self.new }
+        ensures { (limit : ℕ) (contents : Kept) (available : Bool)
+            → ActsAs (set (situation limit contents self.old available) output thing) self.old result self.new }
     {
         self.outputs.set_one(output, thing)?;
         self.follow();
@@ -88,7 +89,9 @@ impl Instrument {
         output: Output,
         milliohms: u32,
     ) -> Result<Act<'c, A>, ScpiError>
-        ensures { (limit : ℕ) (contents : Kept) (available : Bool) → ActsAs (load (situation limit contents self.old available) output milliohms) self.old result self.new }
+        ensures { (limit : ℕ) (contents : Kept) (available : Bool)
+            → ActsAs (load (situation limit contents self.old available) output milliohms) self.old result
+            self.new }
     {
         self.outputs.set_load(output, Milliohms(milliohms))?;
         self.follow();
@@ -115,7 +118,9 @@ impl Instrument {
         output: Output,
         extreme: Option<Extreme>,
     ) -> Result<Act<'c, A>, ScpiError>
-        ensures { (limit : ℕ) (contents : Kept) (available : Bool) → ActsAs (level_queried (situation limit contents self.now available) level output extreme) self.now result self.now }
+        ensures { (limit : ℕ) (contents : Kept) (available : Bool)
+            → ActsAs (level_queried (situation limit contents self.now available) level output extreme) self.now
+            result self.now }
     {
         match extreme {
             None => Ok(Act::Answer(fixed3(alloc, self.level_set(level, output) as i64)?)),
@@ -131,7 +136,8 @@ impl Instrument {
         query: OutputQuery,
         output: Output,
     ) -> Result<Act<'c, A>, ScpiError>
-        ensures { (limit : ℕ) (contents : Kept) (available : Bool) → ActsAs (queried (situation limit contents self.now available) query output) self.now result self.now }
+        ensures { (limit : ℕ) (contents : Kept) (available : Bool)
+            → ActsAs (queried (situation limit contents self.now available) query output) self.now result self.now }
     {
         let outputs = &self.outputs;
         match query {

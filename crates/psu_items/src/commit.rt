@@ -59,7 +59,8 @@ impl<D: Disk, A: Allocator + Copy> Store<D, A> {
 
         // At each moment each possible crash image represents the map before, under its version and its number, or the
         // map after the batch, as version 2 and under the next number.
-        ensures roots { LeavesImages D.Disk self.disk (disk_of result) (IsEitherRoot self.version self.number self.limit self.items (changed self.items batch)) }
+        ensures roots { LeavesImages D.Disk self.disk (disk_of result)
+            (IsEitherRoot self.version self.number self.limit self.items (changed self.items batch)) }
 
         // Items that no edit changes keep their pages.
         ensures heads { D.honest → IfStored result (λ store. EachKeepsHeads batch (D.state self.disk) (D.state store.disk)) }

@@ -9,7 +9,8 @@ use std::alloc::Global;
 
 /// An image represents at most one map, under one limit.
 pub fn one_map()
-    ensures one { (limit limit' : ℕ) (map map' : List Item) (image : List ℕ) → Represents image limit map → Represents image limit' map' → (limit ≡ limit') × (map ≡ map') }
+    ensures one { (limit limit' : ℕ) (map map' : List Item) (image : List ℕ) → Represents image limit map
+        → Represents image limit' map' → (limit ≡ limit') × (map ≡ map') }
 {}
 
 /// A map that an image represents costs no more pages than its limit.

@@ -45,7 +45,8 @@ pub(crate) fn lay_out<D: Disk, A: Allocator + Copy>(
     ensures roots { HasSameRoots pages.old pages.new }
     ensures laid { IfOk result (λ layout. AreSlots pages.new target.now.before (aimed target.now) (aimed target.now) (slots_of layout)) }
     ensures standing { IfOk result (λ layout. HaveStanding target.now.entries pages.old.heads.items (slots_of layout)) }
-    ensures claims { IfOk result (λ layout. (page : ℕ) → IsNone (taken (heads_of (slots_of layout))) page → is_free pages.new.free page ≡ is_free pages.old.free page) }
+    ensures claims { IfOk result (λ layout. (page : ℕ) → IsNone (taken (heads_of (slots_of layout))) page
+        → is_free pages.new.free page ≡ is_free pages.old.free page) }
     ensures spare { IfErr result (λ _. IsSpare pages.new pages.new.heads.items) }
     ensures there { IfOk result (λ layout. AllByRecursion (λ place. place < length layout.heads.items) layout.unwritten.items) }
 {
@@ -104,7 +105,9 @@ fn slot_for<D: Disk, A: Allocator + Copy>(
     ensures roots { HasSameRoots pages.old pages.new }
     ensures others { (other : HeadOf) → IsPlanned pages.old other → IsPlanned pages.new other }
     ensures slot { (before : List Item) → IsOf before entry.now → IfOk result (IsSlotFor pages.old pages.new before (item_in entry.now)) }
-    ensures standing { IfOk result (λ slot. entry.now.stands ≡ true → (head : HeadOf) → IsOneOf pages.old.heads.items head → head.key ≡ entry.now.key → head.size ≡ length entry.now.value → slot.head ≡ head) }
+    ensures standing { IfOk result (λ slot. entry.now.stands ≡ true → (head : HeadOf)
+        → IsOneOf pages.old.heads.items head → head.key ≡ entry.now.key → head.size ≡ length entry.now.value
+        → slot.head ≡ head) }
     ensures marks { IfOk result (λ slot. (page : ℕ) → IsNone (pages_of slot.head) page → is_free pages.new.free page ≡ is_free pages.old.free page) }
     ensures unmarked { IfErr result (λ _. pages.new.free ≡ pages.old.free) }
 {

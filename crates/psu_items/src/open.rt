@@ -45,7 +45,8 @@ impl<D: Disk, A: Allocator + Copy> Store<D, A> {
         // refused disk.
         ensures finds { D.honest → (limit : ℕ) (map : List Item) → EachRepresents (D.state disk) limit map
             → IfOk result (λ store. (store.limit ≡ limit) × (store.items ≡ map)) }
-        ensures left { (limit : ℕ) (map : List Item) → EachRepresents (D.state disk) limit map → LeavesImages D.Disk disk (opened_disk result) (λ image. Represents image limit map) }
+        ensures left { (limit : ℕ) (map : List Item) → EachRepresents (D.state disk) limit map
+            → LeavesImages D.Disk disk (opened_disk result) (λ image. Represents image limit map) }
     {
         match Pages::open(alloc, disk) {
             Ok(pages) => take_up(alloc, pages),
@@ -70,8 +71,11 @@ fn take_up<D: Disk, A: Allocator + Copy>(
     ensures untouched { D.honest → IfErr result (λ e. e.cause ≢ Device → (D.state e.disk).bytes ≡ (D.state pages.disk).bytes) }
     ensures step { DiskStep D.Disk pages.disk (opened_disk result) result (λ e. e.cause ≡ Device) }
     ensures quiet { IfErr result (λ e. e.cause ≢ Device → D.failures e.disk ≡ D.failures pages.disk) }
-    ensures left { LeavesImages D.Disk pages.disk (opened_disk result) (Encodes pages.root pages.version pages.limit pages.number pages.heads.items (items_in pages.root (D.state pages.disk).bytes)) }
-    ensures touched { LeavesImages D.Disk pages.disk (opened_disk result) (Reaches (SameBut (gate_at (other pages.root)) 1) (IsCrashImage (D.state pages.disk))) }
+    ensures left { LeavesImages D.Disk pages.disk (opened_disk result)
+        (Encodes pages.root pages.version pages.limit pages.number pages.heads.items
+        (items_in pages.root (D.state pages.disk).bytes)) }
+    ensures touched { LeavesImages D.Disk pages.disk (opened_disk result)
+        (Reaches (SameBut (gate_at (other pages.root)) 1) (IsCrashImage (D.state pages.disk))) }
 {
     match read_back(alloc, &mut pages) {
         Ok(items) => Ok(Store { pages, items }),
@@ -101,8 +105,11 @@ fn read_back<D: Disk, A: Allocator + Copy>(
     ensures step { DiskStep D.Disk pages.old.disk pages.new.disk result (λ cause. cause ≡ PageFault.Device) }
     ensures quiet { IfErr result (λ cause. cause ≢ PageFault.Device → D.failures pages.new.disk ≡ D.failures pages.old.disk) }
     ensures pages { IfErr result (λ cause. cause ≢ PageFault.NoPage) }
-    ensures left { LeavesImages D.Disk pages.old.disk pages.new.disk (Encodes pages.old.root pages.old.version pages.old.limit pages.old.number pages.old.heads.items (items_in pages.old.root (D.state pages.old.disk).bytes)) }
-    ensures touched { LeavesImages D.Disk pages.old.disk pages.new.disk (Reaches (SameBut (gate_at (other pages.old.root)) 1) (IsCrashImage (D.state pages.old.disk))) }
+    ensures left { LeavesImages D.Disk pages.old.disk pages.new.disk
+        (Encodes pages.old.root pages.old.version pages.old.limit pages.old.number pages.old.heads.items
+        (items_in pages.old.root (D.state pages.old.disk).bytes)) }
+    ensures touched { LeavesImages D.Disk pages.old.disk pages.new.disk
+        (Reaches (SameBut (gate_at (other pages.old.root)) 1) (IsCrashImage (D.state pages.old.disk))) }
 {
     let items = read_items(alloc, pages)?;
     pages.close_old()?;

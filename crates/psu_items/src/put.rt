@@ -48,7 +48,9 @@ pub(crate) fn put<D: Disk, A: Allocator + Copy>(
     ensures version { OnOk result (pages.new.version ≡ 2) }
     ensures number { OnOk result (pages.new.number ≡ pages.old.number + 1) }
     ensures heads { OnOk result (pages.new.heads.items ≡ heads_of (slots_of layout)) }
-    ensures left { (before : List Item) → ShowsMap pages.old before → LeavesImages D.Disk pages.old.disk pages.new.disk (IsEitherRoot pages.old.version pages.old.number pages.old.limit before (aimed target.now)) }
+    ensures left { (before : List Item) → ShowsMap pages.old before
+        → LeavesImages D.Disk pages.old.disk pages.new.disk
+        (IsEitherRoot pages.old.version pages.old.number pages.old.limit before (aimed target.now)) }
     ensures after_pool { LeavesImages D.Disk pages.old.disk pages.new.disk (Reaches (SameAfterPool pages.old.limit) (IsCrashImage (D.state pages.old.disk))) }
 {
     write_heads(pages, target, &layout)?;
@@ -75,7 +77,9 @@ fn write_heads<D: Disk, A: Allocator + Copy>(
     ensures written { D.honest → AllByRecursion (StandsWritten (D.state pages.old.disk).bytes (aimed target.now)) (slots_of layout.now)
         → OnOk result (AllByRecursion (λ (slot : SlotOf A). IsWritten (D.state pages.new.disk).bytes slot.head (value_at (aimed target.now) slot.head.key)) (slots_of layout.now)) }
     ensures shown { D.honest → items_in pages.new.root (D.state pages.new.disk).bytes ≡ items_in pages.old.root (D.state pages.old.disk).bytes }
-    ensures left { LeavesImages D.Disk pages.old.disk pages.new.disk (Encodes pages.old.root pages.old.version pages.old.limit pages.old.number pages.old.heads.items (items_in pages.old.root (D.state pages.old.disk).bytes)) }
+    ensures left { LeavesImages D.Disk pages.old.disk pages.new.disk
+        (Encodes pages.old.root pages.old.version pages.old.limit pages.old.number pages.old.heads.items
+        (items_in pages.old.root (D.state pages.old.disk).bytes)) }
     ensures after_pool { LeavesImages D.Disk pages.old.disk pages.new.disk (Reaches (SameAfterPool pages.old.limit) (IsCrashImage (D.state pages.old.disk))) }
 {
     for place in &layout.unwritten {
@@ -102,7 +106,9 @@ fn write_head<D: Disk, A: Allocator + Copy>(
     ensures others { D.honest → (other : HeadOf) (its : List ℕ) → IsWritten (D.state pages.old.disk).bytes other its → AllByRecursion (IsInPool pages.old.limit) (pages_of other)
         → AreClear (pages_of head.now) (pages_of other) → IsWritten (D.state pages.new.disk).bytes other its }
     ensures shown { D.honest → items_in pages.new.root (D.state pages.new.disk).bytes ≡ items_in pages.old.root (D.state pages.old.disk).bytes }
-    ensures left { LeavesImages D.Disk pages.old.disk pages.new.disk (Encodes pages.old.root pages.old.version pages.old.limit pages.old.number pages.old.heads.items (items_in pages.old.root (D.state pages.old.disk).bytes)) }
+    ensures left { LeavesImages D.Disk pages.old.disk pages.new.disk
+        (Encodes pages.old.root pages.old.version pages.old.limit pages.old.number pages.old.heads.items
+        (items_in pages.old.root (D.state pages.old.disk).bytes)) }
     ensures after_pool { LeavesImages D.Disk pages.old.disk pages.new.disk (Reaches (SameAfterPool pages.old.limit) (IsCrashImage (D.state pages.old.disk))) }
 {
     let Some(value) = target.get(head.key()) else {

@@ -46,7 +46,9 @@ pub(crate) fn renew<D: Disk, A: Allocator + Copy>(
     ensures limit { pages.new.limit ≡ pages.old.limit }
     ensures step { DiskStep D.Disk pages.old.disk pages.new.disk result (λ cause. cause ≡ Device) }
     ensures same { IsErrOf result Memory → HasSameRoots pages.old pages.new × KeepsMap pages.new before.now }
-    ensures left { LeavesImages D.Disk pages.old.disk pages.new.disk (IsEitherRoot pages.old.version pages.old.number pages.old.limit before.now (changed before.now batch.now)) }
+    ensures left { LeavesImages D.Disk pages.old.disk pages.new.disk
+        (IsEitherRoot pages.old.version pages.old.number pages.old.limit before.now
+        (changed before.now batch.now)) }
     ensures after_pool { LeavesImages D.Disk pages.old.disk pages.new.disk (Reaches (SameAfterPool pages.old.limit) (IsCrashImage (D.state pages.old.disk))) }
 {
     let Ok(target) = Target::of(alloc, before, batch) else {

@@ -75,7 +75,8 @@ pub fn every_unit_has_a_syntax()
 
 /// A body with the same parameters gives at most one result: an expansion or an error.
 pub fn one_expansion_of_a_body()
-    ensures { (body : List ℕ) (args : List (List ℕ)) (result other : Result (List ℕ) ScpiError) → ExpandsTo body args result → ExpandsTo body args other → result ≡ other }
+    ensures { (body : List ℕ) (args : List (List ℕ)) (result other : Result (List ℕ) ScpiError)
+        → ExpandsTo body args result → ExpandsTo body args other → result ≡ other }
 {}
 
 /// Every body gives a result: an expansion or an error.

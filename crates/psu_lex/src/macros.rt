@@ -137,7 +137,9 @@ pub fn expand<'a, A: Allocator + Copy>(
     args: &[&'a [u8]],
 ) -> Result<Bytes<A>, ScpiError>
     ensures ok { IfOk result (λ text. ExpandsTo body.now (map (λ arg. arg.now) args.now) (Ok text)) }
-    ensures err { IfErr result (λ error. ((error ≡ OutOfMemory) × (text : List ℕ) × ExpandsTo body.now (map (λ arg. arg.now) args.now) (Ok text)) ⊎ ExpandsTo body.now (map (λ arg. arg.now) args.now) (Err error)) }
+    ensures err { IfErr result (λ error. ((error ≡ OutOfMemory) × (text : List ℕ)
+        × ExpandsTo body.now (map (λ arg. arg.now) args.now) (Ok text))
+        ⊎ ExpandsTo body.now (map (λ arg. arg.now) args.now) (Err error)) }
 {
     if greatest_of(body) != args.len() {
         return Err(ScpiError::MacroParameterError);

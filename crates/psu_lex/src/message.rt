@@ -65,7 +65,8 @@ fn fault_at(piece: &[u8]) -> UnitFault
 pub(crate) fn unit_end(bytes: &[u8]) -> Result<usize, UnitFault>
     ensures within { IfOk result (λ n. n ≤ length bytes.now) }
     ensures end { IfOk result (λ n. ends_unit (drop n bytes.now) ≡ true) }
-    ensures ok { IfOk result (λ n. (first : Bool) (units : List Part) → MakesUnits first (take n bytes.now) (drop n bytes.now) units → MakesUnits first [] bytes.now units) }
+    ensures ok { IfOk result (λ n. (first : Bool) (units : List Part)
+        → MakesUnits first (take n bytes.now) (drop n bytes.now) units → MakesUnits first [] bytes.now units) }
     ensures err { IfErr result (λ fault. (first : Bool) → MakesUnits first [] bytes.now (record { text = bytes.now; first = first; fault = Some fault } ∷ [])) }
 {
     let mut at = 0;

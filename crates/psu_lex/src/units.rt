@@ -66,8 +66,11 @@ impl<'a> Units<'a> {
     // Reads the unit at the beginning and its separator. Returns none where the unit is white space alone.
     fn read(&mut self) -> Option<Unit<'a>>
         requires { 0 < length self.old.text.now }
-        ensures some { IfSome result (λ unit. (units : List Part) → MakesUnits self.new.first [] self.new.text.now units → MakesUnits self.old.first [] self.old.text.now (part unit ∷ units)) }
-        ensures none { IfNone result ((units : List Part) → MakesUnits self.new.first [] self.new.text.now units → MakesUnits self.old.first [] self.old.text.now units) }
+        ensures some { IfSome result (λ unit. (units : List Part)
+            → MakesUnits self.new.first [] self.new.text.now units
+            → MakesUnits self.old.first [] self.old.text.now (part unit ∷ units)) }
+        ensures none { IfNone result ((units : List Part) → MakesUnits self.new.first [] self.new.text.now units
+            → MakesUnits self.old.first [] self.old.text.now units) }
         ensures rest { EndsIn self.old.text.now self.new.text.now }
         ensures less { length self.new.text.now < length self.old.text.now }
     {
@@ -100,7 +103,9 @@ impl<'a> Units<'a> {
     /// Reads the next unit; returns none where none is left. A faulty string or block is reported as the fault of its
     /// unit, which extends up to END.
     pub fn next_unit(&mut self) -> Option<Unit<'a>>
-        ensures some { IfSome result (λ unit. (units : List Part) → MakesUnits self.new.first [] self.new.text.now units → MakesUnits self.old.first [] self.old.text.now (part unit ∷ units)) }
+        ensures some { IfSome result (λ unit. (units : List Part)
+            → MakesUnits self.new.first [] self.new.text.now units
+            → MakesUnits self.old.first [] self.old.text.now (part unit ∷ units)) }
         ensures none { IfNone result (MakesUnits self.old.first [] self.old.text.now []) }
         ensures rest { EndsIn self.old.text.now self.new.text.now }
         ensures less { IfSome result (λ _. length self.new.text.now < length self.old.text.now) }

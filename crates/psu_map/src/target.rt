@@ -37,7 +37,8 @@ impl<'t, A: Allocator + Copy> Target<'t, A> {
         requires { IsSorted before.now }
         ensures before { IfOk result (λ target. target.before ≡ before.now) }
         ensures aimed { IfOk result (λ target. aimed target ≡ changed before.now batch.now) }
-        ensures standing { IfOk result (λ target. (key value : List ℕ) → get before.now key ≡ Some value → KeepsValue batch.now key value → standing target.entries key ≡ Some value) }
+        ensures standing { IfOk result (λ target. (key value : List ℕ) → get before.now key ≡ Some value
+            → KeepsValue batch.now key value → standing target.entries key ≡ Some value) }
     {
         match batch.edits() {
             [] => Target::standing(alloc, before),
@@ -92,7 +93,8 @@ impl<'t, A: Allocator + Copy> Target<'t, A> {
         requires { IsSorted before.now }
         ensures before { IfOk result (λ target. target.before ≡ before.now) }
         ensures aimed { IfOk result (λ target. aimed target ≡ edited before.now edit.now.key edit.now.value) }
-        ensures standing { IfOk result (λ target. (key value : List ℕ) → get before.now key ≡ Some value → (edit.now.key ≡ key → edit.now.value ≡ Some value) → standing target.entries key ≡ Some value) }
+        ensures standing { IfOk result (λ target. (key value : List ℕ) → get before.now key ≡ Some value
+            → (edit.now.key ≡ key → edit.now.value ≡ Some value) → standing target.entries key ≡ Some value) }
     {
         match edit.value() {
             Some(value) => Ok(Target::begun_with(alloc, before, edit.key(), value, more)?),
@@ -111,7 +113,8 @@ impl<'t, A: Allocator + Copy> Target<'t, A> {
         requires { IsSorted before.now }
         ensures before { IfOk result (λ target. target.before ≡ before.now) }
         ensures aimed { IfOk result (λ target. aimed target ≡ edited before.now key.now (Some value.now)) }
-        ensures standing { IfOk result (λ target. (other its : List ℕ) → get before.now other ≡ Some its → (key.now ≡ other → value.now ≡ its) → standing target.entries other ≡ Some its) }
+        ensures standing { IfOk result (λ target. (other its : List ℕ) → get before.now other ≡ Some its
+            → (key.now ≡ other → value.now ≡ its) → standing target.entries other ≡ Some its) }
     {
         match search(before, key) {
             Ok(at) => {
@@ -139,7 +142,8 @@ impl<'t, A: Allocator + Copy> Target<'t, A> {
         requires { IsSorted before.now }
         ensures before { IfOk result (λ target. target.before ≡ before.now) }
         ensures aimed { IfOk result (λ target. aimed target ≡ edited before.now key.now None) }
-        ensures standing { IfOk result (λ target. (other its : List ℕ) → get before.now other ≡ Some its → (key.now ≡ other → ⊥) → standing target.entries other ≡ Some its) }
+        ensures standing { IfOk result (λ target. (other its : List ℕ) → get before.now other ≡ Some its
+            → (key.now ≡ other → ⊥) → standing target.entries other ≡ Some its) }
     {
         match search(before, key) {
             Ok(at) => {
@@ -154,7 +158,8 @@ impl<'t, A: Allocator + Copy> Target<'t, A> {
     fn make_all(&mut self, edits: &'t [Edit<A>]) -> Result<(), AllocError>
         ensures before { OnOk result (self.new.before ≡ self.old.before) }
         ensures aimed { OnOk result (aimed self.new ≡ changed (aimed self.old) edits.now) }
-        ensures standing { OnOk result ((key value : List ℕ) → standing self.old.entries key ≡ Some value → KeepsValue edits.now key value → standing self.new.entries key ≡ Some value) }
+        ensures standing { OnOk result ((key value : List ℕ) → standing self.old.entries key ≡ Some value
+            → KeepsValue edits.now key value → standing self.new.entries key ≡ Some value) }
     {
         for edit in edits {
             self.make(edit)?;
@@ -166,7 +171,8 @@ impl<'t, A: Allocator + Copy> Target<'t, A> {
     fn make(&mut self, edit: &'t Edit<A>) -> Result<(), AllocError>
         ensures before { self.new.before ≡ self.old.before }
         ensures aimed { OnOk result (aimed self.new ≡ edited (aimed self.old) edit.now.key edit.now.value) }
-        ensures standing { OnOk result ((key value : List ℕ) → standing self.old.entries key ≡ Some value → (edit.now.key ≡ key → edit.now.value ≡ Some value) → standing self.new.entries key ≡ Some value) }
+        ensures standing { OnOk result ((key value : List ℕ) → standing self.old.entries key ≡ Some value
+            → (edit.now.key ≡ key → edit.now.value ≡ Some value) → standing self.new.entries key ≡ Some value) }
     {
         match edit.value() {
             Some(value) => self.put(edit.key(), value),
@@ -181,7 +187,8 @@ impl<'t, A: Allocator + Copy> Target<'t, A> {
     fn put(&mut self, key: &'t [u8], value: &'t [u8]) -> Result<(), AllocError>
         ensures before { self.new.before ≡ self.old.before }
         ensures aimed { OnOk result (aimed self.new ≡ edited (aimed self.old) key.now (Some value.now)) }
-        ensures standing { OnOk result ((other its : List ℕ) → standing self.old.entries other ≡ Some its → (key.now ≡ other → value.now ≡ its) → standing self.new.entries other ≡ Some its) }
+        ensures standing { OnOk result ((other its : List ℕ) → standing self.old.entries other ≡ Some its
+            → (key.now ≡ other → value.now ≡ its) → standing self.new.entries other ≡ Some its) }
     {
         match find(&self.entries, key) {
             Ok(at) => {
@@ -200,7 +207,8 @@ impl<'t, A: Allocator + Copy> Target<'t, A> {
     fn remove(&mut self, key: &[u8])
         ensures before { self.new.before ≡ self.old.before }
         ensures aimed { aimed self.new ≡ edited (aimed self.old) key.now None }
-        ensures standing { (other its : List ℕ) → standing self.old.entries other ≡ Some its → (key.now ≡ other → ⊥) → standing self.new.entries other ≡ Some its }
+        ensures standing { (other its : List ℕ) → standing self.old.entries other ≡ Some its
+            → (key.now ≡ other → ⊥) → standing self.new.entries other ≡ Some its }
     {
         if let Ok(at) = find(&self.entries, key) {
             self.entries.remove(at);

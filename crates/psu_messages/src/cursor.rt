@@ -24,7 +24,9 @@ pub(crate) struct Cursor<'t> {
 /// Takes the next unit, if one is left. At the end of a text the look at its bytes saves a call.
 #[inline(always)]
 pub(crate) fn take_unit<'t>(units: &mut Units<'t>) -> Option<Unit<'t>>
-    ensures some { IfSome result (λ unit. (more : List Part) → MakesUnits units.new.first [] units.new.text.now more → MakesUnits units.old.first [] units.old.text.now (part unit ∷ more)) }
+    ensures some { IfSome result (λ unit. (more : List Part)
+        → MakesUnits units.new.first [] units.new.text.now more
+        → MakesUnits units.old.first [] units.old.text.now (part unit ∷ more)) }
     ensures none { IfNone result (MakesUnits units.old.first [] units.old.text.now []) }
     ensures rest { EndsIn units.old.text.now units.new.text.now }
     ensures less { IfSome result (λ _. length units.new.text.now < length units.old.text.now) }
@@ -156,7 +158,8 @@ impl<A: Allocator + Copy> SavedPlace<A> {
 
     /// Becomes a later place of the same text, where there is one.
     pub(crate) fn advance_to(&mut self, later: Option<SavedPlace<A>>)
-        ensures place { (inside : Bool) (bytes : List ℕ) → IsSavedPlace inside bytes self.old → IfSome later (IsSavedPlace inside bytes) → IsSavedPlace inside bytes self.new }
+        ensures place { (inside : Bool) (bytes : List ℕ) → IsSavedPlace inside bytes self.old
+            → IfSome later (IsSavedPlace inside bytes) → IsSavedPlace inside bytes self.new }
         ensures read { (most : ℕ) → self.old.read ≤ most → IfSome later (λ place. place.read ≤ most) → self.new.read ≤ most }
     {
         if let Some(later) = later {

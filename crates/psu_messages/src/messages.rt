@@ -23,11 +23,15 @@ fn continue_expansion<A: Allocator + Copy, F: Executor<A>>(
 ) -> Result<Option<Need>, F::Stop>
     requires some { is_some progress.old.expansion ≡ true }
     requires units { progress.old.units + 1 < 2 ^ 64 }
-    ensures advances { IfOk result (λ _. (source : Source) → Advances F.relations.does source executor.old (progress_of progress.old) executor.new (progress_of progress.new)) }
+    ensures advances { IfOk result (λ _. (source : Source)
+        → Advances F.relations.does source executor.old (progress_of progress.old) executor.new
+        (progress_of progress.new)) }
     ensures units { IfOk result (λ need. need ≡ None → progress.new.units ≡ progress.old.units + 1) }
     ensures grows { progress.old.units ≤ progress.new.units }
     ensures waits { IfOk result (λ some. IfSome some (IsAwaited F.relations executor.new)) }
-    ensures stops { IfErr result (λ stop. (source : Source) → StopsAt F.relations source executor.old (progress_of progress.old) stop executor.new progress.new.gathered) }
+    ensures stops { IfErr result (λ stop. (source : Source)
+        → StopsAt F.relations source executor.old
+        (progress_of progress.old) stop executor.new progress.new.gathered) }
 {
     let Some(expansion) = &mut progress.expansion else {
         return Ok(None);
@@ -138,10 +142,12 @@ fn execute_units<'t, A: Allocator + Copy, F: Executor<A>>(
 ) -> Result<Option<Need>, F::Stop>
     requires place { IsCursor false cursor.old }
     requires read { cursor.old.read ≡ progress.old.units }
-    ensures advances { IfOk result (λ _. Advances F.relations.does (Text cursor.old.text.now) executor.old (progress_of progress.old) executor.new (progress_of progress.new)) }
+    ensures advances { IfOk result (λ _. Advances F.relations.does (Text cursor.old.text.now) executor.old
+        (progress_of progress.old) executor.new (progress_of progress.new)) }
     ensures over { IfOk result (λ need. need ≡ None → IsOver (Text cursor.old.text.now) (progress_of progress.new)) }
     ensures waits { IfOk result (λ some. IfSome some (IsAwaited F.relations executor.new)) }
-    ensures stops { IfErr result (λ stop. StopsAt F.relations (Text cursor.old.text.now) executor.old (progress_of progress.old) stop executor.new progress.new.gathered) }
+    ensures stops { IfErr result (λ stop. StopsAt F.relations (Text cursor.old.text.now) executor.old
+        (progress_of progress.old) stop executor.new progress.new.gathered) }
     ensures place { IfOk result (λ need. is_some need ≡ true → IsCursor false cursor.new) }
     ensures text { cursor.new.text ≡ cursor.old.text }
     ensures grows { progress.old.units ≤ progress.new.units }
@@ -176,10 +182,12 @@ pub fn execute_text<A: Allocator + Copy, F: Executor<A>>(
     progress: &mut Progress<A>,
 ) -> Result<Option<Need>, F::Stop>
     requires { progress.old.units ≡ 0 }
-    ensures advances { IfOk result (λ _. Advances F.relations.does (Text bytes.now) executor.old (progress_of progress.old) executor.new (progress_of progress.new)) }
+    ensures advances { IfOk result (λ _. Advances F.relations.does (Text bytes.now) executor.old
+        (progress_of progress.old) executor.new (progress_of progress.new)) }
     ensures over { IfOk result (λ need. need ≡ None → IsOver (Text bytes.now) (progress_of progress.new)) }
     ensures waits { IfOk result (λ some. IfSome some (IsAwaited F.relations executor.new)) }
-    ensures stops { IfErr result (λ stop. StopsAt F.relations (Text bytes.now) executor.old (progress_of progress.old) stop executor.new progress.new.gathered) }
+    ensures stops { IfErr result (λ stop. StopsAt F.relations (Text bytes.now) executor.old
+        (progress_of progress.old) stop executor.new progress.new.gathered) }
 {
     let mut cursor = Cursor::of(bytes);
     let need = execute_units(executor, &mut cursor, progress)?;
@@ -193,7 +201,8 @@ pub fn execute_fault<A: Allocator + Copy, F: Executor<A>>(
     error: ScpiError,
     progress: &mut Progress<A>,
 ) -> Result<Option<Need>, F::Stop>
-    ensures advances { IfOk result (λ _. Advances F.relations.does (Fault error) executor.old (progress_of progress.old) executor.new (progress_of progress.new)) }
+    ensures advances { IfOk result (λ _. Advances F.relations.does (Fault error) executor.old
+        (progress_of progress.old) executor.new (progress_of progress.new)) }
     ensures over { IfOk result (λ need. need ≡ None → IsOver (Fault error) (progress_of progress.new)) }
     ensures waits { IfOk result (λ some. IfSome some (IsAwaited F.relations executor.new)) }
     ensures stops { IfErr result (λ stop. StopsAt F.relations (Fault error) executor.old (progress_of progress.old) stop executor.new progress.new.gathered) }
@@ -226,10 +235,12 @@ pub(crate) fn execute_rest<A: Allocator + Copy, F: Executor<A>>(
 ) -> Result<Option<Need>, F::Stop>
     requires kept { IsSavedPlace false bytes.now place.old }
     requires done { place.old.read ≤ progress.old.units }
-    ensures advances { IfOk result (λ _. Advances F.relations.does (Text bytes.now) executor.old (progress_of progress.old) executor.new (progress_of progress.new)) }
+    ensures advances { IfOk result (λ _. Advances F.relations.does (Text bytes.now) executor.old
+        (progress_of progress.old) executor.new (progress_of progress.new)) }
     ensures over { IfOk result (λ need. need ≡ None → IsOver (Text bytes.now) (progress_of progress.new)) }
     ensures waits { IfOk result (λ some. IfSome some (IsAwaited F.relations executor.new)) }
-    ensures stops { IfErr result (λ stop. StopsAt F.relations (Text bytes.now) executor.old (progress_of progress.old) stop executor.new progress.new.gathered) }
+    ensures stops { IfErr result (λ stop. StopsAt F.relations (Text bytes.now) executor.old
+        (progress_of progress.old) stop executor.new progress.new.gathered) }
     ensures kept { IsSavedPlace false bytes.now place.new }
     ensures done { place.new.read ≤ progress.new.units }
 {

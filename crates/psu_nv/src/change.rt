@@ -16,7 +16,8 @@ impl<A: Allocator + Copy> Contents<A> {
     pub fn change(&mut self, limit: u16, command: &NvCommand) -> Result<(), ScpiError>
         ensures sound { OnOk result (IsContents self.new) }
         ensures ok { OnOk result ((answer limit self.old (command_of command.now) ≡ None) × (self.new ≡ apply self.old (command_of command.now))) }
-        ensures refused { IfErr result (λ e. (answer limit self.old (command_of command.now) ≡ Some e) ⊎ ((answer limit self.old (command_of command.now) ≡ None) × (e ≡ OutOfMemory))) }
+        ensures refused { IfErr result (λ e. (answer limit self.old (command_of command.now) ≡ Some e)
+            ⊎ ((answer limit self.old (command_of command.now) ≡ None) × (e ≡ OutOfMemory))) }
         ensures memory { IfErr result (λ e. e ≡ OutOfMemory → takes_memory (command_of command.now) ≡ true) }
         ensures err { OnErr result (self.new ≡ self.old) }
     {
@@ -33,7 +34,9 @@ impl<A: Allocator + Copy> Contents<A> {
         requires found { refused self.old (command_of command.now) ≡ None }
         ensures sound { OnOk result (IsContents self.new) }
         ensures ok { OnOk result ((fits limit (apply self.old (command_of command.now)) ≡ true) × (self.new ≡ apply self.old (command_of command.now))) }
-        ensures full { IfErr result (λ e. ((e ≡ OutOfMemory) × (fits limit (apply self.old (command_of command.now)) ≡ true)) ⊎ ((e ≡ MediaFull) × (fits limit (apply self.old (command_of command.now)) ≡ false))) }
+        ensures full { IfErr result (λ e. ((e ≡ OutOfMemory)
+            × (fits limit (apply self.old (command_of command.now)) ≡ true))
+            ⊎ ((e ≡ MediaFull) × (fits limit (apply self.old (command_of command.now)) ≡ false))) }
         ensures memory { IfErr result (λ e. e ≡ OutOfMemory → takes_memory (command_of command.now) ≡ true) }
         ensures err { OnErr result (self.new ≡ self.old) }
     {

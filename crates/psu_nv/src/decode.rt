@@ -139,7 +139,8 @@ fn enables_in(value: Option<&[u8]>) -> Result<Option<Enables>, DecodeFault>
     ensures found { IfOk result (λ enables. value_in (enables_items enables) ≡ option_map (λ v. v.now) value.entry) }
     ensures mss { IfOk result (λ enables. ForSome enables (λ e. bit_and e.sre 64 ≡ 0)) }
     ensures bad { IfErr result (λ e. e ≡ BadValue) }
-    ensures none { IfErr result (λ e. (enables : Option Enables) → ForSome enables (λ e. bit_and e.sre 64 ≡ 0) → value_in (enables_items enables) ≡ option_map (λ v. v.now) value.entry → ⊥) }
+    ensures none { IfErr result (λ e. (enables : Option Enables) → ForSome enables (λ e. bit_and e.sre 64 ≡ 0)
+        → value_in (enables_items enables) ≡ option_map (λ v. v.now) value.entry → ⊥) }
 {
     match value {
         None => Ok(None),
@@ -190,7 +191,8 @@ fn register_in(value: Option<&[u8]>) -> Result<Settings, DecodeFault>
     ensures found { IfOk result (λ settings. (r : ℕ) → value_in (register_items r settings) ≡ option_map (λ v. v.now) value.entry) }
     ensures are { IfOk result AreSettings }
     ensures bad { IfErr result (λ e. e ≡ BadValue) }
-    ensures none { IfErr result (λ e. (settings : List Each) → (r : ℕ) → AreSettings settings → value_in (register_items r settings) ≡ option_map (λ v. v.now) value.entry → ⊥) }
+    ensures none { IfErr result (λ e. (settings : List Each) → (r : ℕ) → AreSettings settings
+        → value_in (register_items r settings) ≡ option_map (λ v. v.now) value.entry → ⊥) }
 {
     let reset = Settings::reset();
     let Some(bytes) = value else {
@@ -229,7 +231,8 @@ fn macros_in(value: Option<&[u8]>) -> Result<WrittenMacros<'_>, DecodeFault>
     ensures distinct { IfOk result (λ macros. HasDistinct macros.items) }
     ensures most { IfOk result (λ macros. length macros.items ≤ 32) }
     ensures bad { IfErr result (λ e. e ≡ BadValue) }
-    ensures none { IfErr result (λ e. (macros : List Macro) → AllByRecursion IsMacro macros → HasDistinct macros → length macros ≤ 32 → value_in (macros_items macros) ≡ option_map (λ v. v.now) value.entry → ⊥) }
+    ensures none { IfErr result (λ e. (macros : List Macro) → AllByRecursion IsMacro macros → HasDistinct macros
+        → length macros ≤ 32 → value_in (macros_items macros) ≡ option_map (λ v. v.now) value.entry → ⊥) }
 {
     match value {
         None => Ok(ArrayVec::new()),

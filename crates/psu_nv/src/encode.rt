@@ -45,7 +45,8 @@ impl<A: Allocator + Copy> Contents<A> {
 
     // Appends the items of the files after those of all parts before them.
     fn append_files(&self, alloc: A, items: &mut Items<A>) -> Result<(), AllocError>
-        requires { items.old ≡ ((enables_items self.now.enables ++ registers_items 0 self.now.registers) ++ user_items self.now.user) ++ macros_items self.now.macros }
+        requires { items.old ≡ ((enables_items self.now.enables ++ registers_items 0 self.now.registers) ++
+            user_items self.now.user) ++ macros_items self.now.macros }
         ensures { OnOk result (items.new ≡ items.old ++ map file_item self.now.files) }
     {
         for pair in self.files.pairs() {

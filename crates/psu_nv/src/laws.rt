@@ -21,5 +21,6 @@ pub fn parts_are_the_whole()
 
 /// The edits of parts, among them all that differ, turn the old map into the new one, so a batch needs no others.
 pub fn edits_of_parts_make_the_map()
-    ensures { (old new : Kept) → (parts : List Each) → IsContents old → IsContents new → DifferIn parts old new → changed (items_of old) (map (edit_of new) parts) ≡ items_of new }
+    ensures { (old new : Kept) → (parts : List Each) → IsContents old → IsContents new → DifferIn parts old new
+        → changed (items_of old) (map (edit_of new) parts) ≡ items_of new }
 {}

@@ -73,8 +73,12 @@ impl Outputs {
     /// Changes one setting of an output, which may then trip. The setting is refused if it is out of its range, or else
     /// if it switches a tripped output on; then nothing has changed.
     pub fn set_one(&mut self, output: Output, setting: Setting) -> Result<(), ScpiError>
-        ensures set { OnOk result ((is_in_range setting ≡ true) × (any_conflicts self.old (after_set (all_settings self.old) output setting) ≡ false) × (self.new ≡ with_all self.old (after_set (all_settings self.old) output setting))) }
-        ensures refused { IfErr result (λ error. ((error ≡ DataOutOfRange) × (is_in_range setting ≡ false)) ⊎ ((error ≡ SettingsConflict) × (is_in_range setting ≡ true) × (any_conflicts self.old (after_set (all_settings self.old) output setting) ≡ true))) }
+        ensures set { OnOk result ((is_in_range setting ≡ true)
+            × (any_conflicts self.old (after_set (all_settings self.old) output setting) ≡ false)
+            × (self.new ≡ with_all self.old (after_set (all_settings self.old) output setting))) }
+        ensures refused { IfErr result (λ error. ((error ≡ DataOutOfRange) × (is_in_range setting ≡ false))
+            ⊎ ((error ≡ SettingsConflict) × (is_in_range setting ≡ true)
+            × (any_conflicts self.old (after_set (all_settings self.old) output setting) ≡ true))) }
         ensures same { OnErr result (self.new ≡ self.old) }
     {
         if !setting.is_in_range() {

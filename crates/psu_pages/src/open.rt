@@ -30,7 +30,9 @@ impl<D: Disk, A: Allocator + Copy> Pages<D, A> {
     /// Opens the items that a disk represents. Begins with a sync, and reads the two roots and the pages of the heads,
     /// each once. The gate of an older root that is open is left open. Nothing is written.
     pub fn open(alloc: A, mut disk: D) -> Result<Pages<D, A>, ImageError<D>>
-        ensures found { D.honest → IfOk result (λ pages. Encodes pages.root pages.version pages.limit pages.number pages.heads.items (items_in pages.root (D.state disk).bytes) (D.state disk).bytes) }
+        ensures found { D.honest → IfOk result (λ pages.
+            Encodes pages.root pages.version pages.limit pages.number pages.heads.items
+            (items_in pages.root (D.state disk).bytes) (D.state disk).bytes) }
         ensures sure { IfOk result (λ pages. pages.standing ≢ Unsure) }
         ensures fit { IfOk result (λ pages. AreFit pages.limit pages.heads.items pages.free) }
         ensures none_older { IfOk result (λ pages. pages.older.items ≡ []) }
@@ -80,7 +82,8 @@ fn look<D: Disk, A: Allocator + Copy>(alloc: A, disk: &mut D) -> Result<Opened<A
     ensures limit { IfOk result (λ o. (4 ≤ o.chosen.limit) × (o.chosen.limit ≤ 480) × (512 * (2 + 2 * o.chosen.limit) ≤ D.extent disk.old)) }
     ensures roster { IfOk result (λ o. IsRoster o.chosen.limit o.heads.items) }
     ensures fit { IfOk result (λ o. AreFit o.chosen.limit o.heads.items o.free) }
-    ensures found { D.honest → IfOk result (λ o. Encodes o.chosen.root o.chosen.version o.chosen.limit o.chosen.number o.heads.items (items_in o.chosen.root (D.state disk.old).bytes) (D.state disk.old).bytes) }
+    ensures found { D.honest → IfOk result (λ o. Encodes o.chosen.root o.chosen.version o.chosen.limit
+        o.chosen.number o.heads.items (items_in o.chosen.root (D.state disk.old).bytes) (D.state disk.old).bytes) }
     ensures gates { D.honest → IfOk result (λ o. HasGates o.chosen.root o.chosen.number o.chosen.both (D.state disk.old).bytes) }
     ensures refused { D.honest → IfErr result (λ cause. IfImage cause (IsRefusal (D.state disk.old).bytes)) }
     ensures synced { D.honest → OnOk result (Only (D.state disk.new)) }

@@ -50,7 +50,9 @@ impl<D: Disk, A: Allocator + Copy> Pages<D, A> {
         ensures roster { IsRoster self.now.limit result.now }
         ensures claimed { AreClaimed self.now.free (taken result.now) }
         ensures there { D.honest → self.now.standing ≢ Unsure → AllByRecursion (λ head. head_at (D.state self.now.disk).bytes head.at ≡ head) result.now }
-        ensures encodes { D.honest → self.now.standing ≢ Unsure → EachEncodes (D.state self.now.disk) self.now.root self.now.version self.now.limit self.now.number result.now (items_in self.now.root (D.state self.now.disk).bytes) }
+        ensures encodes { D.honest → self.now.standing ≢ Unsure
+            → EachEncodes (D.state self.now.disk) self.now.root self.now.version self.now.limit self.now.number
+            result.now (items_in self.now.root (D.state self.now.disk).bytes) }
     {
         &self.heads
     }
@@ -68,7 +70,8 @@ impl<D: Disk, A: Allocator + Copy> Pages<D, A> {
     /// The number of the current root, which rises by 1 with each root that is published.
     pub fn number(&self) -> u64
         ensures value { result ≡ self.now.number }
-        ensures represents { D.honest → self.now.standing ≢ Unsure → (image : List ℕ) → IsCrashImage (D.state self.now.disk) image → number_in (current_root image) image ≡ result }
+        ensures represents { D.honest → self.now.standing ≢ Unsure → (image : List ℕ)
+            → IsCrashImage (D.state self.now.disk) image → number_in (current_root image) image ≡ result }
     {
         self.number
     }
@@ -76,7 +79,8 @@ impl<D: Disk, A: Allocator + Copy> Pages<D, A> {
     /// The version of the current root: 1 or 2.
     pub fn version(&self) -> u16
         ensures value { result ≡ self.now.version }
-        ensures represents { D.honest → self.now.standing ≢ Unsure → (image : List ℕ) → IsCrashImage (D.state self.now.disk) image → version_in (current_root image) image ≡ result }
+        ensures represents { D.honest → self.now.standing ≢ Unsure → (image : List ℕ)
+            → IsCrashImage (D.state self.now.disk) image → version_in (current_root image) image ≡ result }
     {
         self.version
     }
@@ -91,7 +95,9 @@ impl<D: Disk, A: Allocator + Copy> Pages<D, A> {
     /// Returns the disk, with the items on it.
     pub fn into_disk(self) -> D
         ensures value { result ≡ self.disk }
-        ensures encodes { D.honest → self.standing ≢ Unsure → EachEncodes (D.state result) self.root self.version self.limit self.number self.heads.items (items_in self.root (D.state result).bytes) }
+        ensures encodes { D.honest → self.standing ≢ Unsure
+            → EachEncodes (D.state result) self.root self.version self.limit self.number self.heads.items
+            (items_in self.root (D.state result).bytes) }
     {
         self.disk
     }

@@ -44,7 +44,9 @@ impl<D: Disk, A: Allocator + Copy> Pages<D, A> {
 
         // At every moment the disk represents the same items, and no page but those of the head is written.
         ensures shown { D.honest → items_in self.new.root (D.state self.new.disk).bytes ≡ items_in self.old.root (D.state self.old.disk).bytes }
-        ensures left { LeavesImages D.Disk self.old.disk self.new.disk (Encodes self.old.root self.old.version self.old.limit self.old.number self.old.heads.items (items_in self.old.root (D.state self.old.disk).bytes)) }
+        ensures left { LeavesImages D.Disk self.old.disk self.new.disk
+            (Encodes self.old.root self.old.version self.old.limit self.old.number self.old.heads.items
+            (items_in self.old.root (D.state self.old.disk).bytes)) }
         ensures touched { LeavesImages D.Disk self.old.disk self.new.disk (Reaches (Misses (pages_of head.now)) (IsCrashImage (D.state self.old.disk))) }
     {
         let standing = self.standing;
@@ -68,13 +70,19 @@ impl<D: Disk, A: Allocator + Copy> Pages<D, A> {
         ensures published { OnOk result (HasPublished self.old self.new heads.items) }
         ensures limit { self.new.limit ≡ self.old.limit }
         ensures planned { (other : HeadOf) → IsPlanned self.old other → AreClear (pages_of other) (taken heads.items) → IsPlanned self.new other }
-        ensures spelled { D.honest → OnOk result (page_of self.new.root (D.state self.new.disk).bytes ≡ open_root self.old.limit (self.old.number + 1) heads.items) }
-        ensures shown { D.honest → OnOk result (items_in self.new.root (D.state self.new.disk).bytes ≡ map (item_in (D.state self.old.disk).bytes) heads.items) }
+        ensures spelled { D.honest → OnOk result (page_of self.new.root (D.state self.new.disk).bytes
+            ≡ open_root self.old.limit (self.old.number + 1) heads.items) }
+        ensures shown { D.honest → OnOk result (items_in self.new.root (D.state self.new.disk).bytes
+            ≡ map (item_in (D.state self.old.disk).bytes) heads.items) }
 
         // At every moment the disk represents the items from before, or those of the heads, and no page but the next
         // root's is written.
-        ensures left { LeavesImages D.Disk self.old.disk self.new.disk (EncodesEither (other self.old.root) self.old.version self.old.limit self.old.number self.old.heads.items (items_in self.old.root (D.state self.old.disk).bytes) heads.items (map (item_in (D.state self.old.disk).bytes) heads.items)) }
-        ensures touched { LeavesImages D.Disk self.old.disk self.new.disk (Reaches (SameBut (gate_at (other self.old.root)) 512) (IsCrashImage (D.state self.old.disk))) }
+        ensures left { LeavesImages D.Disk self.old.disk self.new.disk
+            (EncodesEither (other self.old.root) self.old.version self.old.limit self.old.number
+            self.old.heads.items (items_in self.old.root (D.state self.old.disk).bytes) heads.items
+            (map (item_in (D.state self.old.disk).bytes) heads.items)) }
+        ensures touched { LeavesImages D.Disk self.old.disk self.new.disk
+            (Reaches (SameBut (gate_at (other self.old.root)) 512) (IsCrashImage (D.state self.old.disk))) }
     {
         let next = self.root.other();
         let page = spell_root(self.limit, self.number + 1, &heads);
@@ -102,8 +110,11 @@ impl<D: Disk, A: Allocator + Copy> Pages<D, A> {
 
         // At every moment the disk represents the same items, and nothing but the older gate is written.
         ensures shown { D.honest → OnOk result (items_in self.new.root (D.state self.new.disk).bytes ≡ items_in self.old.root (D.state self.old.disk).bytes) }
-        ensures left { LeavesImages D.Disk self.old.disk self.new.disk (Encodes self.old.root self.old.version self.old.limit self.old.number self.old.heads.items (items_in self.old.root (D.state self.old.disk).bytes)) }
-        ensures touched { LeavesImages D.Disk self.old.disk self.new.disk (Reaches (SameBut (gate_at (other self.old.root)) 1) (IsCrashImage (D.state self.old.disk))) }
+        ensures left { LeavesImages D.Disk self.old.disk self.new.disk
+            (Encodes self.old.root self.old.version self.old.limit self.old.number self.old.heads.items
+            (items_in self.old.root (D.state self.old.disk).bytes)) }
+        ensures touched { LeavesImages D.Disk self.old.disk self.new.disk
+            (Reaches (SameBut (gate_at (other self.old.root)) 1) (IsCrashImage (D.state self.old.disk))) }
     {
         let Standing::Both = self.standing else {
             return Ok(());

@@ -25,7 +25,11 @@ pub(crate) fn switch<D: Disk>(disk: &mut D, next: Root, contents: &[u8]) -> Resu
     ensures lower { D.honest → (version limit number : ℕ) (before heads : List Head) (items : List Item)
         → IsReady (D.state disk.old) next version limit number before heads items contents.now
         → OnOk result (EachLower (D.state disk.new) (other next) (number + 1)) }
-    ensures left { (version limit number : ℕ) (before heads : List Head) (items : List Item) → IsReady (D.state disk.old) next version limit number before heads items contents.now → LeavesImages D.Disk disk.old disk.new (EncodesEither next version limit number before items heads (map (item_in (D.state disk.old).bytes) heads)) }
+    ensures left { (version limit number : ℕ) (before heads : List Head) (items : List Item)
+        → IsReady (D.state disk.old) next version limit number before heads items contents.now
+        → LeavesImages D.Disk disk.old disk.new
+        (EncodesEither next version limit number before items heads
+        (map (item_in (D.state disk.old).bytes) heads)) }
 
     // No other page is written.
     ensures touched { LeavesImages D.Disk disk.old disk.new (Reaches (SameBut (gate_at next) 512) (IsCrashImage (D.state disk.old))) }

@@ -38,7 +38,9 @@ fn proceed<A: Allocator + Copy, F: Executor<A>>(
     progress: &mut Progress<A>,
 ) -> Result<Option<Need>, F::Stop>
     requires { progress.old.units ≡ 0 }
-    ensures goes { OnOk result (Advances F.relations.does (line_source lines.now.is_too_long lines.now.line.items) executor.old (progress_of progress.old) executor.new (progress_of progress.new)) }
+    ensures goes { OnOk result (Advances F.relations.does
+        (line_source lines.now.is_too_long lines.now.line.items) executor.old
+        (progress_of progress.old) executor.new (progress_of progress.new)) }
     ensures over { IfOk result (λ need. need ≡ None → IsOver (line_source lines.now.is_too_long lines.now.line.items) (progress_of progress.new)) }
     ensures waits { IfOk result (λ some. IfSome some (IsAwaited F.relations executor.new)) }
     ensures stops { IfErr result (λ stop. StopsAt F.relations (line_source lines.now.is_too_long lines.now.line.items) executor.old (progress_of progress.old) stop executor.new

@@ -77,7 +77,8 @@ pub(crate) fn last_line<W: Write, D: Disk, A: Allocator + Copy>(
     lines: &mut Lines<A>,
     writer: &mut W,
 ) -> Result<PoweredDevice<D, A>, RunFault<D>>
-    ensures whole { IfOk result (λ p. Answers (coming lines.old.is_too_long lines.old.line.items []) powered.exec p.exec (W.contents writer.old) (W.contents writer.new)) }
+    ensures whole { IfOk result (λ p. Answers (coming lines.old.is_too_long lines.old.line.items []) powered.exec
+        p.exec (W.contents writer.old) (W.contents writer.new)) }
     ensures early { IfErr result (λ f. EndsEarly never powered.exec f (coming lines.old.is_too_long lines.old.line.items [])
         (W.contents writer.old) (W.contents writer.new)) }
 {

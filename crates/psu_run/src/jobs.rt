@@ -62,7 +62,8 @@ pub(crate) fn flush<D: Disk, A: Allocator + Copy>(exec: &mut Exec<D, A>) -> Resu
     ensures free { wait_of exec.old.device.flush 1 ≡ None → wait_of exec.new.device.flush 1 ≡ None }
 
     // Changes are left unflushed only where a disk call failed or the store is worn.
-    ensures clean { D.honest → OnOk result (HasFailed (failures_of exec.old) (failures_of exec.new) ⊎ (exec.new.device.flush.store ≡ Worn) ⊎ (exec.new.device.flush.unflushed ≡ 0)) }
+    ensures clean { D.honest → OnOk result (HasFailed (failures_of exec.old) (failures_of exec.new)
+        ⊎ (exec.new.device.flush.store ≡ Worn) ⊎ (exec.new.device.flush.unflushed ≡ 0)) }
 {
     for _ in 0..JOBS_MOST {
         match exec.take() {

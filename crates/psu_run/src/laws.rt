@@ -17,7 +17,8 @@ pub fn script_is_the_only_text()
 
 /// No input has two scripts.
 pub fn one_script_of_an_input()
-    ensures { (contents : Contents) (limit : ℕ) (input text other : List ℕ) → IsScript contents limit input text → IsScript contents limit input other → text ≡ other }
+    ensures { (contents : Contents) (limit : ℕ) (input text other : List ℕ) → IsScript contents limit input text
+        → IsScript contents limit input other → text ≡ other }
 {
     one_list_of_units();
     one_reading_of_a_unit();

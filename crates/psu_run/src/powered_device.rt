@@ -45,11 +45,14 @@ impl<D: Disk, A: Allocator + Copy> PoweredDevice<D, A> {
         ensures extent { IfErr result (λ f. D.extent f.disk ≡ D.extent disk) }
         // At each moment since the call began, each possible crash image is one from before, or has the root that was
         // current when the disk was read.
-        ensures time { D.honest → D.records → IfOk result (λ p. ForSome p.exec.idle_store (λ h. LeavesOnly D.moment D.left_since disk (idle_disk h) (IsOldOrSame (D.state disk)))) }
+        ensures time { D.honest → D.records → IfOk result (λ p.
+            ForSome p.exec.idle_store (λ h. LeavesOnly D.moment D.left_since disk (idle_disk h)
+            (IsOldOrSame (D.state disk)))) }
         ensures time_refused { D.honest → D.records → IfErr result (λ f. LeavesOnly D.moment D.left_since disk f.disk (IsOldOrSame (D.state disk))) }
 
         // A disk that does not power on also keeps the map that each of its possible crash images represented.
-        ensures left { D.honest → IfErr result (λ f. (limit : ℕ) (map : List Item) → EachRepresents (D.state disk) limit map → EachRepresents (D.state f.disk) limit map) }
+        ensures left { D.honest → IfErr result (λ f. (limit : ℕ) (map : List Item)
+            → EachRepresents (D.state disk) limit map → EachRepresents (D.state f.disk) limit map) }
     {
         let store = match Store::open(alloc, disk) {
             Ok(store) => store,

@@ -78,7 +78,8 @@ impl FirstMessage {
     // and those after it are all that were added, in their order.
     fn add(&mut self, alloc: Global, bytes: &[u8]) -> io::Result<Option<Opening>>
         ensures all { IfOk result (λ some. IfSome some (λ opening. opening.message.items ++ opening.after.items ≡ self.old.bytes.items ++ bytes.now)) }
-        ensures whole { Fed self.old.channel self.old.bytes.items [] → IfOk result (λ some. IfSome some (λ opening. IsFirst opening.first opening.message.items)) }
+        ensures whole { Fed self.old.channel self.old.bytes.items []
+            → IfOk result (λ some. IfSome some (λ opening. IsFirst opening.first opening.message.items)) }
         ensures none { IfOk result (λ some. IsNone some → self.new.bytes.items ≡ self.old.bytes.items ++ bytes.now) }
         ensures fed { Fed self.old.channel self.old.bytes.items [] → IfOk result (λ some. IsNone some → Fed self.new.channel self.new.bytes.items []) }
     {

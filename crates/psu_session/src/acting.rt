@@ -67,7 +67,9 @@ impl Parts {
     fn order(&mut self, origin: Origin, input: Input<Global>) -> Result<(), EndCause>
         requires { HasRoom self.old }
         ensures done { OnOk result (state_of self.new ≡ added (state_of self.old) (Execute (order_of (record { origin = origin; input = input })) ∷ []) [] []) }
-        ensures refused { IfErr result (λ cause. (cause ≡ TooMuchHeld) × (4194304 < (state_of self.old).held + cost_of (order_of (record { origin = origin; input = input })))) }
+        ensures refused { IfErr result (λ cause. (cause ≡ TooMuchHeld)
+            × (4194304 < (state_of self.old).held + cost_of
+            (order_of (record { origin = origin; input = input })))) }
         ensures capacity { KeepsCapacity self.old self.new }
     {
         self.held.take(input.size())?;
@@ -119,7 +121,8 @@ impl Parts {
     // its result could else be taken for that of the first.
     fn answer_lock<D: Device>(&mut self, device: &mut D, timeout: u32, string: &[u8])
         requires { HasReplyRoom self.old }
-        ensures done { Appends D.does (IsLocked (state_of self.old).lock_waits timeout (kind_of string.now)) [] [] (state_of self.old) device.old (state_of self.new) device.new }
+        ensures done { Appends D.does (IsLocked (state_of self.old).lock_waits timeout (kind_of string.now)) [] []
+            (state_of self.old) device.old (state_of self.new) device.new }
         ensures capacity { KeepsCapacity self.old self.new }
     {
         if self.lock_waits {
@@ -152,7 +155,9 @@ impl Parts {
         action: Action<Global>,
     ) -> Result<(), EndCause>
         requires { HasRoom self.old }
-        ensures done { OnOk result (Appends D.does (Does (state_of self.old).lock_waits (act action)) (works_in (act action)) (release_in now number (act action)) (state_of self.old) device.old (state_of self.new) device.new) }
+        ensures done { OnOk result (Appends D.does (Does (state_of self.old).lock_waits (act action))
+            (works_in (act action)) (release_in now number (act action)) (state_of self.old) device.old
+            (state_of self.new) device.new) }
         ensures uncalled { OnErr result (device.new ≡ device.old) }
         ensures cause { IfErr result (λ cause. IsQueueCause cause (works_in (act action)) (release_in now number (act action)) (state_of self.old)) }
         ensures capacity { KeepsCapacity self.old self.new }

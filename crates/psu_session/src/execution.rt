@@ -90,11 +90,14 @@ impl<'a, 'b, 'c, D: Device> Execution<'a, 'b, 'c, D> {
     ) -> Result<Option<Need>, EndCause>
         ensures advances { IfOk result (λ _. AdvancesOrder D.does self.old.core.now (record { origin = self.old.origin; source = transmission.old.source }) transmission.old.progress self.old.output.now.items self.old.device.now
             transmission.new.progress self.new.output.now.items self.new.device.now self.old.left self.new.left) }
-        ensures yields { IfOk result (λ some. IfSome some (λ need. need ≡ Turn → (self.new.left ≤ self.old.until) ⊎ (65536 ≤ length self.new.output.now.items))) }
+        ensures yields { IfOk result (λ some. IfSome some (λ need.
+            need ≡ Turn → (self.new.left ≤ self.old.until) ⊎ (65536 ≤ length self.new.output.now.items))) }
         ensures cause { IfErr result (λ cause. cause ≡ Memory) }
         ensures over { IfOk result (λ need. need ≡ None → IsOver transmission.old.source transmission.new.progress) }
         ensures waits { IfOk result (λ some. IfSome some (IsAwaited D.does self.new.device.now)) }
-        ensures stopped { OnErr result (CallsAdvancing D.does (record { origin = self.old.origin; source = transmission.old.source }) transmission.old.progress self.old.device.now self.new.device.now) }
+        ensures stopped { OnErr result (CallsAdvancing D.does
+            (record { origin = self.old.origin; source = transmission.old.source }) transmission.old.progress
+            self.old.device.now self.new.device.now) }
         ensures source { transmission.new.source ≡ transmission.old.source }
         ensures output { self.new.output.ghost_name ≡ self.old.output.ghost_name }
         ensures device { self.new.device.ghost_name ≡ self.old.device.ghost_name }
@@ -116,7 +119,9 @@ pub(crate) fn advance<D: Device>(
     left: &mut u32,
 ) -> Result<Option<Need>, EndCause>
     requires { IsCurrent core.now (one_running running.old).order.origin }
-    ensures advances { IfOk result (λ _. AdvancesOrder D.does core.now (one_running running.old).order (one_running running.old).progress output.old.items device.old (one_running running.new).progress output.new.items device.new left.old left.new) }
+    ensures advances { IfOk result (λ _. AdvancesOrder D.does core.now (one_running running.old).order
+        (one_running running.old).progress output.old.items device.old
+        (one_running running.new).progress output.new.items device.new left.old left.new) }
     ensures yields { IfOk result (λ some. IfSome some (λ need. need ≡ Turn → LetsIn left.old left.new output.new.items)) }
     ensures cause { IfErr result (λ cause. cause ≡ Memory) }
     ensures over { IfOk result (λ need. need ≡ None → IsOver (one_running running.old).order.source (one_running running.new).progress) }

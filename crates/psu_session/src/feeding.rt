@@ -44,8 +44,11 @@ impl Parts {
         messages: &mut VecDeque<Message<Global>>,
         device: &mut D,
     ) -> Result<(), EndCause>
-        ensures done { OnOk result (PerformsStep D.does (EachReceived now side (map received messages.old.items)) (state_of self.old) device.old (state_of self.new) device.new) }
-        ensures stopped { IfErr result (λ cause. StopsIn D.does (EachReceived now side (map received messages.old.items)) cause (state_of self.old) device.old device.new) }
+        ensures done { OnOk result (PerformsStep D.does (EachReceived now side (map received messages.old.items))
+            (state_of self.old) device.old (state_of self.new) device.new) }
+        ensures stopped { IfErr result (λ cause. StopsIn D.does
+            (EachReceived now side (map received messages.old.items)) cause
+            (state_of self.old) device.old device.new) }
         ensures capacity { KeepsCapacity self.old self.new }
     {
         while let Some(message) = messages.pop_front() {
@@ -63,7 +66,8 @@ impl Parts {
         received_bytes: &[u8],
         device: &mut D,
     ) -> Result<(), EndCause>
-        ensures done { OnOk result (PerformsStep D.does (IsReceived now side received_bytes.now) (state_of self.old) device.old (state_of self.new) device.new) }
+        ensures done { OnOk result (PerformsStep D.does (IsReceived now side received_bytes.now)
+            (state_of self.old) device.old (state_of self.new) device.new) }
         ensures stopped { IfErr result (λ cause. StopsReceiving D.does now side received_bytes.now cause (state_of self.old) device.old device.new) }
         ensures capacity { KeepsCapacity self.old self.new }
     {

@@ -97,8 +97,11 @@ impl Parts {
     fn execute<D: Device>(&mut self, device: &mut D, left: &mut u32) -> Result<Proceeded, EndCause>
         requires { 0 < left.old }
         ensures waits { IfOk result (λ proceeded. Awaits D.does proceeded device.new) }
-        ensures done { IfOk result (λ proceeded. (s : SessionState) (next : state.Running) → IsNext s next (state_of self.old) → PerformsStep D.does (Counts left.old proceeded left.new) s device.old (state_of self.new) device.new) }
-        ensures stopped { OnErr result ((s : SessionState) (next : state.Running) → IsNext s next (state_of self.old) → StopsNext D.does s device.old device.new) }
+        ensures done { IfOk result (λ proceeded. (s : SessionState) (next : state.Running)
+            → IsNext s next (state_of self.old) → PerformsStep D.does
+            (Counts left.old proceeded left.new) s device.old (state_of self.new) device.new) }
+        ensures stopped { OnErr result ((s : SessionState) (next : state.Running)
+            → IsNext s next (state_of self.old) → StopsNext D.does s device.old device.new) }
         ensures cause { IfErr result (λ cause. cause ≡ Memory) }
         ensures capacity { KeepsCapacity self.old self.new }
     {
@@ -144,7 +147,8 @@ impl Parts {
         requires room { HasReplyRoom self.old }
         requires left { 0 < left.old }
         ensures waits { IfOk result (λ proceeded. Awaits D.does proceeded device.new) }
-        ensures done { IfOk result (λ proceeded. PerformsStep D.does (Counts left.old proceeded left.new) (state_of self.old) device.old (state_of self.new) device.new) }
+        ensures done { IfOk result (λ proceeded. PerformsStep D.does (Counts left.old proceeded left.new)
+            (state_of self.old) device.old (state_of self.new) device.new) }
         ensures stopped { OnErr result (StopsNext D.does (state_of self.old) device.old device.new) }
         ensures cause { IfErr result (λ cause. cause ≡ Memory) }
         ensures capacity { KeepsCapacity self.old self.new }

@@ -27,7 +27,8 @@ impl Parts {
         ensures done { OnOk result (Appends D.does (Each (state_of self.old).lock_waits (acts actions.items)) (flat_map works_in (acts actions.items)) (flat_map (release_in now number) (acts actions.items)) (state_of self.old) device.old
             (state_of self.new) device.new) }
         ensures stopped { OnErr result (CallsPrefix D.does (Each (state_of self.old).lock_waits (acts actions.items)) device.old device.new) }
-        ensures cause { IfErr result (λ cause. IsQueueCause cause (flat_map works_in (acts actions.items)) (flat_map (release_in now number) (acts actions.items)) (state_of self.old)) }
+        ensures cause { IfErr result (λ cause. IsQueueCause cause (flat_map works_in (acts actions.items))
+            (flat_map (release_in now number) (acts actions.items)) (state_of self.old)) }
         ensures capacity { KeepsCapacity self.old self.new }
     {
         let mut rest = actions.into_iter();
@@ -57,8 +58,10 @@ impl Parts {
         message: Message<Global>,
         device: &mut D,
     ) -> Result<(), EndCause>
-        ensures done { OnOk result (PerformsStep D.does (IsMessageReceived now side (received message)) (state_of self.old) device.old (state_of self.new) device.new) }
-        ensures stopped { IfErr result (λ cause. StopsIn D.does (IsMessageReceived now side (received message)) cause (state_of self.old) device.old device.new) }
+        ensures done { OnOk result (PerformsStep D.does (IsMessageReceived now side (received message))
+            (state_of self.old) device.old (state_of self.new) device.new) }
+        ensures stopped { IfErr result (λ cause. StopsIn D.does
+            (IsMessageReceived now side (received message)) cause (state_of self.old) device.old device.new) }
         ensures capacity { KeepsCapacity self.old self.new }
     {
         let number = number_on(side, &message);

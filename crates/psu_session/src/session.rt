@@ -112,7 +112,8 @@ impl HislipSession {
         ensures done { OnOk result (PerformsStep D.does (IsReceived now side received_bytes.now) self.old.state device.old self.new.state device.new) }
         ensures continues { OnOk result (KeepsPhase self.old self.new) }
         ensures ended { IfErr result (λ cause. self.new.phase ≡ Over cause) }
-        ensures stopped { IfErr result (λ cause. phase_ended self.old.phase ≡ false → StopsReceiving D.does now side received_bytes.now cause self.old.state device.old device.new) }
+        ensures stopped { IfErr result (λ cause. phase_ended self.old.phase ≡ false
+            → StopsReceiving D.does now side received_bytes.now cause self.old.state device.old device.new) }
         ensures over { phase_ended self.old.phase ≡ true → (self.new ≡ self.old) × (device.new ≡ device.old) }
     {
         if let Phase::Over(cause) = self.phase {
@@ -125,7 +126,9 @@ impl HislipSession {
 
     /// Answers the lock request that waits, if there is one, with its result. Where the session is over, nothing is done.
     pub fn lock_granted<D: Device>(&mut self, grant: Grant, device: &mut D)
-        ensures done { phase_ended self.old.phase ≡ false → Appends D.does (IsLockGranted self.old.state.lock_waits grant) [] [] self.old.state device.old self.new.state device.new }
+        ensures done { phase_ended self.old.phase ≡ false
+            → Appends D.does (IsLockGranted self.old.state.lock_waits grant) [] [] self.old.state device.old
+            self.new.state device.new }
         ensures continues { phase_ended self.old.phase ≡ false → KeepsPhase self.old self.new }
         ensures over { phase_ended self.old.phase ≡ true → self.new ≡ self.old }
         ensures uncalled { device.new ≡ device.old }
@@ -157,9 +160,12 @@ impl HislipSession {
     pub fn proceed<D: Device>(&mut self, device: &mut D) -> Result<Proceeded, EndCause>
         ensures was { OnOk result (phase_ended self.old.phase ≡ false) }
         ensures waits { IfOk result (λ proceeded. Awaits D.does proceeded device.new) }
-        ensures done { IfOk result (λ proceeded. PerformsStep D.does (PassesTo self.old.phase proceeded self.new.phase) self.old.state device.old self.new.state device.new) }
+        ensures done { IfOk result (λ proceeded. PerformsStep D.does
+            (PassesTo self.old.phase proceeded self.new.phase) self.old.state device.old self.new.state
+            device.new) }
         ensures ended { IfErr result (λ cause. self.new.phase ≡ Over cause) }
-        ensures stopped { IfErr result (λ cause. phase_ended self.old.phase ≡ false → (cause ≡ Memory) × StopsNext D.does self.old.state device.old device.new) }
+        ensures stopped { IfErr result (λ cause. phase_ended self.old.phase ≡ false
+            → (cause ≡ Memory) × StopsNext D.does self.old.state device.old device.new) }
         ensures over { phase_ended self.old.phase ≡ true → (self.new ≡ self.old) × (device.new ≡ device.old) }
     {
         if let Phase::Over(cause) = self.phase {
@@ -247,7 +253,9 @@ impl HislipSession {
     pub fn take_output(&mut self, side: Side) -> Result<Option<Vec<u8>>, EndCause>
         ensures was { OnOk result (phase_ended self.old.phase ≡ false) }
         ensures some { IfOk result (λ taken. IfSome taken (λ bytes. IsTaken side bytes.items self.old.state (Took side bytes.items ∷ []) self.new.state)) }
-        ensures none { IfOk result (λ taken. IsNone taken → (self.new.state ≡ self.old.state) × ((writes side self.old.state ≡ true) ⊎ (output side self.old.state ≡ []))) }
+        ensures none { IfOk result (λ taken. IsNone taken
+            → (self.new.state ≡ self.old.state) × ((writes side self.old.state ≡ true)
+            ⊎ (output side self.old.state ≡ []))) }
         ensures continues { OnOk result (KeepsPhase self.old self.new) }
         ensures ended { IfErr result (λ cause. (self.old.phase ≡ Over cause) × (self.new ≡ self.old)) }
     {

@@ -60,7 +60,8 @@ impl Parts {
     /// Takes all bytes that are to be sent on a connection, if there are any and no thread writes there.
     pub fn take(&mut self, side: Side) -> Option<Vec<u8>>
         ensures some { IfSome result (λ bytes. IsTaken side bytes.items (state_of self.old) (Took side bytes.items ∷ []) (state_of self.new)) }
-        ensures none { IsNone result → (state_of self.new ≡ state_of self.old) × ((writes side (state_of self.old) ≡ true) ⊎ (output side (state_of self.old) ≡ [])) }
+        ensures none { IsNone result → (state_of self.new ≡ state_of self.old)
+            × ((writes side (state_of self.old) ≡ true) ⊎ (output side (state_of self.old) ≡ [])) }
         ensures capacity { output Async (state_of self.new) ≡ output Async (state_of self.old) → KeepsCapacity self.old self.new }
     {
         if self.is_writing(side) || !self.has_output(side) {

@@ -93,7 +93,8 @@ impl SharedSession {
 
     // Sends the session's service request after the response that has joined the asynchronous connection.
     fn request_at_join<D: Device>(&mut self, was_joined: bool, device: &mut D)
-        ensures { MayRequestService D.does (not was_joined && self.old.state.core.joined && not (phase_ended self.old.phase)) self.old device.old self.new device.new }
+        ensures { MayRequestService D.does (not was_joined && self.old.state.core.joined && not
+            (phase_ended self.old.phase)) self.old device.old self.new device.new }
     {
         if !was_joined && self.session.is_joined() {
             self.session.service_requested(device);
@@ -175,7 +176,9 @@ impl SharedSession {
         arrived: Arrived<S>,
         device: &mut D,
     ) -> Result<Pending<S>, Closing>
-        ensures notified { IfOk result (λ pending. (self.old.phase ≡ Open) × Notifies D.does now arrived.notice self.old device.old self.new device.new × (pending.again ≡ false)) }
+        ensures notified { IfOk result (λ pending. (self.old.phase ≡ Open)
+            × Notifies D.does now arrived.notice self.old device.old self.new device.new
+            × (pending.again ≡ false)) }
         ensures ended { OnErr result (EndsNotified now arrived.notice self.old self.new) }
         ensures uncalled { OnErr result (device.new ≡ device.old) }
     {
@@ -207,7 +210,8 @@ impl SharedSession {
     fn proceed<D: Device>(&mut self, again: bool, device: &mut D) -> Option<Proceeded>
         requires { self.old.phase ≡ Open }
         ensures continues { IfSome result (λ proceeded. MayContinue D.does again proceeded self.old.waits self.old device.old self.new device.new) }
-        ensures stopped { IsNone result → StopsNext D.does self.old.state device.old device.new × (self.new ≡ with_value self.old (Over Memory) self.new.state) }
+        ensures stopped { IsNone result → StopsNext D.does self.old.state device.old device.new
+            × (self.new ≡ with_value self.old (Over Memory) self.new.state) }
     {
         if self.waits.is_some() && !again {
             return Some(Proceeded::Idle);

@@ -50,7 +50,9 @@ impl<A: Allocator + Copy> ForgettingMedium<A> {
     #[tactic(auto, unfolding(psu_disk::specs::Disk::IsCrashImage))]
     pub fn lose(&mut self, choice: Choice)
         ensures left { IsCrashImage (memory self.old.bytes.items self.old.at_risk.items) self.new.bytes.items }
-        ensures choice { (k : ℕ) → slice_index_or self.old.at_risk.items k false ≡ true → slice_index self.new.bytes.items k ≡ lost choice (slice_index self.old.safe.items k) (slice_index self.old.bytes.items k) }
+        ensures choice { (k : ℕ) → slice_index_or self.old.at_risk.items k false ≡ true
+            → slice_index self.new.bytes.items k
+            ≡ lost choice (slice_index self.old.safe.items k) (slice_index self.old.bytes.items k) }
         ensures safe { IsSynced (memory self.new.bytes.items self.new.at_risk.items) }
         ensures known { (k : ℕ) → slice_index_or self.new.forgotten.items k false ≡ false }
         ensures made_safe { self.new.safe.items ≡ self.new.bytes.items }
@@ -77,8 +79,10 @@ impl<A: Allocator + Copy> ForgettingMedium<A> {
     // Completes a sync: all bytes that are not forgotten become safe.
     fn settle(&mut self)
         ensures bytes { self.new.bytes.items ≡ self.old.bytes.items }
-        ensures safe { (k : ℕ) → slice_index_or self.old.forgotten.items k false ≡ false → slice_index self.new.safe.items k ≡ slice_index self.old.bytes.items k }
-        ensures others { (k : ℕ) → slice_index_or self.old.forgotten.items k false ≡ true → slice_index self.new.safe.items k ≡ slice_index self.old.safe.items k }
+        ensures safe { (k : ℕ) → slice_index_or self.old.forgotten.items k false ≡ false
+            → slice_index self.new.safe.items k ≡ slice_index self.old.bytes.items k }
+        ensures others { (k : ℕ) → slice_index_or self.old.forgotten.items k false ≡ true
+            → slice_index self.new.safe.items k ≡ slice_index self.old.safe.items k }
         ensures at_risk { self.new.at_risk.items ≡ self.old.forgotten.items }
         ensures forgotten { self.new.forgotten.items ≡ self.old.forgotten.items }
         ensures due { (self.new.first ≡ self.old.first) × (self.new.second ≡ self.old.second) }
@@ -116,7 +120,8 @@ fn lose_bytes(bytes: &mut [u8], safe: &[u8], at_risk: &[bool], choice: Choice)
     requires safe { length safe.now ≡ length bytes.old }
     requires at_risk { length at_risk.now ≡ length bytes.old }
     ensures same { (k : ℕ) → slice_index_or at_risk.now k false ≡ false → slice_index bytes.new k ≡ slice_index bytes.old k }
-    ensures choice { (k : ℕ) → slice_index_or at_risk.now k false ≡ true → slice_index bytes.new k ≡ lost choice (slice_index safe.now k) (slice_index bytes.old k) }
+    ensures choice { (k : ℕ) → slice_index_or at_risk.now k false ≡ true
+        → slice_index bytes.new k ≡ lost choice (slice_index safe.now k) (slice_index bytes.old k) }
 {
     for i in 0..bytes.len() {
         if at_risk[i] {

@@ -146,7 +146,8 @@ impl<'a, D: Disk + Drop, G: Gate + Drop> Flusher<'a, D, G> {
     // Makes a round, unless at this time the store broke less than a second ago, within a second of its reopening.
     fn round_at<R: Wait + Clock>(&mut self, rt: &R, now: u64) -> Round
         ensures put_off { 0 < left_of_second self.old.reopenings.broken now → self.new.caller ≡ self.old.caller }
-        ensures calls { left_of_second self.old.reopenings.broken now ≡ 0 → (taken : Taken) × MakesRound D.Disk taken self.old.caller.seat self.new.caller.seat }
+        ensures calls { left_of_second self.old.reopenings.broken now ≡ 0
+            → (taken : Taken) × MakesRound D.Disk taken self.old.caller.seat self.new.caller.seat }
     {
         let left = self.reopenings.time_left(now);
         if left > 0 {

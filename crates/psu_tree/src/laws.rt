@@ -15,7 +15,8 @@ use psu_lex::{
 
 /// A unit has at most one parse result at a path.
 pub fn one_reading_of_a_unit()
-    ensures { (path : List (List ℕ)) (unit : Part) (reading other : Result Command ScpiError) → Reads path unit reading → Reads path unit other → reading ≡ other }
+    ensures { (path : List (List ℕ)) (unit : Part) (reading other : Result Command ScpiError)
+        → Reads path unit reading → Reads path unit other → reading ≡ other }
 {
     one_syntax_of_a_unit();
     one_header_of_a_text();

@@ -129,7 +129,8 @@ fn is_named_first(begins: bool, root: &Node, words: &[&[u8]]) -> bool
 fn row_in<'a>(letter: u8, begins: bool, section: &'a Section, words: &[&[u8]]) -> Option<&'a Row>
     requires letter { letter ≡ first_letter (map (λ word. word.now) words.now) }
     requires named { begins ≡ false → named_of section.now.root (map (λ word. word.now) words.now) ≡ false }
-    ensures { option_copied result ≡ row_after (named_of section.now.root (map (λ word. word.now) words.now)) (in_brackets section.now.root.kind) section.now.rows.now (map (λ word. word.now) words.now) }
+    ensures { option_copied result ≡ row_after (named_of section.now.root (map (λ word. word.now) words.now))
+        (in_brackets section.now.root.kind) section.now.rows.now (map (λ word. word.now) words.now) }
 {
     let missing = may_miss(section.root.kind);
     if !is_named_first(begins, &section.root, words) {

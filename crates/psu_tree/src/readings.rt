@@ -63,7 +63,8 @@ fn read_parts<'a>(
 ) -> Result<Command<'a>, ScpiError>
     requires { words.old.items ≡ [] }
     ensures reads { (given : Parts) → ShowsSyntax parts.now given → SyntaxReads path.now (Ok given) result }
-    ensures words { (h : HeaderParts) → IsHeader h → ShowsHeader parts.now.header h → OnOk result (map (λ word. word.now) words.new.items ≡ words_of path.now h) }
+    ensures words { (h : HeaderParts) → IsHeader h → ShowsHeader parts.now.header h
+        → OnOk result (map (λ word. word.now) words.new.items ≡ words_of path.now h) }
 {
     if !add_words(words, path, &parts.header) {
         return Err(ScpiError::UndefinedHeader);

@@ -95,7 +95,8 @@ impl<A: Allocator + Copy> Device<A> {
 
     // The service state of a session, with MAV set to whether a response was sent to it that it has not read.
     fn changed(&self, service_state: ServiceState, available: bool) -> ServiceState
-        ensures { result ≡ rqs_updated (enabled self.now.volatile.instrument.status service_state.available) (enabled self.now.volatile.instrument.status available) (with_available service_state available) }
+        ensures { result ≡ rqs_updated (enabled self.now.volatile.instrument.status service_state.available)
+            (enabled self.now.volatile.instrument.status available) (with_available service_state available) }
     {
         let old = self.instrument.enabled(service_state.available);
         let new = self.instrument.enabled(available);
