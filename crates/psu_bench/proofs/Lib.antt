@@ -1,4 +1,3 @@
-pub mod Ending
 mod Quiet
 pub mod Rounds
 pub mod Seats

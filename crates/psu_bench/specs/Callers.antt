@@ -64,9 +64,13 @@ IsNotified honest entry old (Some caused) new = SeatCalls (AdmitsOn honest) old 
 abbrev pub Causes : Type 0 → Sight State Entry → Entry → Option Caused → Sight State Entry → Type 0
 Causes honest old entry caused new = (mid : Sight State Entry) × SeatCalls (AdmitsOn honest) old entry mid × IsNotified honest entry mid caused new
 
+-- the seat made this call, and then took these notifications
+abbrev pub CallsAndNotifies : Type 0 → Sight State Entry → Entry → List ℕ → Bool → Sight State Entry → Type 0
+CallsAndNotifies honest old entry asking work new = (mid : Sight State Entry) × SeatCalls (AdmitsOn honest) old entry mid × SeatCalls (AdmitsOn honest) mid (Notified asking work) new
+
 -- the seat made this call, which has caused what the notifications say that were then taken
 abbrev pub Notifies : Type 0 → Sight State Entry → Entry → Caused → Sight State Entry → Type 0
-Notifies honest old entry caused new = (mid : Sight State Entry) × SeatCalls (AdmitsOn honest) old entry mid × SeatCalls (AdmitsOn honest) mid (Notified caused.requesting caused.wakes_flusher) new
+Notifies honest old entry caused new = CallsAndNotifies honest old entry caused.requesting caused.wakes_flusher new
 
 -- the seat gave back the result of a job, which has caused what the notifications say that were then taken
 abbrev pub HasEnded : Type 0 → JobEnd → Sight State Entry → CausedByJob → Sight State Entry → Type 0

@@ -5,8 +5,12 @@ ghost use Rattle.psu_exec.specs.Calls.Entry.{Executed, Settled, Took, GaveBack, 
 ghost use Rattle.psu_exec.specs.Shown.{outcome_of, over_of};
 ghost use Rattle.psu_bench.specs.Calls.{AdmitsOn, session_of};
 
-use crate::Call;
-use crate::guarded::Guarded;
+use crate::boxed_device::BoxedDevice;
+use crate::operations::{
+    Clear, CloseSession, Deliver, Execute, Fetch, GiveBack, Inform, Lock, NextDeadline, Notify,
+    OpenSession, Query, Release, Send, Settle, Take, Tick,
+};
+use crate::{Call, Operation};
 use psu_disk::Disk;
 use psu_exec::{
     Crowded, Device, Exec, Finished, Freed, Grant, Info, Job, Kind, LockRefusal, NoJob,
@@ -24,7 +28,7 @@ pub type Seat<A> = psu_turn::Seat<Device<A>, Call>;
 /// The device's state, shared by threads that call it in turns. Contracts see which bench it is.
 #[derive(Drop)]
 pub struct Bench<D: Disk, A: Allocator + Copy> {
-    turn: Turn<Guarded<D, A>, A>,
+    turn: Turn<BoxedDevice<D, A>, A>,
 }
 
 impl<D: Disk, A: Allocator + Copy> Model for Bench<D, A> {
@@ -51,16 +55,34 @@ impl<D: Disk, A: Allocator + Copy> Bench<D, A> {
                 object: refused.value,
             }),
         };
-        match Turn::new(alloc, Guarded { exec }) {
+        match Turn::new(alloc, BoxedDevice { exec }) {
             Ok((turn, seat)) => Ok((Bench { turn }, seat)),
             Err(
                 NoMemory {
-                    object: Guarded { exec },
+                    object: BoxedDevice { exec },
                 },
             ) => Err(NoMemory {
                 object: Box::into_inner(exec),
             }),
         }
+    }
+
+    /// Performs an operation, in a turn.
+    pub fn call<R: Wait, O: Operation<D, A>>(
+        &self,
+        rt: &R,
+        seat: &mut Seat<A>,
+        operation: O,
+    ) -> O::Reply
+        requires own { IsOf self.now seat.old }
+        ensures call { SeatCalls (AdmitsOn D.honest) seat.old (O.entry operation result) seat.new }
+        ensures own { IsOf self.now seat.new }
+    {
+        let call = Snapshot::of(&operation);
+        let mut taken = self.turn.enter(rt, seat);
+        let reply = operation.perform(&mut taken.object.exec);
+        self.turn.leave::<Brand, _, _>(seat, taken, &call, &reply);
+        reply
     }
 
     /// Executes one unit of a session, in a turn; Later if the session isn't open.
@@ -75,11 +97,7 @@ impl<D: Disk, A: Allocator + Copy> Bench<D, A> {
         ensures call { SeatCalls (AdmitsOn D.honest) seat.old (Executed session request.now (outcome_of result)) seat.new }
         ensures own { IsOf self.now seat.new }
     {
-        let mut taken = self.turn.enter(rt, seat);
-        let reply = taken.object.execute(session, request);
-        self.turn
-            .leave::<Brand, _, _>(seat, taken, &(session, request), &reply);
-        reply
+        self.call(rt, seat, Execute { session, request })
     }
 
     /// Returns the result of a session's wait, in a turn; Later if the session isn't open.
@@ -88,11 +106,7 @@ impl<D: Disk, A: Allocator + Copy> Bench<D, A> {
         ensures call { SeatCalls (AdmitsOn D.honest) seat.old (Settled session (outcome_of result)) seat.new }
         ensures own { IsOf self.now seat.new }
     {
-        let mut taken = self.turn.enter(rt, seat);
-        let reply = taken.object.settle(session);
-        self.turn
-            .leave::<Brand, _, _>(seat, taken, &session, &reply);
-        reply
+        self.call(rt, seat, Settle(session))
     }
 
     /// Takes a job, in a turn.
@@ -101,10 +115,7 @@ impl<D: Disk, A: Allocator + Copy> Bench<D, A> {
         ensures call { SeatCalls (AdmitsOn D.honest) seat.old (Took (taken_of result)) seat.new }
         ensures own { IsOf self.now seat.new }
     {
-        let mut taken = self.turn.enter(rt, seat);
-        let reply = taken.object.take();
-        self.turn.leave::<Brand, _, _>(seat, taken, &(), &reply);
-        reply
+        self.call(rt, seat, Take)
     }
 
     /// Gives back a finished job, in a turn.
@@ -118,11 +129,7 @@ impl<D: Disk, A: Allocator + Copy> Bench<D, A> {
         ensures call { SeatCalls (AdmitsOn D.honest) seat.old (GaveBack (finished_of finished.end) (over_of result)) seat.new }
         ensures own { IsOf self.now seat.new }
     {
-        let call = Snapshot::of(&finished);
-        let mut taken = self.turn.enter(rt, seat);
-        let reply = taken.object.give_back(finished);
-        self.turn.leave::<Brand, _, _>(seat, taken, &call, &reply);
-        reply
+        self.call(rt, seat, GiveBack(finished))
     }
 
     /// Opens a session under the least free number, in a turn.
@@ -131,10 +138,7 @@ impl<D: Disk, A: Allocator + Copy> Bench<D, A> {
         ensures call { SeatCalls (AdmitsOn D.honest) seat.old (Opened (session_of result)) seat.new }
         ensures own { IsOf self.now seat.new }
     {
-        let mut taken = self.turn.enter(rt, seat);
-        let reply = taken.object.open_session();
-        self.turn.leave::<Brand, _, _>(seat, taken, &(), &reply);
-        reply
+        self.call(rt, seat, OpenSession)
     }
 
     /// Closes a session if it is open, in a turn. Returns the sessions whose lock requests were then granted.
@@ -143,11 +147,7 @@ impl<D: Disk, A: Allocator + Copy> Bench<D, A> {
         ensures call { SeatCalls (AdmitsOn D.honest) seat.old (Closed session result) seat.new }
         ensures own { IsOf self.now seat.new }
     {
-        let mut taken = self.turn.enter(rt, seat);
-        let reply = taken.object.close_session(session);
-        self.turn
-            .leave::<Brand, _, _>(seat, taken, &session, &reply);
-        reply
+        self.call(rt, seat, CloseSession(session))
     }
 
     /// Drops the wait of a session if it is open, in a turn.
@@ -156,9 +156,7 @@ impl<D: Disk, A: Allocator + Copy> Bench<D, A> {
         ensures call { SeatCalls (AdmitsOn D.honest) seat.old (Cleared session) seat.new }
         ensures own { IsOf self.now seat.new }
     {
-        let mut taken = self.turn.enter(rt, seat);
-        taken.object.clear(session);
-        self.turn.leave::<Brand, _, _>(seat, taken, &session, &());
+        self.call(rt, seat, Clear(session));
     }
 
     /// If a session is open, records that a response was sent to it, in a turn.
@@ -167,9 +165,7 @@ impl<D: Disk, A: Allocator + Copy> Bench<D, A> {
         ensures call { SeatCalls (AdmitsOn D.honest) seat.old (Sent session) seat.new }
         ensures own { IsOf self.now seat.new }
     {
-        let mut taken = self.turn.enter(rt, seat);
-        taken.object.sent(session);
-        self.turn.leave::<Brand, _, _>(seat, taken, &session, &());
+        self.call(rt, seat, Send(session));
     }
 
     /// If a session is open, records that what was sent to it is delivered, in a turn.
@@ -178,9 +174,7 @@ impl<D: Disk, A: Allocator + Copy> Bench<D, A> {
         ensures call { SeatCalls (AdmitsOn D.honest) seat.old (Delivered session) seat.new }
         ensures own { IsOf self.now seat.new }
     {
-        let mut taken = self.turn.enter(rt, seat);
-        taken.object.delivered(session);
-        self.turn.leave::<Brand, _, _>(seat, taken, &session, &());
+        self.call(rt, seat, Deliver(session));
     }
 
     /// Returns the response to a status query of a session, in a turn; 0 if the session isn't open.
@@ -189,11 +183,7 @@ impl<D: Disk, A: Allocator + Copy> Bench<D, A> {
         ensures call { SeatCalls (AdmitsOn D.honest) seat.old (Queried session result) seat.new }
         ensures own { IsOf self.now seat.new }
     {
-        let mut taken = self.turn.enter(rt, seat);
-        let reply = taken.object.status(session);
-        self.turn
-            .leave::<Brand, _, _>(seat, taken, &session, &reply);
-        reply
+        self.call(rt, seat, Query(session))
     }
 
     /// Fetches the service request of a session, in a turn; none if the session isn't open.
@@ -202,11 +192,7 @@ impl<D: Disk, A: Allocator + Copy> Bench<D, A> {
         ensures call { SeatCalls (AdmitsOn D.honest) seat.old (Fetched session result) seat.new }
         ensures own { IsOf self.now seat.new }
     {
-        let mut taken = self.turn.enter(rt, seat);
-        let reply = taken.object.requests(session);
-        self.turn
-            .leave::<Brand, _, _>(seat, taken, &session, &reply);
-        reply
+        self.call(rt, seat, Fetch(session))
     }
 
     /// Returns the sessions that have requested service since the last call, and whether a take would return a job,
@@ -216,10 +202,7 @@ impl<D: Disk, A: Allocator + Copy> Bench<D, A> {
         ensures call { SeatCalls (AdmitsOn D.honest) seat.old (Notified result.requesting result.has_work) seat.new }
         ensures own { IsOf self.now seat.new }
     {
-        let mut taken = self.turn.enter(rt, seat);
-        let reply = taken.object.take_notifications();
-        self.turn.leave::<Brand, _, _>(seat, taken, &(), &reply);
-        reply
+        self.call(rt, seat, Notify)
     }
 
     /// Requests a lock for a session, in a turn. `now` and `timeout` are in milliseconds. `Failed` if the session
@@ -237,11 +220,13 @@ impl<D: Disk, A: Allocator + Copy> Bench<D, A> {
         ensures call { SeatCalls (AdmitsOn D.honest) seat.old (Locked session kind now timeout result) seat.new }
         ensures own { IsOf self.now seat.new }
     {
-        let call = (session, Snapshot::of(&kind), now, timeout);
-        let mut taken = self.turn.enter(rt, seat);
-        let reply = taken.object.lock(session, kind, now, timeout);
-        self.turn.leave::<Brand, _, _>(seat, taken, &call, &reply);
-        reply
+        let operation = Lock {
+            session,
+            kind,
+            now,
+            timeout,
+        };
+        self.call(rt, seat, operation)
     }
 
     /// Releases a lock of a session, in a turn. A session that isn't open holds none.
@@ -255,11 +240,7 @@ impl<D: Disk, A: Allocator + Copy> Bench<D, A> {
         ensures call { SeatCalls (AdmitsOn D.honest) seat.old (Released session result) seat.new }
         ensures own { IsOf self.now seat.new }
     {
-        let mut taken = self.turn.enter(rt, seat);
-        let reply = taken.object.release(session);
-        self.turn
-            .leave::<Brand, _, _>(seat, taken, &session, &reply);
-        reply
+        self.call(rt, seat, Release(session))
     }
 
     /// Fails the lock requests whose timeout has expired, in a turn.
@@ -268,10 +249,7 @@ impl<D: Disk, A: Allocator + Copy> Bench<D, A> {
         ensures call { SeatCalls (AdmitsOn D.honest) seat.old (Ticked now result) seat.new }
         ensures own { IsOf self.now seat.new }
     {
-        let mut taken = self.turn.enter(rt, seat);
-        let reply = taken.object.tick(now);
-        self.turn.leave::<Brand, _, _>(seat, taken, &now, &reply);
-        reply
+        self.call(rt, seat, Tick(now))
     }
 
     /// Returns whether the exclusive lock is held, and how many sessions hold a lock, in a turn.
@@ -280,10 +258,7 @@ impl<D: Disk, A: Allocator + Copy> Bench<D, A> {
         ensures call { SeatCalls (AdmitsOn D.honest) seat.old (Informed result) seat.new }
         ensures own { IsOf self.now seat.new }
     {
-        let taken = self.turn.enter(rt, seat);
-        let reply = taken.object.info();
-        self.turn.leave::<Brand, _, _>(seat, taken, &(), &reply);
-        reply
+        self.call(rt, seat, Inform)
     }
 
     /// Returns the earliest time at which a waiting lock request fails, in a turn.
@@ -292,10 +267,7 @@ impl<D: Disk, A: Allocator + Copy> Bench<D, A> {
         ensures call { SeatCalls (AdmitsOn D.honest) seat.old (Due result) seat.new }
         ensures own { IsOf self.now seat.new }
     {
-        let taken = self.turn.enter(rt, seat);
-        let reply = taken.object.next_deadline();
-        self.turn.leave::<Brand, _, _>(seat, taken, &(), &reply);
-        reply
+        self.call(rt, seat, NextDeadline)
     }
 
     /// Returns the number of calls so far. It waits for no other thread. It is for a program that watches others call.
@@ -335,7 +307,7 @@ impl<D: Disk, A: Allocator + Copy> Bench<D, A> {
         ensures close { Closes (AdmitsOn D.honest) seat result.device }
     {
         let Bench { turn } = self;
-        let Guarded { exec } = turn.close(rt, seat);
+        let BoxedDevice { exec } = turn.close(rt, seat);
         Box::into_inner(exec)
     }
 }

@@ -7,13 +7,14 @@ ghost use Rattle.psu_exec.specs.Shown.{outcome_of, over_of};
 ghost use Rattle.psu_tree.specs.declared.command.Request.{Request as UnitRequest};
 ghost use Rattle.psu_locks.specs.declared.results.Grant.TheVariants as grants;
 ghost use Rattle.psu_bench.specs.Calls.{AdmitsOn, session_of};
-ghost use Rattle.psu_bench.specs.Callers.{Causes, GivesBack, HasEnded, IsNotified, MakesCall, Notifies, over_sessions, released_of};
+ghost use Rattle.psu_bench.specs.Callers.{CallsAndNotifies, Causes, GivesBack, HasEnded, IsNotified, MakesCall, Notifies, over_sessions, released_of};
 
-use crate::{Bench, Caused, CausedByJob, Gate, Granted, Point, Seat, SharedGate, Visit};
+use crate::operations::{CloseSession, GiveBack, Lock, Notify, Release, Send, Settle, Tick};
+use crate::{Bench, Caused, CausedByJob, Gate, Granted, Operation, Point, Seat, SharedGate, Visit};
 use psu_disk::Disk;
 use psu_exec::{
-    Crowded, Exec, Finished, Freed, Grant, Info, Job, Kind, LockRefusal, NoJob, Outcome, Request,
-    Session, Sessions, Stranger, each_answer_is_quiet,
+    Exec, Finished, Freed, Grant, Kind, LockRefusal, Notifications, Outcome, Request, Session,
+    Sessions, Stranger, each_answer_is_quiet,
 };
 use std::alloc::{AllocError, Global};
 use std::sync::{Arc, Wait};
@@ -92,6 +93,37 @@ impl<D: Disk + Drop, G: Gate + Drop> Caller<D, G> {
         Ok(Caller { bench, seat, gate })
     }
 
+    /// Performs an operation.
+    #[tactic(auto, using(crate::proofs::Seats::is_of))]
+    pub fn call<R: Wait, O: Operation<D, Global>>(
+        &mut self,
+        rt: &R,
+        visit: &mut Visit<'_>,
+        operation: O,
+    ) -> O::Reply
+        ensures call { SeatCalls (AdmitsOn D.honest) self.old.seat (O.entry operation result) self.new.seat }
+    {
+        let _guard = visit.enter(rt);
+        self.bench.call(rt, &mut self.seat, operation)
+    }
+
+    // Performs an operation, and takes the notifications after it.
+    #[tactic(auto, using(crate::proofs::Seats::is_of))]
+    fn call_and_notify<R: Wait, O: Operation<D, Global>>(
+        &mut self,
+        rt: &R,
+        visit: &mut Visit<'_>,
+        operation: O,
+    ) -> (O::Reply, Notifications)
+        ensures calls { CallsAndNotifies D.honest self.old.seat (O.entry operation result.0)
+            result.1.requesting result.1.has_work self.new.seat }
+    {
+        let _guard = visit.enter(rt);
+        let reply = self.bench.call(rt, &mut self.seat, operation);
+        let notifications = self.bench.call(rt, &mut self.seat, Notify);
+        (reply, notifications)
+    }
+
     /// Executes one unit of a session, in one try. Returns its result, and what it may have caused; none for a query that
     /// is answered. Then the visit keeps the lock, as its response is mostly sent at once; else the gate is called.
     #[tactic(auto, using(crate::proofs::Seats::is_of))]
@@ -128,19 +160,8 @@ impl<D: Disk + Drop, G: Gate + Drop> Caller<D, G> {
         ensures call { MakesCall D.honest self.old.seat (Settled session (outcome_of result.0)) self.new.seat }
         ensures caused { Notifies D.honest self.old.seat (Settled session (outcome_of result.0)) result.1 self.new.seat }
     {
-        let _guard = visit.enter(rt);
-        let outcome = self.bench.settle(rt, &mut self.seat, session);
-        let notifications = self.bench.take_notifications(rt, &mut self.seat);
+        let (outcome, notifications) = self.call_and_notify(rt, visit, Settle(session));
         (outcome, Caused::of(notifications))
-    }
-
-    /// Takes a job.
-    #[tactic(auto, using(crate::proofs::Seats::is_of))]
-    pub fn take<R: Wait>(&mut self, rt: &R, visit: &mut Visit<'_>) -> Result<Job<D, Global>, NoJob>
-        ensures call { SeatCalls (AdmitsOn D.honest) self.old.seat (Took (taken_of result)) self.new.seat }
-    {
-        let _guard = visit.enter(rt);
-        self.bench.take(rt, &mut self.seat)
     }
 
     /// Gives back a finished job, and returns what that has caused. The end of another device's job is discarded.
@@ -154,23 +175,8 @@ impl<D: Disk + Drop, G: Gate + Drop> Caller<D, G> {
         ensures call { GivesBack D.honest (finished_of finished.end) self.old.seat self.new.seat }
         ensures caused { HasEnded D.honest (finished_of finished.end) self.old.seat result self.new.seat }
     {
-        let _guard = visit.enter(rt);
-        let given = self.bench.give_back(rt, &mut self.seat, finished);
-        let notifications = self.bench.take_notifications(rt, &mut self.seat);
+        let (given, notifications) = self.call_and_notify(rt, visit, GiveBack(finished));
         CausedByJob::new(sessions_over(given), notifications.requesting)
-    }
-
-    /// Opens the session of the least free number.
-    #[tactic(auto, using(crate::proofs::Seats::is_of))]
-    pub fn open_session<R: Wait>(
-        &mut self,
-        rt: &R,
-        visit: &mut Visit<'_>,
-    ) -> Result<Session, Crowded>
-        ensures call { SeatCalls (AdmitsOn D.honest) self.old.seat (Opened (session_of result)) self.new.seat }
-    {
-        let _guard = visit.enter(rt);
-        self.bench.open_session(rt, &mut self.seat)
     }
 
     /// Closes a session. Returns the sessions whose lock requests were then granted.
@@ -184,18 +190,8 @@ impl<D: Disk + Drop, G: Gate + Drop> Caller<D, G> {
         ensures call { SeatCalls (AdmitsOn D.honest) self.old.seat (Closed session result.sessions) self.new.seat }
         ensures grant { result.grant ≡ grants.Granted }
     {
-        let _guard = visit.enter(rt);
-        let granted = self.bench.close_session(rt, &mut self.seat, session);
+        let granted = self.call(rt, visit, CloseSession(session));
         Granted::new(granted, Grant::Granted)
-    }
-
-    /// Drops the wait of a session.
-    #[tactic(auto, using(crate::proofs::Seats::is_of))]
-    pub fn clear<R: Wait>(&mut self, rt: &R, visit: &mut Visit<'_>, session: Session)
-        ensures call { SeatCalls (AdmitsOn D.honest) self.old.seat (Cleared session) self.new.seat }
-    {
-        let _guard = visit.enter(rt);
-        self.bench.clear(rt, &mut self.seat, session);
     }
 
     /// Records that a response is sent to a session, and calls the gate. Returns what that has caused.
@@ -204,44 +200,9 @@ impl<D: Disk + Drop, G: Gate + Drop> Caller<D, G> {
         ensures call { MakesCall D.honest self.old.seat (Sent session) self.new.seat }
         ensures caused { Notifies D.honest self.old.seat (Sent session) result self.new.seat }
     {
-        let guard = visit.enter(rt);
-        self.bench.sent(rt, &mut self.seat, session);
-        let notifications = self.bench.take_notifications(rt, &mut self.seat);
-        drop(guard);
+        let (_, notifications) = self.call_and_notify(rt, visit, Send(session));
         self.gate.at(Point::AfterAnswer);
         Caused::of(notifications)
-    }
-
-    /// Records that what was sent to a session is delivered.
-    #[tactic(auto, using(crate::proofs::Seats::is_of))]
-    pub fn delivered<R: Wait>(&mut self, rt: &R, visit: &mut Visit<'_>, session: Session)
-        ensures call { SeatCalls (AdmitsOn D.honest) self.old.seat (Delivered session) self.new.seat }
-    {
-        let _guard = visit.enter(rt);
-        self.bench.delivered(rt, &mut self.seat, session);
-    }
-
-    /// Returns the response to a status query of a session.
-    #[tactic(auto, using(crate::proofs::Seats::is_of))]
-    pub fn status<R: Wait>(&mut self, rt: &R, visit: &mut Visit<'_>, session: Session) -> u8
-        ensures call { SeatCalls (AdmitsOn D.honest) self.old.seat (Queried session result) self.new.seat }
-    {
-        let _guard = visit.enter(rt);
-        self.bench.status(rt, &mut self.seat, session)
-    }
-
-    /// Fetches the service request of a session, if there is one.
-    #[tactic(auto, using(crate::proofs::Seats::is_of))]
-    pub fn requests<R: Wait>(
-        &mut self,
-        rt: &R,
-        visit: &mut Visit<'_>,
-        session: Session,
-    ) -> Option<u8>
-        ensures call { SeatCalls (AdmitsOn D.honest) self.old.seat (Fetched session result) self.new.seat }
-    {
-        let _guard = visit.enter(rt);
-        self.bench.requests(rt, &mut self.seat, session)
     }
 
     /// Requests a lock for a session. `now` and `timeout` are in milliseconds. Returns the result, and what it has
@@ -260,10 +221,13 @@ impl<D: Disk + Drop, G: Gate + Drop> Caller<D, G> {
         ensures requesting { result.1.requesting ≡ [] }
         ensures flusher { IsTrue result.1.wakes_flusher ↔ (result.0 ≡ Ok grants.Queued) }
     {
-        let _guard = visit.enter(rt);
-        let reply = self
-            .bench
-            .lock(rt, &mut self.seat, session, kind, now, timeout);
+        let operation = Lock {
+            session,
+            kind,
+            now,
+            timeout,
+        };
+        let reply = self.call(rt, visit, operation);
         let caused = Caused::by_request(&reply);
         (reply, caused)
     }
@@ -279,8 +243,7 @@ impl<D: Disk + Drop, G: Gate + Drop> Caller<D, G> {
         ensures call { SeatCalls (AdmitsOn D.honest) self.old.seat (Released session (released_of result)) self.new.seat }
         ensures grant { IfOk result (λ released. released.1.grant ≡ grants.Granted) }
     {
-        let _guard = visit.enter(rt);
-        match self.bench.release(rt, &mut self.seat, session) {
+        match self.call(rt, visit, Release(session)) {
             Ok((freed, granted)) => Ok((freed, Granted::new(granted, Grant::Granted))),
             Err(refusal) => Err(refusal),
         }
@@ -292,27 +255,8 @@ impl<D: Disk + Drop, G: Gate + Drop> Caller<D, G> {
         ensures call { SeatCalls (AdmitsOn D.honest) self.old.seat (Ticked now result.sessions) self.new.seat }
         ensures grant { result.grant ≡ grants.Failed }
     {
-        let _guard = visit.enter(rt);
-        let failed = self.bench.tick(rt, &mut self.seat, now);
+        let failed = self.call(rt, visit, Tick(now));
         Granted::new(failed, Grant::Failed)
-    }
-
-    /// Returns whether the exclusive lock is held, and how many sessions hold a lock.
-    #[tactic(auto, using(crate::proofs::Seats::is_of))]
-    pub fn info<R: Wait>(&mut self, rt: &R, visit: &mut Visit<'_>) -> Info
-        ensures call { SeatCalls (AdmitsOn D.honest) self.old.seat (Informed result) self.new.seat }
-    {
-        let _guard = visit.enter(rt);
-        self.bench.info(rt, &mut self.seat)
-    }
-
-    /// Returns the earliest time at which a waiting lock request fails.
-    #[tactic(auto, using(crate::proofs::Seats::is_of))]
-    pub fn next_deadline<R: Wait>(&mut self, rt: &R, visit: &mut Visit<'_>) -> Option<u128>
-        ensures call { SeatCalls (AdmitsOn D.honest) self.old.seat (Due result) self.new.seat }
-    {
-        let _guard = visit.enter(rt);
-        self.bench.next_deadline(rt, &mut self.seat)
     }
 
     /// Calls the gate before a job is run.

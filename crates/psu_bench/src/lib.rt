@@ -4,6 +4,7 @@
 #![tactic(auto)]
 
 mod bench;
+mod boxed_device;
 mod call;
 mod caller;
 mod caused;
@@ -14,11 +15,11 @@ mod flushing;
 mod gate;
 mod gated;
 mod granted;
-mod guarded;
 mod laws;
+mod operation;
+pub mod operations;
 mod others;
 mod point;
-mod power_on_fault;
 mod reopenings;
 mod reported_condition;
 mod second;
@@ -39,9 +40,9 @@ pub use gate::{Gate, Open};
 pub use gated::Gated;
 pub use granted::Granted;
 pub use laws::{histories_are_lives, seen_histories_happen, threads_are_events};
+pub use operation::Operation;
 pub use others::{LockedRegistry, Others};
 pub use point::Point;
-pub use power_on_fault::PowerOnFault;
 pub use reopenings::Reopenings;
 pub use reported_condition::ReportedCondition;
 pub use shared_gate::SharedGate;

@@ -3,11 +3,10 @@ ghost use Rattle.std.specs.Prelude.{IfOk};
 ghost use Rattle.psu_bench.specs.PowerOn.{BeginsWith};
 
 use crate::caller::Caller;
-use crate::power_on_fault::PowerOnFault;
 use crate::shared_gate::SharedGate;
 use crate::{Gate, Gated};
 use psu_disk::Disk;
-use psu_exec::Exec;
+use psu_exec::{Exec, StartFault};
 use psu_items::Store;
 use std::alloc::Global;
 use std::sync::Arc;
@@ -22,20 +21,20 @@ pub fn power_on<D: Disk + Drop, G: Gate + Drop>(
     alloc: Global,
     disk: D,
     gate: G,
-) -> Result<Caller<Served<D, G>, G>, PowerOnFault>
+) -> Result<Caller<Served<D, G>, G>, StartFault>
     ensures begins { D.honest → IfOk result (λ caller. BeginsWith (D.state disk).bytes caller.seat) }
 {
     let Ok(gate) = Arc::new(alloc, gate) else {
-        return Err(PowerOnFault::Memory);
+        return Err(StartFault::Memory);
     };
     let gate = SharedGate::new(gate);
     let disk = Gated::new(disk, gate.another()?);
     let store = match Store::open(alloc, disk) {
         Ok(store) => store,
-        Err(refused) => return Err(PowerOnFault::from(refused.cause)),
+        Err(refused) => return Err(StartFault::from(refused.cause)),
     };
     match Exec::power_on(alloc, store) {
         Ok(exec) => Ok(Caller::new(alloc, exec, gate)?),
-        Err(refused) => Err(PowerOnFault::from(refused.cause)),
+        Err(refused) => Err(StartFault::from(refused.cause)),
     }
 }

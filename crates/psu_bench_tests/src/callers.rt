@@ -5,6 +5,7 @@
 //! are defined: its set. No macro is removed. So the replies are those of one order if and only if of each two sets one
 //! contains the other, and each set has those of its thread's own macros that were defined before it.
 use crate::benches::{formatted, read};
+use psu_bench::operations::OpenSession;
 use psu_bench::{Caller, DeviceLock, LockedRegistry, Open, Others, Served, power_on};
 use psu_disk::MemDisk;
 use psu_exec::{Grant, Outcome, Session, Sessions};
@@ -173,7 +174,7 @@ fn defined<R: Wait>(
 
 // Makes the calls of a thread, and notes its sets up to a step that fails.
 fn one_thread<R: Wait>(rt: &R, mut device: Device, shared: &Shared, thread: u8) {
-    let Ok(session) = device.open_session(rt, &mut shared.lock.visit()) else {
+    let Ok(session) = device.call(rt, &mut shared.lock.visit(), OpenSession) else {
         return;
     };
     for step in 0..EACH {

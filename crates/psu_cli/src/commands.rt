@@ -22,7 +22,7 @@ pub fn run_in_memory<R: Input + Print>(rt: &R, alloc: Global) -> Result<(), Faul
     };
     match Store::format(alloc, disk, IMAGE_LIMIT) {
         Ok(store) => run_on(rt, alloc, store.into_disk()),
-        Err(fault) => Err(Fault::from(fault.cause)),
+        Err(fault) => Err(Fault::Format(fault.cause)),
     }
 }
 

@@ -1,7 +1,7 @@
 //! Why a command of the program fails.
 use psu_disk::OpenFault;
 use psu_items::FormatCause;
-use psu_run::{RecoverFault, RunCause};
+use psu_run::{RunCause, StartFault};
 use thiserror::Error;
 
 /// Why a command of the program fails, by the text that standard error shows after `psu: `.
@@ -12,20 +12,11 @@ pub enum Fault {
     #[error("{0}")]
     Run(RunCause),
     #[error("{0}")]
-    Recover(RecoverFault),
-    #[error("device fault")]
-    Device,
+    Recover(StartFault),
+    #[error("{0}")]
+    Format(FormatCause),
     #[error("write fault")]
     Write,
     #[error("out of memory")]
     Memory,
-}
-
-impl From<FormatCause> for Fault {
-    fn from(cause: FormatCause) -> Self {
-        match cause {
-            FormatCause::Device => Fault::Device,
-            FormatCause::Memory => Fault::Memory,
-        }
-    }
 }

@@ -28,7 +28,7 @@ pub fn new_image<F: FileCalls + Drop, S: FileSystem<F>>(
         Ok(store) => Ok(store),
         Err(fault) => {
             system.remove(path);
-            Err(Fault::from(fault.cause))
+            Err(Fault::Format(fault.cause))
         }
     }
 }

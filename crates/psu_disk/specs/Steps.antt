@@ -3,7 +3,8 @@
 use Rattle.std.specs.Prelude.{◌≡◌, ℕ, ◌≤◌, List, Result, Ok, Err, IsErr, OnOk, IfErr}
 use Rattle.std.proofs.Common.{◌∙◌, subst}
 use Rattle.psu_disk.specs.declared.disk.Disk.{Ghosts}
-use Rattle.psu_disk.specs.Disk.{IsCrashImage, LeavesOnly, HasFailed}
+use Rattle.psu_disk.specs.declared.medium.Medium as medium
+use Rattle.psu_disk.specs.Disk.{DiskState, IsCrashImage, Elapses, LeavesOnly, HasFailed}
 
 -- The size stays. The count of failures never falls; it stays where the step succeeds, and it rises or is at its maximum
 -- where the step ends because a call of the disk failed.
@@ -12,6 +13,14 @@ pub record DiskStep {D T E : Type 0} (d : Ghosts D) (old new : D) (result : Resu
   pub works : OnOk result (d.failures new ≡ d.failures old)
   pub later : d.failures old ≤ d.failures new
   pub device : IfErr result (λ e. is_device e → HasFailed (d.failures old) (d.failures new))
+
+-- time elapses in calls of a disk, and the only new crash images are those of the disk after them
+abbrev pub DiskElapses : {D : Type 0} → Ghosts D → D → D → Type 0
+DiskElapses d old new = Elapses (d.moment old) (d.moment new) (d.left_since old) (d.left_since new) (IsCrashImage (d.state new))
+
+-- the same for a medium, where the new ones are those of this state
+abbrev pub MediumElapses : {M : Type 0} → medium.Ghosts M → M → M → DiskState → Type 0
+MediumElapses m old new state = Elapses (m.moment old) (m.moment new) (m.left_since old) (m.left_since new) (IsCrashImage state)
 
 -- Each possible crash image, after the step and at each moment of it, has P.
 pub record LeavesImages {D : Type 0} (d : Ghosts D) (old new : D) (P : List ℕ → Type 0) : Type 0 where

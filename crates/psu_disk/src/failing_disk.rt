@@ -1,6 +1,7 @@
 //! A disk that fails after some calls, for tests of what a run that stops midway leaves, and of what one failure does.
-ghost use Rattle.psu_disk.specs.Disk.{IsCrashImage, Range, Holds, SameBut, IsSynced, IsFlagged, Touches, Only, Follows, Elapses, HasCause};
+ghost use Rattle.psu_disk.specs.Disk.{IsCrashImage, Range, Holds, SameBut, IsSynced, IsFlagged, Touches, Only, Follows, HasCause};
 ghost use Rattle.psu_disk.specs.Failing.{is_failing};
+ghost use Rattle.psu_disk.specs.Steps.{DiskElapses};
 ghost use Rattle.psu_disk.specs.declared.failing_disk.Failing.TheVariants.{Always, Once};
 ghost use Rattle.std.specs.Prelude.{◌≡◌, ◌+◌, ◌≤◌, ◌^◌, ◌-◌, ◌↔◌, min, true, false, IsErr, List, ℕ, length, OnOk, OnErr};
 
@@ -93,7 +94,7 @@ impl<D: Disk> FailingDisk<D> {
 }
 
 impl<D: Disk> Disk for FailingDisk<D> {
-    ghost use Rattle.std.specs.Prelude.{◌+◌, ◌-◌, ◌^◌, min};
+    ghost use Rattle.psu_disk.specs.Failing.{failures_of};
 
     ghost honest = { D.honest };
 
@@ -107,7 +108,7 @@ impl<D: Disk> Disk for FailingDisk<D> {
 
     ghost left_since = { λ f. D.left_since f.inner };
 
-    ghost failures = { λ f. min (D.failures f.inner + f.failed) (2 ^ 64 - 1) };
+    ghost failures = { failures_of D.Disk };
 
     ghost sized = { λ h f. D.sized h f.inner };
 
@@ -126,14 +127,12 @@ impl<D: Disk> Disk for FailingDisk<D> {
     fn read(&mut self, at: u64, into: &mut [u8]) -> Result<(), DiskFault>
         requires { at + length into.old ≤ D.extent self.old.inner }
         ensures extent { D.extent self.new.inner ≡ D.extent self.old.inner }
-        ensures cause { HasCause (min (D.failures self.old.inner + self.old.failed) (2 ^ 64 - 1))
-            (min (D.failures self.new.inner + self.new.failed) (2 ^ 64 - 1)) result }
+        ensures cause { HasCause (failures_of D.Disk self.old) (failures_of D.Disk self.new) result }
         ensures bytes { D.honest → OnOk result (into.new ≡ Range at (length into.old) (D.state self.old.inner).bytes) }
         ensures state { D.honest → D.state self.new.inner ≡ D.state self.old.inner }
         ensures seen { D.honest → (D.state self.new.inner).bytes ≡ (D.state self.old.inner).bytes }
         ensures left { D.honest → (x : List ℕ) → IsCrashImage (D.state self.new.inner) x → IsCrashImage (D.state self.old.inner) x }
-        ensures time { D.records → Elapses (D.moment self.old.inner) (D.moment self.new.inner)
-            (D.left_since self.old.inner) (D.left_since self.new.inner) (IsCrashImage (D.state self.new.inner)) }
+        ensures time { D.records → DiskElapses D.Disk self.old.inner self.new.inner }
         ensures failing { self.new.failing ≡ self.old.failing }
         ensures passes { self.new.passes ≡ self.old.passes - 1 }
         // A call that is to fail isn't passed on.
@@ -152,15 +151,13 @@ impl<D: Disk> Disk for FailingDisk<D> {
     fn write(&mut self, at: u64, bytes: &[u8]) -> Result<(), DiskFault>
         requires { at + length bytes.now ≤ D.extent self.old.inner }
         ensures extent { D.extent self.new.inner ≡ D.extent self.old.inner }
-        ensures cause { HasCause (min (D.failures self.old.inner + self.old.failed) (2 ^ 64 - 1))
-            (min (D.failures self.new.inner + self.new.failed) (2 ^ 64 - 1)) result }
+        ensures cause { HasCause (failures_of D.Disk self.old) (failures_of D.Disk self.new) result }
         ensures written { D.honest → OnOk result (Holds at bytes.now (D.state self.old.inner).bytes (D.state self.new.inner).bytes) }
         ensures flagged { D.honest → OnOk result (IsFlagged at (length bytes.now) (D.state self.new.inner)) }
         ensures state { D.honest → Touches at (length bytes.now) (D.state self.old.inner) (D.state self.new.inner) }
         ensures seen { D.honest → SameBut at (length bytes.now) (D.state self.old.inner).bytes (D.state self.new.inner).bytes }
         ensures left { D.honest → Follows (SameBut at (length bytes.now)) (IsCrashImage (D.state self.old.inner)) (IsCrashImage (D.state self.new.inner)) }
-        ensures time { D.records → Elapses (D.moment self.old.inner) (D.moment self.new.inner)
-            (D.left_since self.old.inner) (D.left_since self.new.inner) (IsCrashImage (D.state self.new.inner)) }
+        ensures time { D.records → DiskElapses D.Disk self.old.inner self.new.inner }
         ensures failing { self.new.failing ≡ self.old.failing }
         ensures passes { self.new.passes ≡ self.old.passes - 1 }
         // A call that is to fail isn't passed on.
@@ -178,15 +175,13 @@ impl<D: Disk> Disk for FailingDisk<D> {
 
     fn sync(&mut self) -> Result<(), DiskFault>
         ensures extent { D.extent self.new.inner ≡ D.extent self.old.inner }
-        ensures cause { HasCause (min (D.failures self.old.inner + self.old.failed) (2 ^ 64 - 1))
-            (min (D.failures self.new.inner + self.new.failed) (2 ^ 64 - 1)) result }
+        ensures cause { HasCause (failures_of D.Disk self.old) (failures_of D.Disk self.new) result }
         ensures synced { D.honest → OnOk result (IsSynced (D.state self.new.inner)) }
         ensures seen { D.honest → (D.state self.new.inner).bytes ≡ (D.state self.old.inner).bytes }
         ensures err { D.honest → OnErr result (D.state self.new.inner ≡ D.state self.old.inner) }
         ensures only { D.honest → OnOk result (Only (D.state self.new.inner)) }
         ensures left { D.honest → (x : List ℕ) → IsCrashImage (D.state self.new.inner) x → IsCrashImage (D.state self.old.inner) x }
-        ensures time { D.records → Elapses (D.moment self.old.inner) (D.moment self.new.inner)
-            (D.left_since self.old.inner) (D.left_since self.new.inner) (IsCrashImage (D.state self.new.inner)) }
+        ensures time { D.records → DiskElapses D.Disk self.old.inner self.new.inner }
         ensures failing { self.new.failing ≡ self.old.failing }
         ensures passes { self.new.passes ≡ self.old.passes - 1 }
         // A call that is to fail isn't passed on.

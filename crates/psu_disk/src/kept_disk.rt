@@ -1,7 +1,8 @@
 //! A disk over a medium that may forget bytes at a failed sync. It keeps the ranges written since the last successful
 //! sync. After a failed sync it writes their bytes again, as they read, before the next sync.
 ghost use Rattle.std.specs.Prelude.{◌≡◌, ℕ, ◌+◌, ◌^◌, ◌<◌, ◌≤◌, List, length, true, false, not, is_ok, IfOk, OnOk, OnErr};
-ghost use Rattle.psu_disk.specs.Disk.{IsCrashImage, IsFlagged, IsSynced, Only, Elapses, HasCause, Holds, Range, Touches, SameBut, Follows, is_unsynced};
+ghost use Rattle.psu_disk.specs.Disk.{IsCrashImage, IsFlagged, IsSynced, Only, HasCause, Holds, Range, Touches, SameBut, Follows, is_unsynced};
+ghost use Rattle.psu_disk.specs.Steps.{MediumElapses};
 ghost use Rattle.psu_disk.specs.Medium.{NoneMore, IsKnown, CoversUnsynced};
 ghost use Rattle.psu_disk.specs.Touched.{is_in, is_covered};
 ghost use Rattle.std.proofs.Props.{props};
@@ -69,9 +70,8 @@ impl<M: Medium, A: Allocator> KeptDisk<M, A> {
         ensures state { M.honest → M.state self.new.medium ≡ M.state self.old.medium }
         ensures known { M.honest → OnOk result ((k : ℕ) → M.forgotten self.new.medium k ≡ false) }
         ensures works { M.works self.old.medium → self.old.written.full ≡ false → OnErr result ⊥ × M.works self.new.medium }
-        ensures time { M.honest → M.records → Elapses (M.moment self.old.medium) (M.moment self.new.medium)
-            (M.left_since self.old.medium) (M.left_since self.new.medium)
-            (IsCrashImage (M.state self.old.medium)) }
+        ensures time { M.honest → M.records → MediumElapses M.Medium self.old.medium self.new.medium
+            (M.state self.old.medium) }
     {
         if !self.failed {
             return Ok(());
@@ -95,9 +95,8 @@ impl<M: Medium, A: Allocator> KeptDisk<M, A> {
         ensures only { M.honest → OnOk result (Only (M.state self.new.medium)) }
         ensures left { M.honest → (x : List ℕ) → IsCrashImage (M.state self.new.medium) x → IsCrashImage (M.state self.old.medium) x }
         ensures works { M.works self.old.medium → self.old.written.full ≡ false → OnErr result ⊥ × M.works self.new.medium }
-        ensures time { M.honest → M.records → Elapses (M.moment self.old.medium) (M.moment self.new.medium)
-            (M.left_since self.old.medium) (M.left_since self.new.medium)
-            (IsCrashImage (M.state self.new.medium)) }
+        ensures time { M.honest → M.records → MediumElapses M.Medium self.old.medium self.new.medium
+            (M.state self.new.medium) }
     {
         self.recover()?;
         if self.medium.sync().is_err() {
@@ -130,8 +129,7 @@ fn write_again<M: Medium>(medium: &mut M, spans: &[Span]) -> Result<(), DiskFaul
     ensures none_more { M.honest → NoneMore (M.forgotten medium.old) (M.forgotten medium.new) }
     ensures known { M.honest → OnOk result ((k : ℕ) → is_covered spans.now k ≡ true → M.forgotten medium.new k ≡ false) }
     ensures works { M.works medium.old → OnErr result ⊥ × M.works medium.new }
-    ensures time { M.honest → M.records → Elapses (M.moment medium.old) (M.moment medium.new)
-        (M.left_since medium.old) (M.left_since medium.new) (IsCrashImage (M.state medium.old)) }
+    ensures time { M.honest → M.records → MediumElapses M.Medium medium.old medium.new (M.state medium.old) }
 {
     for span in spans {
         write_span(medium, *span)?;
@@ -148,8 +146,7 @@ fn write_span<M: Medium>(medium: &mut M, span: Span) -> Result<(), DiskFault>
     ensures none_more { M.honest → NoneMore (M.forgotten medium.old) (M.forgotten medium.new) }
     ensures known { M.honest → OnOk result ((k : ℕ) → is_in span k ≡ true → M.forgotten medium.new k ≡ false) }
     ensures works { M.works medium.old → OnErr result ⊥ × M.works medium.new }
-    ensures time { M.honest → M.records → Elapses (M.moment medium.old) (M.moment medium.new)
-        (M.left_since medium.old) (M.left_since medium.new) (IsCrashImage (M.state medium.old)) }
+    ensures time { M.honest → M.records → MediumElapses M.Medium medium.old medium.new (M.state medium.old) }
 {
     let mut at = span.low;
     while at < span.high {
@@ -170,8 +167,7 @@ fn write_piece<M: Medium>(medium: &mut M, at: u64, piece: &mut [u8]) -> Result<(
     ensures none_more { M.honest → NoneMore (M.forgotten medium.old) (M.forgotten medium.new) }
     ensures known { M.honest → OnOk result (IsKnown at (length piece.old) (M.forgotten medium.new)) }
     ensures works { M.works medium.old → OnErr result ⊥ × M.works medium.new }
-    ensures time { M.honest → M.records → Elapses (M.moment medium.old) (M.moment medium.new)
-        (M.left_since medium.old) (M.left_since medium.new) (IsCrashImage (M.state medium.old)) }
+    ensures time { M.honest → M.records → MediumElapses M.Medium medium.old medium.new (M.state medium.old) }
 {
     medium.read(at, piece)?;
     medium.write(at, piece)
@@ -215,9 +211,8 @@ impl<M: Medium, A: Allocator> Disk for KeptDisk<M, A> {
         ensures state { M.honest → M.state self.new.medium ≡ M.state self.old.medium }
         ensures seen { M.honest → (M.state self.new.medium).bytes ≡ (M.state self.old.medium).bytes }
         ensures left { M.honest → (x : List ℕ) → IsCrashImage (M.state self.new.medium) x → IsCrashImage (M.state self.old.medium) x }
-        ensures time { M.honest × M.records → Elapses (M.moment self.old.medium) (M.moment self.new.medium)
-            (M.left_since self.old.medium) (M.left_since self.new.medium)
-            (IsCrashImage (M.state self.new.medium)) }
+        ensures time { M.honest × M.records → MediumElapses M.Medium self.old.medium self.new.medium
+            (M.state self.new.medium) }
         ensures failed { self.new.failed ≡ self.old.failed }
     {
         let answer = self.medium.read(at, into);
@@ -235,9 +230,8 @@ impl<M: Medium, A: Allocator> Disk for KeptDisk<M, A> {
         ensures state { M.honest → Touches at (length bytes.now) (M.state self.old.medium) (M.state self.new.medium) }
         ensures seen { M.honest → SameBut at (length bytes.now) (M.state self.old.medium).bytes (M.state self.new.medium).bytes }
         ensures left { M.honest → Follows (SameBut at (length bytes.now)) (IsCrashImage (M.state self.old.medium)) (IsCrashImage (M.state self.new.medium)) }
-        ensures time { M.honest × M.records → Elapses (M.moment self.old.medium) (M.moment self.new.medium)
-            (M.left_since self.old.medium) (M.left_since self.new.medium)
-            (IsCrashImage (M.state self.new.medium)) }
+        ensures time { M.honest × M.records → MediumElapses M.Medium self.old.medium self.new.medium
+            (M.state self.new.medium) }
         ensures failed { self.new.failed ≡ self.old.failed }
         ensures room { length self.old.written.spans.items < 1024 → self.new.written.full ≡ self.old.written.full }
     {
@@ -260,9 +254,8 @@ impl<M: Medium, A: Allocator> Disk for KeptDisk<M, A> {
         ensures err { M.honest → OnErr result (M.state self.new.medium ≡ M.state self.old.medium) }
         ensures only { M.honest → OnOk result (Only (M.state self.new.medium)) }
         ensures left { M.honest → (x : List ℕ) → IsCrashImage (M.state self.new.medium) x → IsCrashImage (M.state self.old.medium) x }
-        ensures time { M.honest × M.records → Elapses (M.moment self.old.medium) (M.moment self.new.medium)
-            (M.left_since self.old.medium) (M.left_since self.new.medium)
-            (IsCrashImage (M.state self.new.medium)) }
+        ensures time { M.honest × M.records → MediumElapses M.Medium self.old.medium self.new.medium
+            (M.state self.new.medium) }
         ensures failed { self.new.failed ≡ not (is_ok result) }
         ensures recovers { M.works self.old.medium → self.old.written.full ≡ false → OnErr result ⊥ × M.works self.new.medium }
     {

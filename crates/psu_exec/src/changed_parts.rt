@@ -1,12 +1,12 @@
 //! The parts of the nonvolatile contents that may have changed.
-use psu_nv::{NvCommand, Part, Register};
+use psu_nv::{NvCommand, Part, REGISTERS, Register};
 
 /// The set of parts of the nonvolatile contents that may differ from the map that the store holds, or from the target
 /// of its job. Each register is a part; all files together are one.
 #[derive(Clone, Copy)]
 pub struct ChangedParts {
     enables: bool,
-    registers: [bool; 100],
+    registers: [bool; REGISTERS],
     // Whether a register is in the set.
     some_register: bool,
     user: bool,
@@ -27,7 +27,7 @@ impl ChangedParts {
     {
         ChangedParts {
             enables: false,
-            registers: [false; 100],
+            registers: [false; REGISTERS],
             some_register: false,
             user: false,
             macros: false,
@@ -42,7 +42,7 @@ impl ChangedParts {
     {
         ChangedParts {
             enables: true,
-            registers: [true; 100],
+            registers: [true; REGISTERS],
             some_register: true,
             user: true,
             macros: true,
@@ -72,12 +72,9 @@ impl ChangedParts {
     pub fn has_key(&self, key: &[u8]) -> bool
         ensures { result ≡ false → IsUnchanged self.now key.now }
     {
-        match key {
-            [2, number] => self.has_register(*number),
-            _ => match Part::of_key(key) {
-                Some(part) => self.has(part),
-                None => true,
-            },
+        match Part::of_key(key) {
+            Some(part) => self.has(part),
+            None => true,
         }
     }
 
@@ -86,7 +83,8 @@ impl ChangedParts {
     pub fn has_register(&self, number: u8) -> bool
         ensures { result ≡ is_changed self.now (KeptRegister number) }
     {
-        self.some_register && (number >= 100 || self.registers[number as usize])
+        self.some_register
+            && (usize::from(number) >= REGISTERS || self.registers[usize::from(number)])
     }
 
     /// Whether a register is in the set.

@@ -1,9 +1,11 @@
 //! The reasons for which a device doesn't start.
 ghost use Rattle.std.specs.Prelude.{◌≡◌};
 ghost use Rattle.psu_exec.specs.Starts.{start_of_opening, start_of_power_on};
+ghost use Rattle.psu_exec.specs.declared.start_cause.StartFault.TheVariants.{Memory};
 
 use crate::PowerCause;
 use psu_items::{BadImage, OpenCause};
+use std::alloc::AllocError;
 use thiserror::Error;
 
 /// Why a device doesn't start from its disk, other than for an allocation failure.
@@ -26,27 +28,46 @@ pub enum StartCause {
     BadItems,
 }
 
-impl StartCause {
-    /// Returns the cause for a disk that isn't opened; none for an allocation failure.
-    pub fn of_opening(cause: OpenCause) -> Option<StartCause>
-        ensures { result ≡ start_of_opening cause }
-    {
+/// Why a device doesn't start.
+#[derive(Clone, Copy, Debug, PartialEq, Eq, Error)]
+pub enum StartFault {
+    /// The device doesn't start from its disk.
+    #[error("{0}")]
+    Start(StartCause),
+    /// An allocation failed.
+    #[error("out of memory")]
+    Memory,
+}
+
+impl From<OpenCause> for StartFault {
+    ghost from_gives = { λ cause fault. fault ≡ start_of_opening cause };
+
+    fn from(cause: OpenCause) -> Self {
         match cause {
-            OpenCause::Device => Some(StartCause::Device),
-            OpenCause::Image(BadImage::NoRoot) => Some(StartCause::NoRoot),
-            OpenCause::Image(BadImage::BadRoot) => Some(StartCause::BadRoot),
-            OpenCause::Image(BadImage::BadVersion) => Some(StartCause::BadVersion),
-            OpenCause::Memory => None,
+            OpenCause::Device => StartFault::Start(StartCause::Device),
+            OpenCause::Image(BadImage::NoRoot) => StartFault::Start(StartCause::NoRoot),
+            OpenCause::Image(BadImage::BadRoot) => StartFault::Start(StartCause::BadRoot),
+            OpenCause::Image(BadImage::BadVersion) => StartFault::Start(StartCause::BadVersion),
+            OpenCause::Memory => StartFault::Memory,
         }
     }
+}
 
-    /// Returns the cause for a failed power-on with an opened store; none for an allocation failure.
-    pub fn of_power_on(cause: PowerCause) -> Option<StartCause>
-        ensures { result ≡ start_of_power_on cause }
-    {
+impl From<PowerCause> for StartFault {
+    ghost from_gives = { λ cause fault. fault ≡ start_of_power_on cause };
+
+    fn from(cause: PowerCause) -> Self {
         match cause {
-            PowerCause::BadItems => Some(StartCause::BadItems),
-            PowerCause::Memory => None,
+            PowerCause::BadItems => StartFault::Start(StartCause::BadItems),
+            PowerCause::Memory => StartFault::Memory,
         }
+    }
+}
+
+impl From<AllocError> for StartFault {
+    ghost from_gives = { λ _ fault. fault ≡ Memory };
+
+    fn from(_: AllocError) -> Self {
+        StartFault::Memory
     }
 }

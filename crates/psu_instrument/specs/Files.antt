@@ -1,5 +1,5 @@
 -- Files. Source: SCPI-1999 volume 2, chapter 12 (MMEMory); the order of refusals is this project's own.
-use Rattle.std.specs.Prelude.{ℕ, ◌-◌, ◌*◌, ◌==◌, nat_lt, nat_le, not, if◌then◌else◌, Option, Some, None, List, [], ◌∷◌, ◌++◌, length, decimal, codes}
+use Rattle.std.specs.Prelude.{ℕ, ◌-◌, ◌*◌, nat_lt, nat_le, not, if◌then◌else◌, Option, Some, None, List, [], ◌∷◌, ◌++◌, length, decimal}
 use Rattle.psu_map.specs.Map.{Item}
 use Rattle.psu_lex.specs.Data.{definite_text}
 use Rattle.psu_lex.specs.declared.scpi_error.ScpiError.{ScpiError}
@@ -7,6 +7,7 @@ use Rattle.psu_lex.specs.declared.scpi_error.ScpiError.TheVariants.{DataOutOfRan
 use Rattle.psu_nv.specs.Commands as nv
 use Rattle.psu_nv.specs.Commands.{first_of, has_file, bytes_in, StoreBytes, Delete, Copy, Move, StoreState, LoadState, StoreMacro, LoadMacro}
 use Rattle.psu_nv.specs.Contents.{Contents, cost_of}
+use Rattle.psu_nv.specs.Views.{kind_text, stored_kind}
 use Rattle.psu_lex.specs.Names.{is_name}
 use Rattle.psu_tree.specs.declared.values.OnFile.{OnFile}
 use Rattle.psu_tree.specs.declared.values.OnFile.TheVariants as on_file
@@ -59,13 +60,9 @@ macro_moved s transfer.Load label name = Keeps (LoadMacro (text_of label) (text_
 
 -- ---- catalog
 
--- the type of a file by its type byte
-abbrev pub kind_text : ℕ → List ℕ
-kind_text code = if code == 0 then codes "BIN" else (if code == 1 then codes "STAT" else codes "MACR")
-
 abbrev pub entry_of : List ℕ → List ℕ → List ℕ
 entry_of name [] = []
-entry_of name (code ∷ bytes) = 44 ∷ quoted (name ++ (44 ∷ (kind_text code ++ (44 ∷ decimal (length bytes)))))
+entry_of name (code ∷ bytes) = 44 ∷ quoted (name ++ (44 ∷ (kind_text (stored_kind code) ++ (44 ∷ decimal (length bytes)))))
 
 -- name, type and size of each file, in byte order of the names
 abbrev pub entries : List Item → List ℕ

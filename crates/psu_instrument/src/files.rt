@@ -1,20 +1,17 @@
 //! Files.
 ghost use Rattle.std.specs.Prelude.{◌≡◌, ◌<◌, ℕ, ◌++◌, Bool, length, IfOk, OnOk, OnErr};
 ghost use Rattle.psu_nv.specs.Contents.{Contents as Kept};
-ghost use Rattle.psu_instrument.specs.Files.{catalog_text, entries, entry_of, kind_text, macro_moved, on_name, on_two, state_moved, stored};
+ghost use Rattle.psu_instrument.specs.Files.{catalog_text, entries, entry_of, macro_moved, on_name, on_two, state_moved, stored};
 ghost use Rattle.psu_instrument.specs.Instrument.{Instrument as State};
 ghost use Rattle.psu_instrument.specs.Meaning.{ActsAs, situation};
 
 use crate::Act;
 use crate::macros::text_of;
 use psu_lex::{Bytes, ScpiError, definite, is_name};
-use psu_map::Pair;
-use psu_nv::{Contents, FileBytes, NvCommand, Register};
+use psu_map::{PAGE_SIZE, Pair};
+use psu_nv::{Contents, FileBytes, FileKind, NvCommand, Register};
 use psu_tree::{OnFile, OnNames, Text, Transfer};
 use std::alloc::{AllocError, Allocator};
-
-/// The size of a page, the unit of space in the catalog, in bytes.
-const PAGE_SIZE: u128 = 512;
 
 // `MMEMory:DATA`.
 pub(crate) fn stored<'c, A: Allocator + Copy>(
@@ -107,17 +104,6 @@ pub(crate) fn macro_moved<'c, A: Allocator + Copy>(
     }
 }
 
-// Returns the type of a file, by its type byte.
-fn kind_text(code: u8) -> &'static [u8]
-    ensures { result.now ≡ kind_text code }
-{
-    match code {
-        0 => b"BIN",
-        1 => b"STAT",
-        _ => b"MACR",
-    }
-}
-
 // Appends a file's name, type and size.
 fn put_entry<A: Allocator + Copy>(
     text: &mut Bytes<A>,
@@ -133,7 +119,7 @@ fn put_entry<A: Allocator + Copy>(
     text.put(b",\"")?;
     text.put(name)?;
     text.put(b",")?;
-    text.put(kind_text(*code))?;
+    text.put(FileKind::of_stored(*code).text())?;
     text.put(b",")?;
     text.put_number(bytes.len() as u128)?;
     text.put(b"\"")
@@ -153,7 +139,7 @@ fn put_entries<A: Allocator + Copy>(
     Ok(())
 }
 
-// Returns the response to `MMEMory:CATalog?`.
+// Returns the response to `MMEMory:CATalog?`, whose unit of space is a page.
 pub(crate) fn catalog_text<A: Allocator + Copy>(
     alloc: A,
     limit: u16,

@@ -12,6 +12,7 @@ use Rattle.psu_pages.specs.declared.faults.OpenCause.TheVariants.{Device, Image,
 use Rattle.psu_pages.specs.declared.pages.Pages.{Pages}
 use Rattle.psu_pages.specs.declared.root.Root.{Root}
 use Rattle.psu_pages.specs.Image.{Head, other, gate_at, number_in, version_in, IsCurrent}
+use Rattle.psu_pages.specs.Outcome.{Closes, EncodesPages}
 use Rattle.psu_pages.specs.Shown.{items_in, Shows, Encodes}
 use Rattle.psu_pages.specs.Shown as shown
 use Rattle.psu_pages.specs.Finding as finding
@@ -19,7 +20,6 @@ use Rattle.psu_pages.proofs.Encoding.{current_root_is}
 use Rattle.psu_items.specs.Image.{as_item, listed, current_root, RootHolds, Represents, EachRepresents, IsEither, EachIsEither, IsRefusal, HasReadableRoot}
 use Rattle.psu_items.specs.Finding.{SameRoots, IsOldOrSame}
 use Rattle.psu_items.proofs.Standing.{represents_at}
-use Rattle.psu_items.proofs.Taking.{EncodesPages, Closes}
 
 pub err_any : {T E : Type 0} (r : Result T E) (P : E → Type 0) → ((e : E) → P e) → IfErr r P
 err_any (Ok x) P f = tt

@@ -8,8 +8,8 @@ use Rattle.psu_map.specs.Map.{Item, get, IsSorted}
 use Rattle.psu_map.specs.Capacity.{IsMapOf}
 use Rattle.psu_pages.specs.declared.pages.Pages.{Pages}
 use Rattle.psu_pages.specs.Image.{Head, other, head_at, keys}
-use Rattle.psu_pages.specs.Outcome.{HasSameHeads, HasPublished}
-use Rattle.psu_pages.specs.Shown.{item_in, items_in, EncodesEither}
+use Rattle.psu_pages.specs.Outcome.{EncodesPages, EncodesPagesOrHeads, HasSameHeads, HasPublished}
+use Rattle.psu_pages.specs.Shown.{item_in, items_in}
 use Rattle.psu_pages.specs.Shown as shown
 use Rattle.psu_pages.specs.Writing.{IsWritten}
 use Rattle.psu_items.specs.Image.{as_item, listed, shown_in, RepresentsAs, IsEitherRoot}
@@ -17,7 +17,6 @@ use Rattle.psu_items.specs.Standing.{ShowsMap}
 use Rattle.psu_items.specs.declared.layout.Slot.{Slot}
 use Rattle.psu_items.specs.Layout.{heads_of, keys_in, value_at, StandsWritten}
 use Rattle.psu_items.proofs.Standing.{encodes_as}
-use Rattle.psu_items.proofs.Taking.{EncodesPages}
 use Rattle.psu_items.proofs.Writing.{listed_is}
 
 pub length-keys_in : (items : List Item) → length (keys_in items) ≡ length items
@@ -62,7 +61,7 @@ module _ {D A : Type 0} {G : Ghosts D} (old mid : Pages D A G) (before target : 
   module _ (same : HasSameHeads old mid) (items : items_in mid.root (Ghosts.state G mid.disk).bytes ≡ items_in old.root (Ghosts.state G old.disk).bytes) (sorted : IsSorted target)
       (heads : List Head) (are : listed (Ghosts.state G mid.disk).bytes heads ≡ target) where
     abbrev Switches : List ℕ → Type 0
-    Switches = EncodesEither (other mid.root) mid.version mid.limit mid.number mid.heads.items (items_in mid.root (Ghosts.state G mid.disk).bytes) heads (map (item_in (Ghosts.state G mid.disk).bytes) heads)
+    Switches = EncodesPagesOrHeads mid heads
 
     of_target : IsMapOf target (listed (Ghosts.state G mid.disk).bytes heads)
     of_target k = ap (λ (m : List Item). get m k) (sym are)

@@ -6,7 +6,7 @@ use Rattle.psu_disk.specs.Disk.{IsCrashImage}
 use Rattle.psu_disk.specs.Ranges.{length-range}
 use Rattle.psu_disk.specs.declared.disk.Disk.{Ghosts}
 use Rattle.psu_pages.specs.Image.{Head, IsHead, IsInPool, current_root, heads_in, page_in, bytes_in, value_in, pages_of}
-use Rattle.psu_pages.specs.Shown.{items_in, Encodes}
+use Rattle.psu_pages.specs.Outcome.{EncodesPages}
 use Rattle.psu_pages.specs.declared.pages.Pages.{Pages}
 use Rattle.psu_pages.specs.declared.root.Root.{Root}
 use Rattle.psu_pages.proofs.Encoding.{current_root_is}
@@ -32,7 +32,7 @@ value_long : (limit : ℕ) (x : List ℕ) (head : Head) → 512 * (2 + 2 * limit
 value_long limit x head room is pool = sym (length-take-le head.size (bytes_in x head.pages) (omega (arith, is.count, bytes_long limit x head.pages room pool.1)))
 
 module _ {D A : Type 0} {G : Ghosts D} (h : Ghosts.honest G) (pages : Pages D A G) (m : List Item) (shows : ShowsMap pages m) (x : List ℕ) (left : IsCrashImage (Ghosts.state G pages.disk) x) where
-  abbrev encodes : Encodes pages.root pages.version pages.limit pages.number pages.heads.items (items_in pages.root (Ghosts.state G pages.disk).bytes) x
+  abbrev encodes : EncodesPages pages x
   encodes = pages.encodes h (surely pages.standing shows.one) x left
 
   heads_are : heads_in (current_root x) x ≡ pages.heads.items

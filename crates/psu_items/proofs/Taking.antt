@@ -15,18 +15,9 @@ use Rattle.psu_pages.specs.declared.root.Root.{Root}
 use Rattle.psu_pages.specs.declared.standing.Standing.TheVariants.{Unsure}
 use Rattle.psu_pages.specs.Image.{Head, other, gate_at}
 use Rattle.psu_pages.specs.Shown.{Item, items_in, Encodes}
-use Rattle.psu_pages.specs.Writing.{Reaches}
-use Rattle.psu_pages.specs.Outcome.{HasSameHeads}
+use Rattle.psu_pages.specs.Outcome.{Closes, EncodesPages, HasSameHeads}
 use Rattle.psu_items.specs.Image.{as_item, listed, shown_in}
 use Rattle.psu_items.specs.Finding.{IsUnread}
-
--- the image encodes the root, the heads and the items of these pages
-abbrev pub EncodesPages : {D A : Type 0} {G : Ghosts D} → Pages D A G → List ℕ → Type 0
-EncodesPages {D} {A} {G} pages = Encodes pages.root pages.version pages.limit pages.number pages.heads.items (items_in pages.root (Ghosts.state G pages.disk).bytes)
-
--- only the gate of the older root is written
-abbrev pub Closes : {D A : Type 0} {G : Ghosts D} → Pages D A G → List ℕ → Type 0
-Closes {D} {A} {G} pages = Reaches (SameBut (gate_at (other pages.root)) 1) (IsCrashImage (Ghosts.state G pages.disk))
 
 -- the heads and the items that they show are unchanged
 module _ {D A : Type 0} {G : Ghosts D} (old mid : Pages D A G) (same : HasSameHeads old mid) where

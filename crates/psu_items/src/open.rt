@@ -1,13 +1,11 @@
 //! Opening a store on a disk.
 ghost use Rattle.std.specs.Prelude.{◌≡◌, ◌≢◌, ◌⊎◌, [], List, ℕ, OnOk, IfOk, IfErr};
-ghost use Rattle.psu_disk.specs.Disk.{IsCrashImage, Only, SameBut};
 ghost use Rattle.psu_disk.specs.Steps.{DiskStep, LeavesImages};
 ghost use Rattle.psu_map.specs.Map.{Item, IsSorted};
 ghost use Rattle.psu_map.specs.Capacity.{IsMapOf};
 ghost use Rattle.psu_pages.specs.Finding.{IfImage};
-ghost use Rattle.psu_pages.specs.Image.{other, gate_at};
-ghost use Rattle.psu_pages.specs.Shown.{items_in, Encodes};
-ghost use Rattle.psu_pages.specs.Writing.{Reaches};
+ghost use Rattle.psu_pages.specs.Outcome.{Closes, EncodesPages};
+ghost use Rattle.psu_pages.specs.Shown.{items_in};
 ghost use Rattle.psu_items.specs.Image.{listed, current_root, number_in, version_in, EachRepresents, Represents, IsRefusal, HasReadableRoot};
 ghost use Rattle.psu_items.specs.Finding.{IsOldOrSame, IsUnread};
 ghost use Rattle.psu_items.specs.Outcome.{opened_disk};
@@ -71,11 +69,8 @@ fn take_up<D: Disk, A: Allocator + Copy>(
     ensures untouched { D.honest → IfErr result (λ e. e.cause ≢ Device → (D.state e.disk).bytes ≡ (D.state pages.disk).bytes) }
     ensures step { DiskStep D.Disk pages.disk (opened_disk result) result (λ e. e.cause ≡ Device) }
     ensures quiet { IfErr result (λ e. e.cause ≢ Device → D.failures e.disk ≡ D.failures pages.disk) }
-    ensures left { LeavesImages D.Disk pages.disk (opened_disk result)
-        (Encodes pages.root pages.version pages.limit pages.number pages.heads.items
-        (items_in pages.root (D.state pages.disk).bytes)) }
-    ensures touched { LeavesImages D.Disk pages.disk (opened_disk result)
-        (Reaches (SameBut (gate_at (other pages.root)) 1) (IsCrashImage (D.state pages.disk))) }
+    ensures left { LeavesImages D.Disk pages.disk (opened_disk result) (EncodesPages pages) }
+    ensures touched { LeavesImages D.Disk pages.disk (opened_disk result) (Closes pages) }
 {
     match read_back(alloc, &mut pages) {
         Ok(items) => Ok(Store { pages, items }),
@@ -105,11 +100,8 @@ fn read_back<D: Disk, A: Allocator + Copy>(
     ensures step { DiskStep D.Disk pages.old.disk pages.new.disk result (λ cause. cause ≡ PageFault.Device) }
     ensures quiet { IfErr result (λ cause. cause ≢ PageFault.Device → D.failures pages.new.disk ≡ D.failures pages.old.disk) }
     ensures pages { IfErr result (λ cause. cause ≢ PageFault.NoPage) }
-    ensures left { LeavesImages D.Disk pages.old.disk pages.new.disk
-        (Encodes pages.old.root pages.old.version pages.old.limit pages.old.number pages.old.heads.items
-        (items_in pages.old.root (D.state pages.old.disk).bytes)) }
-    ensures touched { LeavesImages D.Disk pages.old.disk pages.new.disk
-        (Reaches (SameBut (gate_at (other pages.old.root)) 1) (IsCrashImage (D.state pages.old.disk))) }
+    ensures left { LeavesImages D.Disk pages.old.disk pages.new.disk (EncodesPages pages.old) }
+    ensures touched { LeavesImages D.Disk pages.old.disk pages.new.disk (Closes pages.old) }
 {
     let items = read_items(alloc, pages)?;
     pages.close_old()?;

@@ -6,8 +6,8 @@ ghost use Rattle.psu_disk.specs.Steps.{DiskStep, LeavesImages};
 ghost use Rattle.psu_map.specs.Map.{Item, get, IsSorted};
 ghost use Rattle.psu_pages.specs.Free.{AreClaimed, IsRoster};
 ghost use Rattle.psu_pages.specs.Image.{AreApart, AreClear, IsInPool, keys, pages_of, taken, Head as HeadOf};
-ghost use Rattle.psu_pages.specs.Outcome.{IsPlanned, HasSameHeads};
-ghost use Rattle.psu_pages.specs.Shown.{items_in, Encodes};
+ghost use Rattle.psu_pages.specs.Outcome.{EncodesPages, IsPlanned, HasSameHeads};
+ghost use Rattle.psu_pages.specs.Shown.{items_in};
 ghost use Rattle.psu_pages.specs.Writing.{IsWritten, Reaches};
 ghost use Rattle.psu_items.specs.Image.{IsEitherRoot};
 ghost use Rattle.psu_items.specs.Layout.{heads_of, keys_in, slots_of, value_at, IsSized, StandsWritten};
@@ -77,9 +77,7 @@ fn write_heads<D: Disk, A: Allocator + Copy>(
     ensures written { D.honest → AllByRecursion (StandsWritten (D.state pages.old.disk).bytes (aimed target.now)) (slots_of layout.now)
         → OnOk result (AllByRecursion (λ (slot : SlotOf A). IsWritten (D.state pages.new.disk).bytes slot.head (value_at (aimed target.now) slot.head.key)) (slots_of layout.now)) }
     ensures shown { D.honest → items_in pages.new.root (D.state pages.new.disk).bytes ≡ items_in pages.old.root (D.state pages.old.disk).bytes }
-    ensures left { LeavesImages D.Disk pages.old.disk pages.new.disk
-        (Encodes pages.old.root pages.old.version pages.old.limit pages.old.number pages.old.heads.items
-        (items_in pages.old.root (D.state pages.old.disk).bytes)) }
+    ensures left { LeavesImages D.Disk pages.old.disk pages.new.disk (EncodesPages pages.old) }
     ensures after_pool { LeavesImages D.Disk pages.old.disk pages.new.disk (Reaches (SameAfterPool pages.old.limit) (IsCrashImage (D.state pages.old.disk))) }
 {
     for place in &layout.unwritten {
@@ -106,9 +104,7 @@ fn write_head<D: Disk, A: Allocator + Copy>(
     ensures others { D.honest → (other : HeadOf) (its : List ℕ) → IsWritten (D.state pages.old.disk).bytes other its → AllByRecursion (IsInPool pages.old.limit) (pages_of other)
         → AreClear (pages_of head.now) (pages_of other) → IsWritten (D.state pages.new.disk).bytes other its }
     ensures shown { D.honest → items_in pages.new.root (D.state pages.new.disk).bytes ≡ items_in pages.old.root (D.state pages.old.disk).bytes }
-    ensures left { LeavesImages D.Disk pages.old.disk pages.new.disk
-        (Encodes pages.old.root pages.old.version pages.old.limit pages.old.number pages.old.heads.items
-        (items_in pages.old.root (D.state pages.old.disk).bytes)) }
+    ensures left { LeavesImages D.Disk pages.old.disk pages.new.disk (EncodesPages pages.old) }
     ensures after_pool { LeavesImages D.Disk pages.old.disk pages.new.disk (Reaches (SameAfterPool pages.old.limit) (IsCrashImage (D.state pages.old.disk))) }
 {
     let Some(value) = target.get(head.key()) else {

@@ -11,6 +11,9 @@ use crate::{Batch, Edit, Pair, Value};
 use std::alloc::{AllocError, Allocator};
 use std::marker::Model;
 
+/// The size of a page, in bytes. Contracts state it as a number.
+pub const PAGE_SIZE: u128 = 512;
+
 /// An ordered map from the bytes of a key to the bytes of a value. Contracts see the list of its
 /// items, in the byte order of their keys.
 #[derive(Drop)]
@@ -117,7 +120,7 @@ impl<A: Allocator + Copy> Items<A> {
     {
         let mut pages = 0;
         for pair in &self.pairs {
-            pages += 1 + (pair.value().len() as u128 + 511) / 512;
+            pages += 1 + (pair.value().len() as u128 + (PAGE_SIZE - 1)) / PAGE_SIZE;
         }
         pages
     }

@@ -4,7 +4,9 @@ use Rattle.psu_tree.specs.declared.command.Request.{Request}
 use Rattle.psu_exec.specs.Shown.{outcome_of}
 use Rattle.psu_messages.specs.Effects.{Effect, needs}
 use Rattle.psu_messages.specs.Executions.{Trial}
+use Rattle.psu_messages.specs.Relations.{Relations}
 use Rattle.psu_messages.specs.Stepping.{parked_by}
+use Rattle.psu_messages.specs.Units.{Source}
 use Rattle.psu_messages.specs.declared.tries.Tried.{Tried}
 use Rattle.psu_messages.specs.declared.tries.Tried.TheVariants as tried
 use Rattle.psu_exec.specs.Device.{Reply}
@@ -33,3 +35,11 @@ progress_of c = progress (record { units = c.units; inside = inside_of c.expansi
 abbrev pub IsTried : {A X : Type 0} → (X → Effect → X → Type 0) → X → Bool → Request → X → Bool → Tried A → Type 0
 IsTried does at parked request now new (tried.Ended o) = Trial does at parked request now (outcome_of o) × (needs (outcome_of o) ≡ None) × (new ≡ false)
 IsTried does at parked request now new (tried.Waits need) = (reply : Reply) × Trial does at parked request now reply × (needs reply ≡ Some need) × (new ≡ parked_by need parked)
+
+-- an execution of the source has led from this progress of it to that
+abbrev pub ProgressAdvances : {A X S : Type 0} → Relations X S → Source → X → Progress A → X → Progress A → Type 0
+ProgressAdvances r source at old now new = executions.Advances r.does source at (progress_of old) now (progress_of new)
+
+-- an execution of the source has stopped after this progress of it, where that one has the responses that are not sent
+abbrev pub ProgressStops : {A X S : Type 0} → Relations X S → Source → X → Progress A → S → X → Progress A → Type 0
+ProgressStops r source at old stop now new = executions.StopsAt r source at (progress_of old) stop now new.gathered

@@ -53,7 +53,6 @@ impl<'t> Cursor<'t> {
     }
 
     /// Parses the unit that was taken last, and moves the path; the first unit of a message is read from the root.
-    #[inline(always)]
     pub(crate) fn request(&mut self, unit: &Unit<'t>, inside: bool) -> Request<'t>
         requires { self.old.read + 1 < 2 ^ 64 }
         ensures request { IsRequest inside (path_at self.old.path (part unit.now)) (part unit.now) result self.new.path }

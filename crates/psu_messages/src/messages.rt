@@ -3,7 +3,7 @@ ghost use Rattle.std.specs.Prelude.{◌≡◌, ℕ, List, is_some, ◌+◌, ◌<
 ghost use Rattle.psu_messages.specs.Relations.{IsAwaited};
 ghost use Rattle.psu_messages.specs.Executions.{Advances, IsNext, IsOver, NextUnit, StopsAt};
 ghost use Rattle.psu_messages.specs.Places.{IsCursor, IsSavedPlace};
-ghost use Rattle.psu_messages.specs.Shown.{progress_of};
+ghost use Rattle.psu_messages.specs.Shown.{ProgressAdvances, ProgressStops, progress_of};
 ghost use Rattle.psu_messages.specs.Stepping.{plain, within};
 ghost use Rattle.psu_messages.specs.Units.{Asks, EndsMessage, Fault, Source, Text};
 
@@ -24,14 +24,12 @@ fn continue_expansion<A: Allocator + Copy, F: Executor<A>>(
     requires some { is_some progress.old.expansion ≡ true }
     requires units { progress.old.units + 1 < 2 ^ 64 }
     ensures advances { IfOk result (λ _. (source : Source)
-        → Advances F.relations.does source executor.old (progress_of progress.old) executor.new
-        (progress_of progress.new)) }
+        → ProgressAdvances F.relations source executor.old progress.old executor.new progress.new) }
     ensures units { IfOk result (λ need. need ≡ None → progress.new.units ≡ progress.old.units + 1) }
     ensures grows { progress.old.units ≤ progress.new.units }
     ensures waits { IfOk result (λ some. IfSome some (IsAwaited F.relations executor.new)) }
     ensures stops { IfErr result (λ stop. (source : Source)
-        → StopsAt F.relations source executor.old
-        (progress_of progress.old) stop executor.new progress.new.gathered) }
+        → ProgressStops F.relations source executor.old progress.old stop executor.new progress.new) }
 {
     let Some(expansion) = &mut progress.expansion else {
         return Ok(None);
@@ -62,13 +60,19 @@ fn begin<A: Allocator + Copy, F: Executor<A>>(
 ) -> Result<Option<Need>, F::Stop>
     requires none { progress.old.expansion ≡ None }
     requires units { progress.old.units + 1 < 2 ^ 64 }
-    ensures advances { IfOk result (λ _. (source : Source) → IsNext source (plain progress.old.units progress.old.parked progress.old.gathered) request.now
-        → Advances F.relations.does source executor.old (plain progress.old.units progress.old.parked progress.old.gathered) executor.new (progress_of progress.new)) }
+    ensures advances { IfOk result (λ _. (source : Source)
+        → IsNext source (plain progress.old.units progress.old.parked progress.old.gathered) request.now
+        → Advances F.relations.does source executor.old
+        (plain progress.old.units progress.old.parked progress.old.gathered) executor.new
+        (progress_of progress.new)) }
     ensures units { IfOk result (λ need. need ≡ None → progress.new.units ≡ progress.old.units + 1) }
     ensures grows { progress.old.units ≤ progress.new.units }
     ensures waits { IfOk result (λ some. IfSome some (IsAwaited F.relations executor.new)) }
-    ensures stops { IfErr result (λ stop. (source : Source) → IsNext source (plain progress.old.units progress.old.parked progress.old.gathered) request.now
-        → StopsAt F.relations source executor.old (plain progress.old.units progress.old.parked progress.old.gathered) stop executor.new progress.new.gathered) }
+    ensures stops { IfErr result (λ stop. (source : Source)
+        → IsNext source (plain progress.old.units progress.old.parked progress.old.gathered) request.now
+        → StopsAt F.relations source executor.old
+        (plain progress.old.units progress.old.parked progress.old.gathered) stop executor.new
+        progress.new.gathered) }
 {
     match attempt(executor, &mut progress.parked, request)? {
         Tried::Waits(need) => Ok(Some(need)),
@@ -93,9 +97,11 @@ fn close_before<A: Allocator + Copy, F: Executor<A>>(
     first: bool,
     progress: &mut Progress<A>,
 ) -> Result<(), F::Stop>
-    ensures advances { OnOk result ((source : Source) → (first ≡ true → progress.old.expansion ≡ None → EndsMessage source progress.old.units None)
-        → Advances F.relations.does source executor.old (progress_of progress.old) executor.new (progress_of progress.new)) }
-    ensures clear { OnOk result (first ≡ true → progress.new.expansion ≡ None → progress.new.gathered.answered ≡ false) }
+    ensures advances { OnOk result ((source : Source) → (first ≡ true → progress.old.expansion ≡ None
+        → EndsMessage source progress.old.units None)
+        → ProgressAdvances F.relations source executor.old progress.old executor.new progress.new) }
+    ensures clear { OnOk result (first ≡ true → progress.new.expansion ≡ None
+        → progress.new.gathered.answered ≡ false) }
     ensures units { progress.new.units ≡ progress.old.units }
     ensures stopped { IfErr result (λ stop. F.relations.stops executor.old stop executor.new) }
     ensures left { OnErr result (progress.new.gathered ≡ progress.old.gathered) }
@@ -119,12 +125,12 @@ fn take_turn<A: Allocator + Copy, F: Executor<A>>(
 ) -> Result<Option<Need>, F::Stop>
     requires { progress.old.units + 1 < 2 ^ 64 }
     ensures advances { IfOk result (λ _. (source : Source) → Asks source progress.old.units request.now first
-        → Advances F.relations.does source executor.old (progress_of progress.old) executor.new (progress_of progress.new)) }
+        → ProgressAdvances F.relations source executor.old progress.old executor.new progress.new) }
     ensures units { IfOk result (λ need. need ≡ None → progress.new.units ≡ progress.old.units + 1) }
     ensures grows { progress.old.units ≤ progress.new.units }
     ensures waits { IfOk result (λ some. IfSome some (IsAwaited F.relations executor.new)) }
     ensures stops { IfErr result (λ stop. (source : Source) → Asks source progress.old.units request.now first
-        → StopsAt F.relations source executor.old (progress_of progress.old) stop executor.new progress.new.gathered) }
+        → ProgressStops F.relations source executor.old progress.old stop executor.new progress.new) }
 {
     close_before(executor, first, progress)?;
     if progress.expansion.is_some() {
@@ -142,12 +148,12 @@ fn execute_units<'t, A: Allocator + Copy, F: Executor<A>>(
 ) -> Result<Option<Need>, F::Stop>
     requires place { IsCursor false cursor.old }
     requires read { cursor.old.read ≡ progress.old.units }
-    ensures advances { IfOk result (λ _. Advances F.relations.does (Text cursor.old.text.now) executor.old
-        (progress_of progress.old) executor.new (progress_of progress.new)) }
+    ensures advances { IfOk result (λ _. ProgressAdvances F.relations
+        (Text cursor.old.text.now) executor.old progress.old executor.new progress.new) }
     ensures over { IfOk result (λ need. need ≡ None → IsOver (Text cursor.old.text.now) (progress_of progress.new)) }
     ensures waits { IfOk result (λ some. IfSome some (IsAwaited F.relations executor.new)) }
-    ensures stops { IfErr result (λ stop. StopsAt F.relations (Text cursor.old.text.now) executor.old
-        (progress_of progress.old) stop executor.new progress.new.gathered) }
+    ensures stops { IfErr result (λ stop. ProgressStops F.relations
+        (Text cursor.old.text.now) executor.old progress.old stop executor.new progress.new) }
     ensures place { IfOk result (λ need. is_some need ≡ true → IsCursor false cursor.new) }
     ensures text { cursor.new.text ≡ cursor.old.text }
     ensures grows { progress.old.units ≤ progress.new.units }
@@ -182,12 +188,12 @@ pub fn execute_text<A: Allocator + Copy, F: Executor<A>>(
     progress: &mut Progress<A>,
 ) -> Result<Option<Need>, F::Stop>
     requires { progress.old.units ≡ 0 }
-    ensures advances { IfOk result (λ _. Advances F.relations.does (Text bytes.now) executor.old
-        (progress_of progress.old) executor.new (progress_of progress.new)) }
+    ensures advances { IfOk result (λ _. ProgressAdvances F.relations
+        (Text bytes.now) executor.old progress.old executor.new progress.new) }
     ensures over { IfOk result (λ need. need ≡ None → IsOver (Text bytes.now) (progress_of progress.new)) }
     ensures waits { IfOk result (λ some. IfSome some (IsAwaited F.relations executor.new)) }
-    ensures stops { IfErr result (λ stop. StopsAt F.relations (Text bytes.now) executor.old
-        (progress_of progress.old) stop executor.new progress.new.gathered) }
+    ensures stops { IfErr result (λ stop. ProgressStops F.relations
+        (Text bytes.now) executor.old progress.old stop executor.new progress.new) }
 {
     let mut cursor = Cursor::of(bytes);
     let need = execute_units(executor, &mut cursor, progress)?;
@@ -201,11 +207,12 @@ pub fn execute_fault<A: Allocator + Copy, F: Executor<A>>(
     error: ScpiError,
     progress: &mut Progress<A>,
 ) -> Result<Option<Need>, F::Stop>
-    ensures advances { IfOk result (λ _. Advances F.relations.does (Fault error) executor.old
-        (progress_of progress.old) executor.new (progress_of progress.new)) }
+    ensures advances { IfOk result (λ _. ProgressAdvances F.relations
+        (Fault error) executor.old progress.old executor.new progress.new) }
     ensures over { IfOk result (λ need. need ≡ None → IsOver (Fault error) (progress_of progress.new)) }
     ensures waits { IfOk result (λ some. IfSome some (IsAwaited F.relations executor.new)) }
-    ensures stops { IfErr result (λ stop. StopsAt F.relations (Fault error) executor.old (progress_of progress.old) stop executor.new progress.new.gathered) }
+    ensures stops { IfErr result (λ stop. ProgressStops F.relations
+        (Fault error) executor.old progress.old stop executor.new progress.new) }
 {
     if progress.units > 0 {
         close(executor, &mut progress.gathered)?;
@@ -235,12 +242,12 @@ pub(crate) fn execute_rest<A: Allocator + Copy, F: Executor<A>>(
 ) -> Result<Option<Need>, F::Stop>
     requires kept { IsSavedPlace false bytes.now place.old }
     requires done { place.old.read ≤ progress.old.units }
-    ensures advances { IfOk result (λ _. Advances F.relations.does (Text bytes.now) executor.old
-        (progress_of progress.old) executor.new (progress_of progress.new)) }
+    ensures advances { IfOk result (λ _. ProgressAdvances F.relations
+        (Text bytes.now) executor.old progress.old executor.new progress.new) }
     ensures over { IfOk result (λ need. need ≡ None → IsOver (Text bytes.now) (progress_of progress.new)) }
     ensures waits { IfOk result (λ some. IfSome some (IsAwaited F.relations executor.new)) }
-    ensures stops { IfErr result (λ stop. StopsAt F.relations (Text bytes.now) executor.old
-        (progress_of progress.old) stop executor.new progress.new.gathered) }
+    ensures stops { IfErr result (λ stop. ProgressStops F.relations
+        (Text bytes.now) executor.old progress.old stop executor.new progress.new) }
     ensures kept { IsSavedPlace false bytes.now place.new }
     ensures done { place.new.read ≤ progress.new.units }
 {

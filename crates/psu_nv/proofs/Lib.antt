@@ -13,4 +13,3 @@ pub mod Filed
 pub mod Kept
 pub mod Determining
 pub mod Edits
-pub mod ItemsAt

@@ -1,5 +1,5 @@
 -- The commands and the types of the code, as data with no borrows.
-use Rattle.std.specs.Prelude.{ℕ, Option, Some, None, if◌then◌else◌, ◌==◌}
+use Rattle.std.specs.Prelude.{ℕ, Option, Some, None, List, codes, unwrap_or, if◌then◌else◌, ◌==◌}
 use Rattle.psu_nv.specs.Commands.{Command, ServiceEnable, EventEnable, PowerOnClear, Save, User, DefineMacro, RemoveMacro, PurgeMacros, StoreBytes, Delete, Copy, Move, StoreState, LoadState, StoreMacro, LoadMacro, Recall}
 use Rattle.psu_nv.specs.declared.file.FileKind.{FileKind}
 use Rattle.psu_nv.specs.declared.file.FileKind.TheVariants.{Binary, State, Macro}
@@ -17,6 +17,16 @@ code_of Macro = 2
 
 abbrev pub kind_of : ℕ → Option FileKind
 kind_of code = if code == 0 then Some Binary else (if code == 1 then Some State else (if code == 2 then Some Macro else None))
+
+-- the type of a stored file by its type byte; a byte that encodes no type is read as that of a macro
+abbrev pub stored_kind : ℕ → FileKind
+stored_kind code = unwrap_or (kind_of code) Macro
+
+-- the type as text
+abbrev pub kind_text : FileKind → List ℕ
+kind_text Binary = codes "BIN"
+kind_text State = codes "STAT"
+kind_text Macro = codes "MACR"
 
 -- the command as data
 abbrev pub command_of : NvCommand → Command

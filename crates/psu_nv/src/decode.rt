@@ -13,10 +13,11 @@ ghost use Rattle.psu_nv.specs.Decoding.{has_keys, RepresentsContents, IsFault, f
 use crate::files::Files;
 use crate::keys::{files_of, fit_files, has_keys};
 use crate::macros::Macros;
+use crate::part::{ENABLES_KEY, MACROS_KEY, RECALL_KEY, REGISTER_KEY, USER_KEY};
 use crate::recall::recall_in;
 use crate::registers::Registers;
 use crate::written::{Written, WrittenMacros, macros_of};
-use crate::{Contents, Register, UserData};
+use crate::{Contents, REGISTERS, Register, UserData};
 use arrayvec::ArrayVec;
 use psu_map::Items;
 use psu_outputs::Settings;
@@ -84,11 +85,11 @@ fn parts_of<A: Allocator + Copy>(items: &Items<A>) -> Result<Read<'_>, DecodeFau
     ensures bad { IfErr result (λ e. e ≡ BadValue) }
     ensures none { IfErr result (λ e. RepresentsContents items.now → ⊥) }
 {
-    let enables = enables_in(items.get(&[1]))?;
+    let enables = enables_in(items.get(&[ENABLES_KEY]))?;
     let registers = registers_in(items)?;
-    let user = user_in(items.get(&[3]))?;
-    let macros = macros_in(items.get(&[4]))?;
-    let recall = recall_in(items.get(&[6]))?;
+    let user = user_in(items.get(&[USER_KEY]))?;
+    let macros = macros_in(items.get(&[MACROS_KEY]))?;
+    let recall = recall_in(items.get(&[RECALL_KEY]))?;
     if !fit_files(items.pairs()) {
         return Err(DecodeFault::BadValue);
     }
@@ -166,11 +167,11 @@ fn registers_in<A: Allocator + Copy>(items: &Items<A>) -> Result<Registers, Deco
     ensures none { IfErr result (λ e. RepresentsContents items.now → ⊥) }
 {
     let mut registers = Registers::reset();
-    for number in 0..100 {
+    for number in 0..REGISTERS as u8 {
         put_register(
             &mut registers,
             number,
-            register_in(items.get(&[2, number]))?,
+            register_in(items.get(&[REGISTER_KEY, number]))?,
         );
     }
     Ok(registers)

@@ -6,8 +6,7 @@ ghost use Rattle.psu_nv.specs.Contents.{items_of, enables_items, register_items,
 ghost use Rattle.psu_nv.specs.Parts.{key_of, part_items, value_in, edit_of};
 ghost use Rattle.psu_nv.specs.Views.{part_of};
 
-use crate::part::with_first;
-use crate::{Contents, Part, Register};
+use crate::{Contents, Part, REGISTERS, Register};
 use psu_map::{Batch, Items, Value};
 use psu_outputs::Settings;
 use psu_status::Enables;
@@ -35,7 +34,7 @@ impl<A: Allocator + Copy> Contents<A> {
     {
         // A field is named, so that the proof has the invariant of the contents.
         let _ = &self.alloc;
-        for number in 0..100 {
+        for number in 0..REGISTERS as u8 {
             if let Some(register) = Register::of(number) {
                 self.append(alloc, items, Part::Register(register))?;
             }
@@ -50,7 +49,7 @@ impl<A: Allocator + Copy> Contents<A> {
         ensures { OnOk result (items.new ≡ items.old ++ map file_item self.now.files) }
     {
         for pair in self.files.pairs() {
-            let key = with_first(alloc, 5, pair.key())?;
+            let key = Part::File(pair.key()).key(alloc)?;
             items.append(key, pair.share_value()?)?;
         }
         Ok(())

@@ -1,6 +1,6 @@
 //! Files as they are read and stored: their types, and settings in them.
 ghost use Rattle.std.specs.Prelude.{◌≡◌, Some, None, if◌then◌else◌};
-ghost use Rattle.psu_nv.specs.Views.{code_of, kind_of};
+ghost use Rattle.psu_nv.specs.Views.{code_of, kind_of, kind_text, stored_kind};
 ghost use Rattle.psu_nv.specs.Commands.{is_state, settings_in};
 
 use psu_outputs::Settings;
@@ -44,6 +44,25 @@ impl FileKind {
             1 => Some(FileKind::State),
             2 => Some(FileKind::Macro),
             _ => None,
+        }
+    }
+
+    /// The type of a stored file, by its type byte. Contents have only bytes that encode a type; any other is read as
+    /// that of a macro.
+    pub fn of_stored(code: u8) -> FileKind
+        ensures { result ≡ stored_kind code }
+    {
+        FileKind::of_code(code).unwrap_or(FileKind::Macro)
+    }
+
+    /// The type as text.
+    pub fn text(self) -> &'static [u8]
+        ensures { result.now ≡ kind_text self }
+    {
+        match self {
+            FileKind::Binary => b"BIN",
+            FileKind::State => b"STAT",
+            FileKind::Macro => b"MACR",
         }
     }
 }

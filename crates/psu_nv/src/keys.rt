@@ -2,8 +2,9 @@
 ghost use Rattle.std.specs.Prelude.{◌≡◌, IfOk, option_map};
 ghost use Rattle.psu_map.specs.Map.{IsSorted};
 ghost use Rattle.psu_nv.specs.Contents.{begins_with_kind};
-ghost use Rattle.psu_nv.specs.Decoding.{is_number, is_single, is_key, has_keys, name_in, files_in, fits_file, fit_files};
+ghost use Rattle.psu_nv.specs.Decoding.{is_key, has_keys, name_in, files_in, fits_file, fit_files};
 
+use crate::Part;
 use crate::file::FileKind;
 use psu_lex::is_name;
 use psu_map::{Items, Pair};
@@ -16,32 +17,14 @@ pub(crate) fn has_keys<A: Allocator + Copy>(pairs: &[Pair<A>]) -> bool
     pairs.iter().all(|pair| is_key(pair.key()))
 }
 
-// Whether contents may have a key: 1, 3, 4 or 6 alone, 2 and the number of a register, 5 and a file's name.
+// Whether contents may have a key: that of a part, and of a file only with a valid name.
 fn is_key(key: &[u8]) -> bool
     ensures { result ≡ is_key key.now }
 {
-    match key {
-        [] => false,
-        [2, rest @ ..] => is_number(rest),
-        [5, name @ ..] => is_name(name),
-        [kind, rest @ ..] => is_single(*kind) && rest.is_empty(),
-    }
-}
-
-// Whether this byte alone is the key of a part.
-fn is_single(kind: u8) -> bool
-    ensures { result ≡ is_single kind }
-{
-    kind >= 1 && kind <= 4 || kind == 6
-}
-
-// Whether the bytes are the number of a register, and nothing after it.
-fn is_number(bytes: &[u8]) -> bool
-    ensures { result ≡ is_number bytes.now }
-{
-    match bytes {
-        [number] => *number <= 99,
-        _ => false,
+    match Part::of_key(key) {
+        Some(Part::File(name)) => is_name(name),
+        Some(_) => true,
+        None => false,
     }
 }
 
@@ -49,8 +32,8 @@ fn is_number(bytes: &[u8]) -> bool
 fn name_in(key: &[u8]) -> Option<&[u8]>
     ensures { option_map (λ name. name.now) result ≡ name_in key.now }
 {
-    match key {
-        [5, name @ ..] => Some(name),
+    match Part::of_key(key) {
+        Some(Part::File(name)) => Some(name),
         _ => None,
     }
 }

@@ -39,6 +39,7 @@ pub use file::{File, FileKind};
 pub use file_bytes::FileBytes;
 pub use label::Label;
 pub use laws::{edits_of_parts_make_the_map, items_determine_contents, parts_are_the_whole};
+pub use limits::REGISTERS;
 pub use part::Part;
 pub use register::Register;
 pub use user_data::UserData;

@@ -4,6 +4,7 @@ ghost use Rattle.psu_map.specs.Map.{cost};
 ghost use Rattle.psu_nv.specs.Contents.{enables_items, user_items};
 ghost use Rattle.psu_nv.specs.Costs.{page_count};
 
+use psu_map::PAGE_SIZE;
 use psu_status::Enables;
 
 // The pages of each part.
@@ -35,7 +36,7 @@ pub(crate) fn page_count(size: u128) -> u128
     ensures value { result ≡ page_count size }
     ensures most { result < 2 ^ 121 }
 {
-    1 + (size + 511) / 512
+    1 + (size + (PAGE_SIZE - 1)) / PAGE_SIZE
 }
 
 pub(crate) fn enables_pages(enables: Option<Enables>) -> u8

@@ -1,11 +1,24 @@
 //! The parts of contents, each stored under a key of its own.
-ghost use Rattle.std.specs.Prelude.{◌≡◌, ◌∷◌, [], true, false, IfOk, IfSome, IfNone};
-ghost use Rattle.psu_nv.specs.Decoding.{is_key, is_number, is_single};
+ghost use Rattle.std.specs.Prelude.{◌≡◌, ◌∷◌, [], true, false, None, IfOk, IfSome, IfNone};
+ghost use Rattle.psu_nv.specs.Decoding.{is_key, is_number, is_single, name_in};
 ghost use Rattle.psu_nv.specs.Parts.{key_of};
 ghost use Rattle.psu_nv.specs.Views.{part_of};
 
 use crate::Register;
 use std::alloc::{AllocError, Allocator};
+
+// The first byte of the key of each part.
+pub(crate) const ENABLES_KEY: u8 = 1;
+
+pub(crate) const REGISTER_KEY: u8 = 2;
+
+pub(crate) const USER_KEY: u8 = 3;
+
+pub(crate) const MACROS_KEY: u8 = 4;
+
+const FILE_KEY: u8 = 5;
+
+pub(crate) const RECALL_KEY: u8 = 6;
 
 /// A part of the contents: what the map has at one key.
 #[derive(Clone, Copy)]
@@ -30,12 +43,12 @@ impl<'a> Part<'a> {
         ensures { IfOk result (λ key. key.items ≡ key_of (part_of self.entry)) }
     {
         match self {
-            Part::Enables => [1].to_vec(alloc),
-            Part::Register(register) => [2, register.number()].to_vec(alloc),
-            Part::User => [3].to_vec(alloc),
-            Part::Macros => [4].to_vec(alloc),
-            Part::File(name) => with_first(alloc, 5, name),
-            Part::Recall => [6].to_vec(alloc),
+            Part::Enables => [ENABLES_KEY].to_vec(alloc),
+            Part::Register(register) => [REGISTER_KEY, register.number()].to_vec(alloc),
+            Part::User => [USER_KEY].to_vec(alloc),
+            Part::Macros => [MACROS_KEY].to_vec(alloc),
+            Part::File(name) => with_first(alloc, FILE_KEY, name),
+            Part::Recall => [RECALL_KEY].to_vec(alloc),
         }
     }
 
@@ -44,11 +57,12 @@ impl<'a> Part<'a> {
     pub fn of_key(key: &'a [u8]) -> Option<Part<'a>>
         ensures some { IfSome result (λ part. key.now ≡ key_of (part_of part)) }
         ensures none { IfNone result (is_key key.now ≡ false) }
+        ensures no_file { IfNone result (name_in key.now ≡ None) }
     {
         match key {
             [] => None,
-            [2, number @ ..] => Part::of_number(number),
-            [5, name @ ..] => Some(Part::File(name)),
+            [REGISTER_KEY, number @ ..] => Part::of_number(number),
+            [FILE_KEY, name @ ..] => Some(Part::File(name)),
             [kind] => Part::of_kind(*kind),
             [_, ..] => None,
         }
@@ -73,16 +87,16 @@ impl<'a> Part<'a> {
         ensures none { IfNone result (is_single kind ≡ true → kind ≡ 2) }
     {
         match kind {
-            1 => Some(Part::Enables),
-            3 => Some(Part::User),
-            4 => Some(Part::Macros),
-            6 => Some(Part::Recall),
+            ENABLES_KEY => Some(Part::Enables),
+            USER_KEY => Some(Part::User),
+            MACROS_KEY => Some(Part::Macros),
+            RECALL_KEY => Some(Part::Recall),
             _ => None,
         }
     }
 }
 
-pub(crate) fn with_first<A: Allocator + Copy>(
+fn with_first<A: Allocator + Copy>(
     alloc: A,
     first: u8,
     bytes: &[u8],

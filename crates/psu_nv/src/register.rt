@@ -1,6 +1,8 @@
 //! The registers by number.
 ghost use Rattle.std.specs.Prelude.{◌≡◌, ◌<◌, ◌≤◌, IfSome, IfNone};
 
+use crate::REGISTERS;
+
 /// One of the hundred registers of settings, 0 to 99.
 #[derive(Clone, Copy, Debug, PartialEq, Eq)]
 pub struct Register {
@@ -14,7 +16,7 @@ impl Register {
         ensures found { IfSome result (λ register. register.number ≡ number) }
         ensures none { IfNone result (100 ≤ number) }
     {
-        if number < 100 {
+        if usize::from(number) < REGISTERS {
             Some(Register { number })
         } else {
             None

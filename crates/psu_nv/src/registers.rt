@@ -4,7 +4,7 @@ ghost use Rattle.psu_outputs.specs.Settings.{reset, is_reset};
 ghost use Rattle.psu_nv.specs.Commands.{settings_at};
 ghost use Rattle.psu_nv.specs.Costs.{registers_cost};
 
-use crate::Register;
+use crate::{REGISTERS, Register};
 use psu_outputs::Settings;
 use std::marker::Model;
 
@@ -12,8 +12,8 @@ use std::marker::Model;
 // so that no command iterates over them. Contracts see the list of settings.
 #[derive(Drop)]
 pub(crate) struct Registers {
-    all: [Settings; 100],
-    reset: [bool; 100],
+    all: [Settings; REGISTERS],
+    reset: [bool; REGISTERS],
     pages: u8,
 }
 
@@ -36,8 +36,8 @@ impl Registers {
         ensures { result ≡ replicate 100 reset }
     {
         Registers {
-            all: [Settings::reset(); 100],
-            reset: [true; 100],
+            all: [Settings::reset(); REGISTERS],
+            reset: [true; REGISTERS],
             pages: 0,
         }
     }

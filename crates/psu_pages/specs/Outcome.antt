@@ -1,14 +1,31 @@
 -- What the calls on pages require and ensure.
-use Rattle.std.specs.Prelude.{◌≡◌, ℕ, ◌+◌, ◌/◌, true, false, List, [], Result, Ok, Err}
+use Rattle.std.specs.Prelude.{◌≡◌, ℕ, ◌+◌, ◌/◌, true, false, List, [], map, Result, Ok, Err}
 use Rattle.std.specs.List.{AllByRecursion}
+use Rattle.psu_disk.specs.Disk.{IsCrashImage, SameBut}
 use Rattle.psu_disk.specs.declared.disk.Disk.{Ghosts}
 use Rattle.psu_pages.specs.Free.{is_free, AreClaimed, Marks, HandsOver}
-use Rattle.psu_pages.specs.Image.{other, Head, IsHead, IsInPool, AreApart, AreClear, taken, pages_of}
+use Rattle.psu_pages.specs.Image.{other, gate_at, Head, IsHead, IsInPool, AreApart, AreClear, taken, pages_of}
+use Rattle.psu_pages.specs.Shown.{item_in, items_in, Encodes, EncodesEither}
+use Rattle.psu_pages.specs.Writing.{Reaches}
 use Rattle.psu_pages.specs.declared.pages.Pages.{Pages}
 use Rattle.psu_pages.specs.declared.root.Root.TheVariants.{First}
 use Rattle.psu_pages.specs.declared.faults.FormatFault.{FormatFault}
 use Rattle.psu_pages.specs.declared.faults.ImageError.{ImageError}
 use Rattle.psu_pages.specs.declared.standing.Standing.TheVariants.{One, Both}
+
+-- the image encodes the root, the heads and the items of these pages
+abbrev pub EncodesPages : {D A : Type 0} {G : Ghosts D} → Pages D A G → List ℕ → Type 0
+EncodesPages {D} {A} {G} pages = Encodes pages.root pages.version pages.limit pages.number pages.heads.items (items_in pages.root (Ghosts.state G pages.disk).bytes)
+
+-- the image encodes these pages, or as the next root these heads, with the items that the disk has for them
+abbrev pub EncodesPagesOrHeads : {D A : Type 0} {G : Ghosts D} → Pages D A G → List Head → List ℕ → Type 0
+EncodesPagesOrHeads {D} {A} {G} pages heads =
+    let bytes = (Ghosts.state G pages.disk).bytes in
+    EncodesEither (other pages.root) pages.version pages.limit pages.number pages.heads.items (items_in pages.root bytes) heads (map (item_in bytes) heads)
+
+-- only the gate of the older root is written
+abbrev pub Closes : {D A : Type 0} {G : Ghosts D} → Pages D A G → List ℕ → Type 0
+Closes {D} {A} {G} pages = Reaches (SameBut (gate_at (other pages.root)) 1) (IsCrashImage (Ghosts.state G pages.disk))
 
 -- the head has pages that are claimed and that no root names
 pub record IsPlanned {D A : Type 0} {G : Ghosts D} (pages : Pages D A G) (head : Head) : Type 0 where

@@ -9,14 +9,14 @@ use crate::gates::make_sure;
 use crate::pick::pick;
 use crate::reading::read_page;
 use crate::words::{check, open_number, words_on};
-use crate::{BadImage, Root, Standing};
+use crate::{BadImage, PAGE_SIZE, Root, Standing};
 use psu_disk::{Disk, DiskFault};
 
 /// The pages of the two roots.
 #[derive(Drop)]
 pub(crate) struct Roots {
-    pub first: [u8; 512],
-    pub second: [u8; 512],
+    pub first: [u8; PAGE_SIZE],
+    pub second: [u8; PAGE_SIZE],
 }
 
 impl Roots {
@@ -68,8 +68,8 @@ pub(crate) fn read_roots<D: Disk>(disk: &mut D) -> Result<Roots, DiskFault>
     ensures left { LeavesImages D.Disk disk.old disk.new (IsCrashImage (D.state disk.old)) }
 {
     let mut roots = Roots {
-        first: [0; 512],
-        second: [0; 512],
+        first: [0; PAGE_SIZE],
+        second: [0; PAGE_SIZE],
     };
     make_sure(disk)?;
     read_page(disk, 0, &mut roots.first)?;

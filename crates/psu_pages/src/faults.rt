@@ -5,6 +5,7 @@ ghost use Rattle.psu_pages.specs.declared.faults.PageFault.TheVariants as page_f
 
 use psu_disk::DiskFault;
 use std::alloc::AllocError;
+use thiserror::Error;
 
 /// Why an image represents no items.
 #[derive(Clone, Copy, Debug, PartialEq, Eq, Drop)]
@@ -61,11 +62,13 @@ pub struct ImageError<D> {
 }
 
 /// Why a disk wasn't formatted.
-#[derive(Clone, Copy, Debug, PartialEq, Eq, Drop)]
+#[derive(Clone, Copy, Debug, PartialEq, Eq, Error)]
 pub enum FormatCause {
     /// A call of the disk failed.
+    #[error("device fault")]
     Device,
     /// An allocation failed.
+    #[error("out of memory")]
     Memory,
 }
 

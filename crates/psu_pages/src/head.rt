@@ -4,6 +4,7 @@ ghost use Rattle.std.specs.List.{AllByRecursion};
 ghost use Rattle.psu_pages.specs.Image.{head_of, head_on, head_after, words, IsHead};
 ghost use Rattle.psu_pages.specs.Spelling.{spelled, spelled_words};
 
+use crate::PAGE_SIZE;
 use crate::page::Page;
 use crate::words::{long, word};
 use std::alloc::{AllocError, Allocator};
@@ -132,7 +133,7 @@ impl<A: Allocator + Copy> Head<A> {
         if size == 0 || size > 33280 {
             return Ok(None);
         }
-        if u32::from(count) != (size + 511) / 512 {
+        if usize::from(count) != (size as usize + (PAGE_SIZE - 1)) / PAGE_SIZE {
             return Ok(None);
         }
         let key = key.to_vec(alloc)?;

@@ -7,7 +7,7 @@ ghost use Rattle.psu_pages.specs.Image.{value_in, IsHead, IsInPool, Head as Head
 ghost use Rattle.psu_pages.specs.declared.faults.PageFault.TheVariants.{Device, NoPage};
 
 use crate::reading::read_page;
-use crate::{Head, PageFault, Pages};
+use crate::{Head, PAGE_SIZE, PageFault, Pages};
 use psu_disk::Disk;
 use std::alloc::Allocator;
 
@@ -26,9 +26,9 @@ pub(crate) fn read_value<D: Disk, A: Allocator + Copy>(
     ensures seen { D.honest → (D.state disk.new).bytes ≡ (D.state disk.old).bytes }
     ensures left { LeavesImages D.Disk disk.old disk.new (IsCrashImage (D.state disk.old)) }
 {
-    let mut value = Vec::with_capacity(alloc, 512 * head.pages().len())?;
+    let mut value = Vec::with_capacity(alloc, PAGE_SIZE * head.pages().len())?;
     for page in head.pages() {
-        let mut bytes = [0; 512];
+        let mut bytes = [0; PAGE_SIZE];
         read_page(disk, *page, &mut bytes)?;
         value.extend_from_slice(&bytes)?;
     }

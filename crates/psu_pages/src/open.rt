@@ -12,7 +12,7 @@ use crate::checks::stand_together;
 use crate::choose::{Chosen, choose, read_roots};
 use crate::head::read_words;
 use crate::scan::scan;
-use crate::{BadImage, FreeMap, Head, ImageError, OpenCause, Pages, Standing};
+use crate::{BadImage, FreeMap, Head, ImageError, OpenCause, PAGE_SIZE, Pages, Standing};
 use psu_disk::Disk;
 use std::alloc::Allocator;
 
@@ -44,7 +44,7 @@ impl<D: Disk, A: Allocator + Copy> Pages<D, A> {
         ensures seen { D.honest → (D.state (opened_disk result)).bytes ≡ (D.state disk).bytes }
         ensures left { LeavesImages D.Disk disk (opened_disk result) (IsCrashImage (D.state disk)) }
     {
-        if disk.size() < 1024 {
+        if disk.size() < 2 * PAGE_SIZE as u64 {
             return Err(ImageError {
                 cause: OpenCause::Image(BadImage::NoRoot),
                 disk,

@@ -2,12 +2,13 @@
 ghost use Rattle.std.specs.Prelude.{◌≡◌, ◌+◌, ◌≤◌, ◌++◌, [], length, drop};
 ghost use Rattle.psu_pages.specs.Spelling.{filled};
 
+use crate::PAGE_SIZE;
 use std::marker::Model;
 
 /// The first bytes of a page, and zeros after them. Contracts see only the first bytes.
 #[derive(Drop)]
 pub(crate) struct Page {
-    bytes: [u8; 512],
+    bytes: [u8; PAGE_SIZE],
     used: usize,
 }
 
@@ -27,7 +28,7 @@ impl Page {
         ensures { result ≡ [] }
     {
         Page {
-            bytes: [0; 512],
+            bytes: [0; PAGE_SIZE],
             used: 0,
         }
     }

@@ -44,6 +44,8 @@ pub struct Pages<D: Disk, A: Allocator + Copy> {
 }
 
 impl<D: Disk, A: Allocator + Copy> Pages<D, A> {
+    ghost use Rattle.psu_pages.specs.Outcome.{EncodesPages};
+
     /// The heads of the current root, in the order in which it names them.
     pub fn heads(&self) -> &[Head<A>]
         ensures value { result.now ≡ self.now.heads.items }
@@ -51,8 +53,7 @@ impl<D: Disk, A: Allocator + Copy> Pages<D, A> {
         ensures claimed { AreClaimed self.now.free (taken result.now) }
         ensures there { D.honest → self.now.standing ≢ Unsure → AllByRecursion (λ head. head_at (D.state self.now.disk).bytes head.at ≡ head) result.now }
         ensures encodes { D.honest → self.now.standing ≢ Unsure
-            → EachEncodes (D.state self.now.disk) self.now.root self.now.version self.now.limit self.now.number
-            result.now (items_in self.now.root (D.state self.now.disk).bytes) }
+            → (image : List ℕ) → IsCrashImage (D.state self.now.disk) image → EncodesPages self.now image }
     {
         &self.heads
     }
@@ -96,8 +97,7 @@ impl<D: Disk, A: Allocator + Copy> Pages<D, A> {
     pub fn into_disk(self) -> D
         ensures value { result ≡ self.disk }
         ensures encodes { D.honest → self.standing ≢ Unsure
-            → EachEncodes (D.state result) self.root self.version self.limit self.number self.heads.items
-            (items_in self.root (D.state result).bytes) }
+            → (image : List ℕ) → IsCrashImage (D.state result) image → EncodesPages self image }
     {
         self.disk
     }

@@ -4,7 +4,7 @@ ghost use Rattle.psu_pages.specs.Free.{free_pages, Marks};
 ghost use Rattle.psu_pages.specs.Image.{AreClear, pages_of, Head as HeadOf};
 ghost use Rattle.psu_pages.specs.declared.faults.PageFault.TheVariants.{NoPage, Device, Memory};
 
-use crate::{Head, PageFault, Pages};
+use crate::{Head, PAGE_SIZE, PageFault, Pages};
 use psu_disk::Disk;
 use std::alloc::Allocator;
 
@@ -25,7 +25,7 @@ impl<D: Disk, A: Allocator + Copy> Pages<D, A> {
         ensures no_call { IsErrOf result Device → ⊥ }
         ensures unchanged { OnErr result (self.new ≡ self.old) }
     {
-        let count = 1 + (size as usize + 511) / 512;
+        let count = 1 + (size as usize + (PAGE_SIZE - 1)) / PAGE_SIZE;
         let mut pages = self.free.pick_free(alloc, count)?;
         let key = key.to_vec(alloc)?;
         let at = pages.remove(0);

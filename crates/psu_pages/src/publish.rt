@@ -6,7 +6,7 @@ ghost use Rattle.psu_disk.specs.Steps.{DiskStep, LeavesImages};
 ghost use Rattle.psu_pages.specs.Free.{AreClaimed, IsRoster};
 ghost use Rattle.psu_pages.specs.Finding.{page_of};
 ghost use Rattle.psu_pages.specs.Image.{AreClear, IsInPool, gate, gate_at, head_at, other, pages_of, taken, Head as HeadOf};
-ghost use Rattle.psu_pages.specs.Shown.{item_in, items_in, Encodes, EncodesEither};
+ghost use Rattle.psu_pages.specs.Shown.{item_in, items_in};
 ghost use Rattle.psu_pages.specs.Spelling.{head_drafts, open_root};
 ghost use Rattle.psu_pages.specs.Writing.{Misses, Reaches, AreWritten, IsWritten};
 ghost use Rattle.psu_pages.specs.declared.faults.PageFault.TheVariants.{Device};
@@ -24,7 +24,7 @@ use std::alloc::Allocator;
 use std::mem;
 
 impl<D: Disk, A: Allocator + Copy> Pages<D, A> {
-    ghost use Rattle.psu_pages.specs.Outcome.{IsPlanned, HasSameHeads, HasPublished, HasClosed};
+    ghost use Rattle.psu_pages.specs.Outcome.{Closes, EncodesPages, EncodesPagesOrHeads, IsPlanned, HasSameHeads, HasPublished, HasClosed};
 
     /// Writes the head of an item that was planned, and its value, each page by one call of the disk.
     pub fn write_new(&mut self, head: &Head<A>, value: &[u8]) -> Result<(), PageFault>
@@ -44,9 +44,7 @@ impl<D: Disk, A: Allocator + Copy> Pages<D, A> {
 
         // At every moment the disk represents the same items, and no page but those of the head is written.
         ensures shown { D.honest → items_in self.new.root (D.state self.new.disk).bytes ≡ items_in self.old.root (D.state self.old.disk).bytes }
-        ensures left { LeavesImages D.Disk self.old.disk self.new.disk
-            (Encodes self.old.root self.old.version self.old.limit self.old.number self.old.heads.items
-            (items_in self.old.root (D.state self.old.disk).bytes)) }
+        ensures left { LeavesImages D.Disk self.old.disk self.new.disk (EncodesPages self.old) }
         ensures touched { LeavesImages D.Disk self.old.disk self.new.disk (Reaches (Misses (pages_of head.now)) (IsCrashImage (D.state self.old.disk))) }
     {
         let standing = self.standing;
@@ -77,10 +75,7 @@ impl<D: Disk, A: Allocator + Copy> Pages<D, A> {
 
         // At every moment the disk represents the items from before, or those of the heads, and no page but the next
         // root's is written.
-        ensures left { LeavesImages D.Disk self.old.disk self.new.disk
-            (EncodesEither (other self.old.root) self.old.version self.old.limit self.old.number
-            self.old.heads.items (items_in self.old.root (D.state self.old.disk).bytes) heads.items
-            (map (item_in (D.state self.old.disk).bytes) heads.items)) }
+        ensures left { LeavesImages D.Disk self.old.disk self.new.disk (EncodesPagesOrHeads self.old heads.items) }
         ensures touched { LeavesImages D.Disk self.old.disk self.new.disk
             (Reaches (SameBut (gate_at (other self.old.root)) 512) (IsCrashImage (D.state self.old.disk))) }
     {
@@ -110,11 +105,8 @@ impl<D: Disk, A: Allocator + Copy> Pages<D, A> {
 
         // At every moment the disk represents the same items, and nothing but the older gate is written.
         ensures shown { D.honest → OnOk result (items_in self.new.root (D.state self.new.disk).bytes ≡ items_in self.old.root (D.state self.old.disk).bytes) }
-        ensures left { LeavesImages D.Disk self.old.disk self.new.disk
-            (Encodes self.old.root self.old.version self.old.limit self.old.number self.old.heads.items
-            (items_in self.old.root (D.state self.old.disk).bytes)) }
-        ensures touched { LeavesImages D.Disk self.old.disk self.new.disk
-            (Reaches (SameBut (gate_at (other self.old.root)) 1) (IsCrashImage (D.state self.old.disk))) }
+        ensures left { LeavesImages D.Disk self.old.disk self.new.disk (EncodesPages self.old) }
+        ensures touched { LeavesImages D.Disk self.old.disk self.new.disk (Closes self.old) }
     {
         let Standing::Both = self.standing else {
             return Ok(());

@@ -4,6 +4,7 @@ ghost use Rattle.psu_disk.specs.Disk.{IsCrashImage};
 ghost use Rattle.psu_disk.specs.Steps.{DiskStep, LeavesImages};
 ghost use Rattle.psu_pages.specs.Image.{page_in};
 
+use crate::PAGE_SIZE;
 use psu_disk::{Disk, DiskFault};
 
 /// Reads a page.
@@ -15,6 +16,6 @@ pub(crate) fn read_page<D: Disk>(disk: &mut D, page: u16, into: &mut [u8]) -> Re
     ensures seen { D.honest → (D.state disk.new).bytes ≡ (D.state disk.old).bytes }
     ensures left { LeavesImages D.Disk disk.old disk.new (IsCrashImage (D.state disk.old)) }
 {
-    disk.read(512 * u64::from(page), into)?;
+    disk.read(PAGE_SIZE as u64 * u64::from(page), into)?;
     Ok(())
 }

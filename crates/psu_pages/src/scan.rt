@@ -8,7 +8,7 @@ ghost use Rattle.psu_pages.specs.Finding.{IsFit, AreFit, CanStand};
 
 use crate::pool::pool;
 use crate::reading::read_page;
-use crate::{FreeMap, Head, OpenCause};
+use crate::{FreeMap, Head, OpenCause, PAGE_SIZE};
 use psu_disk::Disk;
 use std::alloc::{AllocError, Allocator};
 
@@ -76,7 +76,7 @@ fn read_head<D: Disk, A: Allocator + Copy>(
     if !free.take(name) {
         return Ok(None);
     }
-    let mut page = [0; 512];
+    let mut page = [0; PAGE_SIZE];
     read_page(disk, name, &mut page)?;
     let Some(head) = Head::on(alloc, name, &page)? else {
         return Ok(None);

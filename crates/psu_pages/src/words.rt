@@ -4,9 +4,9 @@ ghost use Rattle.std.specs.Int.{w16, w32, w64, from_be_bytes};
 ghost use Rattle.psu_disk.specs.Disk.{Range};
 ghost use Rattle.psu_pages.specs.Finding.{IsSound, IsUnsound};
 
-use crate::BadImage;
 use crate::gates::GATE_OPEN;
 use crate::version::is_known;
+use crate::{BadImage, PAGE_SIZE};
 
 /// The fields of a root after its gate, without its number and the pages of its heads.
 #[derive(Clone, Copy, Debug, Drop)]
@@ -89,7 +89,7 @@ pub(crate) fn check(words: &Words, size: u64) -> Result<(), BadImage>
         return Err(BadImage::BadVersion);
     }
     let limit = u64::from(words.limit);
-    if limit < 4 || limit > 480 || size < 512 * (2 + 2 * limit) || words.count > 240 {
+    if limit < 4 || limit > 480 || size < PAGE_SIZE as u64 * (2 + 2 * limit) || words.count > 240 {
         return Err(BadImage::BadRoot);
     }
     Ok(())

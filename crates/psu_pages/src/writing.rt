@@ -7,8 +7,8 @@ ghost use Rattle.psu_pages.specs.Image.{IsHead, AreApart, page_in, pages_of};
 ghost use Rattle.psu_pages.specs.Spelling.{filled, value_drafts, head_drafts};
 ghost use Rattle.psu_pages.specs.Writing.{Misses, Reaches, AreWritten, IsWritten};
 
-use crate::Head;
 use crate::page::Page;
+use crate::{Head, PAGE_SIZE};
 use psu_disk::{Disk, DiskFault};
 use std::alloc::Allocator;
 
@@ -58,10 +58,10 @@ fn first_page(bytes: &[u8]) -> (&[u8], &[u8])
     ensures fits { length result.0.now ≤ 512 }
     ensures rest { result.1.now ≡ drop 512 bytes.now }
 {
-    if bytes.len() < 512 {
+    if bytes.len() < PAGE_SIZE {
         return (bytes, &[]);
     }
-    bytes.split_at(512)
+    bytes.split_at(PAGE_SIZE)
 }
 
 // Writes a page.
@@ -72,6 +72,6 @@ fn write_page<D: Disk>(disk: &mut D, at: u16, page: &Page) -> Result<(), DiskFau
     ensures seen { D.honest → Misses (at ∷ []) (D.state disk.old).bytes (D.state disk.new).bytes }
     ensures left { LeavesImages D.Disk disk.old disk.new (Reaches (Misses (at ∷ [])) (IsCrashImage (D.state disk.old))) }
 {
-    disk.write(512 * u64::from(at), page.bytes())?;
+    disk.write(PAGE_SIZE as u64 * u64::from(at), page.bytes())?;
     Ok(())
 }

@@ -28,8 +28,9 @@ use Rattle.psu_exec.specs.declared.power_fault.PowerCause.{PowerCause}
 use Rattle.psu_exec.specs.declared.power_fault.PowerCause.TheVariants as power
 use Rattle.psu_run.specs.declared.run_cause.RunCause.{RunCause}
 use Rattle.psu_run.specs.declared.run_cause.RunCause.TheVariants.{Read, Write, Open, Device, TooLong, Memory}
-use Rattle.psu_exec.specs.declared.start_cause.StartCause.{StartCause}
 use Rattle.psu_exec.specs.declared.start_cause.StartCause.TheVariants as start
+use Rattle.psu_exec.specs.declared.start_cause.StartFault.{StartFault}
+use Rattle.psu_exec.specs.declared.start_cause.StartFault.TheVariants as start_fault
 use Rattle.psu_run.specs.Causes.{NotStarted, cause_of_open, cause_of_power, cause_of_start, IsWornOut}
 use Rattle.psu_run.specs.Failures.{failures_of}
 use Rattle.psu_run.specs.Jobs.{IsWornAtLast}
@@ -189,9 +190,9 @@ halted_stops by_input old new now rest life left cause reported is same plain wh
   by TooLong w = absurd w
 
 -- no cause of a start is a write fault
-pub not_write_start : (cause : Option StartCause) → cause_of_start cause ≢ Write
-not_write_start (Some cause) e = cc
-not_write_start None e = cc
+pub not_write_start : (fault : StartFault) → cause_of_start fault ≢ Write
+not_write_start (start_fault.Start cause) e = cc
+not_write_start start_fault.Memory e = cc
 
 -- changes that a flush leaves
 pub left_halts : {D A : Type 0} {G : Ghosts D} (old new : Exec D A G) → HasFailed (failures_of old) (failures_of new) ⊎ (new.device.flush.store ≡ Worn) ⊎ (new.device.flush.unflushed ≡ 0)

@@ -1,5 +1,5 @@
 -- The cause of a run's end where the disk does not power on, and why a store can't take a commit.
-use Rattle.std.specs.Prelude.{◌≡◌, ℕ, ◌+◌, ◌≤◌, ◌^◌, List, Option, Some, None}
+use Rattle.std.specs.Prelude.{◌≡◌, ℕ, ◌+◌, ◌≤◌, ◌^◌, List}
 use Rattle.psu_disk.specs.Disk.{HasFailed}
 use Rattle.psu_map.specs.Map.{Item}
 use Rattle.psu_items.specs.Image.{current_root, number_in, Represents, HasNoRoot, HasBadRoot, HasOtherVersion, HasReadableRoot}
@@ -7,15 +7,16 @@ use Rattle.psu_pages.specs.declared.faults.OpenCause.{OpenCause}
 use Rattle.psu_exec.specs.Headline.{AreBad}
 use Rattle.psu_exec.specs.Starts.{start_of_opening, start_of_power_on}
 use Rattle.psu_exec.specs.declared.power_fault.PowerCause.{PowerCause}
-use Rattle.psu_exec.specs.declared.start_cause.StartCause.{StartCause}
 use Rattle.psu_exec.specs.declared.start_cause.StartCause.TheVariants as start
+use Rattle.psu_exec.specs.declared.start_cause.StartFault.{StartFault}
+use Rattle.psu_exec.specs.declared.start_cause.StartFault.TheVariants as start_fault
 use Rattle.psu_run.specs.declared.run_cause.RunCause.{RunCause}
 use Rattle.psu_run.specs.declared.run_cause.RunCause.TheVariants.{Read, Write, Open, Device, TooLong, Memory}
 
--- The run's cause where the device does not start: the cause of the start, or out of memory where it has none.
-abbrev pub cause_of_start : Option StartCause → RunCause
-cause_of_start (Some cause) = Open cause
-cause_of_start None = Memory
+-- the run's cause where the device does not start
+abbrev pub cause_of_start : StartFault → RunCause
+cause_of_start (start_fault.Start cause) = Open cause
+cause_of_start start_fault.Memory = Memory
 
 abbrev pub cause_of_open : OpenCause → RunCause
 cause_of_open cause = cause_of_start (start_of_opening cause)

@@ -1,34 +1,20 @@
 -- What `recover` reports of an image.
-use Rattle.std.specs.Prelude.{◌≡◌, ℕ, ◌==◌, true, if◌then◌else◌, List, [], ◌∷◌, Option, Some, None, length, map, ⊤}
+use Rattle.std.specs.Prelude.{◌≡◌, ℕ, true, List, [], ◌∷◌, length, map, ⊤}
 use Rattle.psu_map.specs.Map.{Item, cost}
 use Rattle.psu_items.specs.Image.{current_root, number_in, version_in, HasReadableRoot, Represents, IsRefusal}
 use Rattle.psu_pages.specs.declared.faults.BadImage.TheVariants as BadImage
-use Rattle.psu_pages.specs.declared.faults.OpenCause.{OpenCause}
 use Rattle.psu_nv.specs.Contents.{items_of, fits, IsContents, Contents}
+use Rattle.psu_nv.specs.Views.{stored_kind}
 use Rattle.psu_nv.specs.declared.file.FileKind.{FileKind}
 use Rattle.psu_nv.specs.declared.file.FileKind.TheVariants as kind
 use Rattle.psu_status.specs.Status.{first_request, prescribed}
 use Rattle.psu_exec.specs.Device.{State}
-use Rattle.psu_exec.specs.Starts.{start_of_opening, start_of_power_on}
-use Rattle.psu_exec.specs.declared.power_fault.PowerCause.{PowerCause}
-use Rattle.psu_exec.specs.declared.start_cause.StartCause.{StartCause}
 use Rattle.psu_exec.specs.declared.start_cause.StartCause.TheVariants as start
+use Rattle.psu_exec.specs.declared.start_cause.StartFault.{StartFault}
+use Rattle.psu_exec.specs.declared.start_cause.StartFault.TheVariants.{Start, Memory}
 use Rattle.psu_run.specs.Causes.{HasBadItems}
 use Rattle.psu_run.specs.declared.recovery.report.Report.{Report}
 use Rattle.psu_run.specs.declared.recovery.report.ReportedFile.{ReportedFile}
-use Rattle.psu_run.specs.declared.recovery.RecoverFault.{RecoverFault}
-use Rattle.psu_run.specs.declared.recovery.RecoverFault.TheVariants.{Start, Memory}
-
--- Why an image isn't reported: the cause of the start, or out of memory where it has none.
-abbrev pub recover_start : Option StartCause → RecoverFault
-recover_start (Some cause) = Start cause
-recover_start None = Memory
-
-abbrev pub recover_open : OpenCause → RecoverFault
-recover_open cause = recover_start (start_of_opening cause)
-
-abbrev pub recover_power : PowerCause → RecoverFault
-recover_power cause = recover_start (start_of_power_on cause)
 
 -- ---- files
 
@@ -41,14 +27,10 @@ pub record Entry : Type 0 where
 abbrev pub entry_with : List ℕ → FileKind × ℕ → Entry
 entry_with name what = record { name = name; kind = what.0; size = what.1 }
 
--- the type that a byte encodes: 0 is BIN, 1 STAT, 2 MACR
-abbrev pub kind_of : ℕ → FileKind
-kind_of code = if code == 0 then kind.Binary else (if code == 1 then kind.State else kind.Macro)
-
 -- a file as it is kept: the byte of its type, and then its own bytes
 abbrev pub of_value : List ℕ → FileKind × ℕ
 of_value [] = (kind.Macro, 0)
-of_value (code ∷ bytes) = (kind_of code, length bytes)
+of_value (code ∷ bytes) = (stored_kind code, length bytes)
 
 abbrev pub entry : Item → Entry
 entry file = entry_with file.key (of_value file.value)
@@ -93,7 +75,7 @@ pub record Reports {A : Type 0} (s : State) (version root limit pages : ℕ) (re
 
 -- Why an image isn't reported. A failed disk call says nothing about the image. Out of memory is possible only where a
 -- root can be read.
-abbrev pub IsRecoverRefusal : List ℕ → RecoverFault → Type 0
+abbrev pub IsRecoverRefusal : List ℕ → StartFault → Type 0
 IsRecoverRefusal image (Start start.Device) = ⊤
 IsRecoverRefusal image (Start start.NoRoot) = IsRefusal image BadImage.NoRoot
 IsRecoverRefusal image (Start start.BadRoot) = IsRefusal image BadImage.BadRoot

@@ -1,7 +1,7 @@
 -- The text of a report: a line for each fact. The texts are this project's own.
 use Rattle.std.specs.Prelude.{ℕ, Bool, true, false, Option, Some, None, List, [], ◌∷◌, ◌++◌, codes, decimal}
 use Rattle.psu_nv.specs.declared.file.FileKind.{FileKind}
-use Rattle.psu_nv.specs.declared.file.FileKind.TheVariants.{Binary, State, Macro}
+use Rattle.psu_nv.specs.Views.{kind_text}
 use Rattle.psu_status.specs.declared.groups.Enables.{Enables}
 use Rattle.psu_run.specs.declared.recovery.report.Report.{Report}
 use Rattle.psu_run.specs.declared.recovery.report.ReportedFile.{ReportedFile}
@@ -28,11 +28,6 @@ request_line (Some byte) = count_line (codes "request ") byte
 abbrev pub power_line : Bool → List ℕ
 power_line true = codes "power RCL0\n"
 power_line false = []
-
-abbrev pub kind_text : FileKind → List ℕ
-kind_text Binary = codes "BIN"
-kind_text State = codes "STAT"
-kind_text Macro = codes "MACR"
 
 abbrev pub file_line : List ℕ → FileKind → ℕ → List ℕ
 file_line name kind size = codes "file " ++ name ++ codes "," ++ kind_text kind ++ codes "," ++ decimal size ++ codes "\n"

@@ -5,56 +5,24 @@ ghost use Rattle.psu_disk.specs.Steps.{DiskStep};
 ghost use Rattle.psu_map.specs.Map.{Item};
 ghost use Rattle.psu_items.specs.Image.{EachRepresents};
 ghost use Rattle.psu_exec.specs.Jobs.{idle_disk};
-ghost use Rattle.psu_run.specs.Recover.{IsReported, IsRecoverRefusal, Reports, recover_open, recover_power};
+ghost use Rattle.psu_exec.specs.declared.start_cause.StartCause.TheVariants.{Device};
+ghost use Rattle.psu_exec.specs.declared.start_cause.StartFault.TheVariants.{Memory, Start};
+ghost use Rattle.psu_run.specs.Recover.{IsReported, IsRecoverRefusal, Reports};
 
 mod listing;
 mod report;
 
 use listing::files_of;
 use psu_disk::Disk;
-use psu_exec::{Ended, Exec, PowerCause, StartCause};
-use psu_items::{OpenCause, Store};
+use psu_exec::{Ended, Exec, StartFault};
+use psu_items::Store;
 pub use report::{Report, ReportedFile, report_text};
 use std::alloc::{AllocError, Allocator};
-use thiserror::Error;
-
-/// Why an image isn't reported.
-#[derive(Clone, Copy, Debug, PartialEq, Eq, Error)]
-pub enum RecoverFault {
-    /// The device doesn't start from its disk.
-    #[error("{0}")]
-    Start(StartCause),
-    /// An allocation failed.
-    #[error("out of memory")]
-    Memory,
-}
-
-impl From<OpenCause> for RecoverFault {
-    ghost from_gives = { λ cause e. e ≡ recover_open cause };
-
-    fn from(cause: OpenCause) -> Self {
-        match StartCause::of_opening(cause) {
-            Some(cause) => RecoverFault::Start(cause),
-            None => RecoverFault::Memory,
-        }
-    }
-}
-
-impl From<PowerCause> for RecoverFault {
-    ghost from_gives = { λ cause e. e ≡ recover_power cause };
-
-    fn from(cause: PowerCause) -> Self {
-        match StartCause::of_power_on(cause) {
-            Some(cause) => RecoverFault::Start(cause),
-            None => RecoverFault::Memory,
-        }
-    }
-}
 
 /// The report on an image, or why there is none, with its disk.
 #[derive(Drop)]
 pub struct Recovered<D, A: Allocator + Copy> {
-    pub found: Result<Report<A>, RecoverFault>,
+    pub found: Result<Report<A>, StartFault>,
     pub disk: D,
 }
 
@@ -65,14 +33,14 @@ pub struct Recovered<D, A: Allocator + Copy> {
 pub fn recover<D: Disk, A: Allocator + Copy>(alloc: A, disk: D) -> Recovered<D, A>
     ensures found { D.honest → IfOk result.found (IsReported (D.state disk).bytes) }
     ensures refused { D.honest → IfErr result.found (IsRecoverRefusal (D.state disk).bytes) }
-    ensures step { DiskStep D.Disk disk result.disk result.found (λ e. e ≡ RecoverFault.Start StartCause.Device) }
+    ensures step { DiskStep D.Disk disk result.disk result.found (λ e. e ≡ Start Device) }
     ensures left { D.honest → (limit : ℕ) (map : List Item) → EachRepresents (D.state disk) limit map → EachRepresents (D.state result.disk) limit map }
 {
     let store = match Store::open(alloc, disk) {
         Ok(store) => store,
         Err(refused) => {
             return Recovered {
-                found: Err(RecoverFault::from(refused.cause)),
+                found: Err(StartFault::from(refused.cause)),
                 disk: refused.disk,
             };
         }
@@ -87,7 +55,7 @@ pub fn recover<D: Disk, A: Allocator + Copy>(alloc: A, disk: D) -> Recovered<D, 
             disk: disk_of(exec),
         },
         Err(fault) => Recovered {
-            found: Err(RecoverFault::from(fault.cause)),
+            found: Err(StartFault::from(fault.cause)),
             disk: fault.store.into_disk(),
         },
     }
@@ -113,14 +81,14 @@ fn report_of<D: Disk, A: Allocator + Copy>(
     root: u64,
     limit: u16,
     pages: u128,
-) -> Result<Report<A>, RecoverFault>
+) -> Result<Report<A>, StartFault>
     ensures reports { IfOk result (Reports exec.now.device version root limit pages) }
-    ensures wants { IfErr result (λ e. e ≡ RecoverFault.Memory) }
+    ensures wants { IfErr result (λ e. e ≡ Memory) }
 {
     let contents = exec.contents();
     let files = match files_of(alloc, contents.names()) {
         Ok(files) => files,
-        Err(AllocError) => return Err(RecoverFault::Memory),
+        Err(AllocError) => return Err(StartFault::Memory),
     };
     Ok(Report {
         version,

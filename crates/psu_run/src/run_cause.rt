@@ -1,8 +1,8 @@
 //! Why a run ends early.
 ghost use Rattle.std.specs.Prelude.{◌≡◌};
-ghost use Rattle.psu_run.specs.Causes.{cause_of_open, cause_of_power};
+ghost use Rattle.psu_run.specs.Causes.{cause_of_open, cause_of_power, cause_of_start};
 
-use psu_exec::{PowerCause, StartCause};
+use psu_exec::{PowerCause, StartCause, StartFault};
 use psu_items::OpenCause;
 use thiserror::Error;
 
@@ -30,14 +30,22 @@ pub enum RunCause {
     Memory,
 }
 
+impl From<StartFault> for RunCause {
+    ghost from_gives = { λ fault e. e ≡ cause_of_start fault };
+
+    fn from(fault: StartFault) -> Self {
+        match fault {
+            StartFault::Start(cause) => RunCause::Open(cause),
+            StartFault::Memory => RunCause::Memory,
+        }
+    }
+}
+
 impl From<OpenCause> for RunCause {
     ghost from_gives = { λ cause e. e ≡ cause_of_open cause };
 
     fn from(cause: OpenCause) -> Self {
-        match StartCause::of_opening(cause) {
-            Some(cause) => RunCause::Open(cause),
-            None => RunCause::Memory,
-        }
+        RunCause::from(StartFault::from(cause))
     }
 }
 
@@ -45,9 +53,6 @@ impl From<PowerCause> for RunCause {
     ghost from_gives = { λ cause e. e ≡ cause_of_power cause };
 
     fn from(cause: PowerCause) -> Self {
-        match StartCause::of_power_on(cause) {
-            Some(cause) => RunCause::Open(cause),
-            None => RunCause::Memory,
-        }
+        RunCause::from(StartFault::from(cause))
     }
 }

@@ -136,7 +136,7 @@ where
 {
     let caller = match power_on(alloc, disk, gate) {
         Ok(caller) => caller,
-        Err(fault) => return ServeFault::from(fault),
+        Err(fault) => return ServeFault::Start(fault),
     };
     match accept_all(rt, alloc, listener, caller, errors) {
         Ok(()) => ServeFault::Network,

@@ -8,6 +8,7 @@ ghost use Rattle.psu_hislip.specs.Channel.{Fed};
 ghost use Rattle.psu_session.specs.State.{Start, fresh};
 ghost use Rattle.psu_server.specs.Opening.{IsClosedAgain, IsFirst, IsOpened, initialize_response};
 
+use psu_bench::operations::OpenSession;
 use psu_bench::{Caller, Gate, Others};
 use psu_disk::Disk;
 use psu_exec::Session;
@@ -175,7 +176,7 @@ pub(crate) fn open<R: Wait, D: Disk + Drop, G: Gate + Drop>(
     let others = Reporter { rt, server };
     let mut registry = others.lock_registry();
     let mut visit = server.device.visit();
-    let Ok(number) = caller.open_session(rt, &mut visit) else {
+    let Ok(number) = caller.call(rt, &mut visit, OpenSession) else {
         return Ok(None);
     };
     match opened(server.alloc, number, link, message) {

@@ -2,11 +2,11 @@
 ghost use Rattle.std.specs.Prelude.{◌≡◌};
 ghost use Rattle.std.specs.IoError.{error_kind};
 ghost use Rattle.std.specs.declared.io.ErrorKind.TheVariants as ErrorKind;
+ghost use Rattle.psu_exec.specs.declared.start_cause.StartFault.TheVariants as StartFault;
 ghost use Rattle.psu_server.specs.declared.serve_fault.ServeFault.TheVariants as ServeFault;
 
-use psu_bench::PowerOnFault;
 use psu_disk::OpenFault;
-use psu_exec::StartCause;
+use psu_exec::StartFault;
 use std::io::{Error as IoError, ErrorKind};
 use thiserror::Error;
 
@@ -16,32 +16,20 @@ pub enum ServeFault {
     /// The file of the image is not opened.
     #[error("{0}")]
     File(OpenFault),
-    /// The image does not power on.
+    /// The device does not start, or an allocation failed.
     #[error("{0}")]
-    Open(StartCause),
+    Start(StartFault),
     /// The port is taken, or the network or the clock fails.
     #[error("network fault")]
     Network,
-    /// An allocation failed.
-    #[error("out of memory")]
-    Memory,
-}
-
-impl From<PowerOnFault> for ServeFault {
-    fn from(fault: PowerOnFault) -> Self {
-        match fault {
-            PowerOnFault::Start(cause) => ServeFault::Open(cause),
-            PowerOnFault::Memory => ServeFault::Memory,
-        }
-    }
 }
 
 impl From<IoError> for ServeFault {
-    ghost from_gives = { λ error fault. (error_kind error ≡ ErrorKind.OutOfMemory → fault ≡ ServeFault.Memory) × ((error_kind error ≡ ErrorKind.OutOfMemory → ⊥) → fault ≡ ServeFault.Network) };
+    ghost from_gives = { λ error fault. (error_kind error ≡ ErrorKind.OutOfMemory → fault ≡ ServeFault.Start StartFault.Memory) × ((error_kind error ≡ ErrorKind.OutOfMemory → ⊥) → fault ≡ ServeFault.Network) };
 
     fn from(error: IoError) -> Self {
         match error.kind() {
-            ErrorKind::OutOfMemory => ServeFault::Memory,
+            ErrorKind::OutOfMemory => ServeFault::Start(StartFault::Memory),
             _ => ServeFault::Network,
         }
     }

@@ -8,6 +8,7 @@ ghost use Rattle.psu_bench.specs.Seconds.{left_of_second};
 
 use crate::reporter::Reporter;
 use crate::server::Server;
+use psu_bench::operations::{NextDeadline, Take};
 use psu_bench::{Caller, Gate, Others, Reopenings, ReportedCondition};
 use psu_disk::Disk;
 use psu_exec::{End, Finished, Job, NoJob};
@@ -80,12 +81,16 @@ impl<'a, D: Disk + Drop, G: Gate + Drop> Flusher<'a, D, G> {
         }
     }
 
-    // Notes the condition of the store, for an operator too.
+    // Notes the condition of the store, for an operator too where it has changed: else the thread that writes the
+    // operator's lines would be woken at each job's end.
     fn note<R: Wait>(&mut self, rt: &R, condition: ReportedCondition)
         ensures condition { self.new.condition ≡ condition }
         ensures caller { self.new.caller ≡ self.old.caller }
         ensures reopenings { self.new.reopenings ≡ self.old.reopenings }
     {
+        if condition == self.condition {
+            return;
+        }
         self.condition = condition;
         self.server.operator.note(rt, condition);
     }
@@ -130,7 +135,7 @@ impl<'a, D: Disk + Drop, G: Gate + Drop> Flusher<'a, D, G> {
     fn round<R: Wait + Clock>(&mut self, rt: &R) -> Round
         ensures calls { (taken : Taken) × MakesRound D.Disk taken self.old.caller.seat self.new.caller.seat }
     {
-        match self.caller.take(rt, &mut self.server.device.visit()) {
+        match self.caller.call(rt, &mut self.server.device.visit(), Take) {
             Ok(job) => self.run(rt, job),
             Err(NoJob::Memory) => Round::Failed,
             Err(NoJob::Out) => Round::Idle,
@@ -159,7 +164,7 @@ impl<'a, D: Disk + Drop, G: Gate + Drop> Flusher<'a, D, G> {
     // Milliseconds to the next deadline of a lock request.
     fn left<R: Wait + Clock>(&mut self, rt: &R) -> Option<u64> {
         let mut visit = self.server.device.visit();
-        let deadline = self.caller.next_deadline(rt, &mut visit)?;
+        let deadline = self.caller.call(rt, &mut visit, NextDeadline)?;
         let now = u128::from(self.server.now(rt));
         Some(u64::try_from(deadline.saturating_sub(now)).unwrap_or(u64::MAX))
     }

@@ -4,6 +4,7 @@ ghost use Rattle.psu_threads.specs.Called.{IsCalled};
 
 use crate::reporter::Reporter;
 use crate::server::Server;
+use psu_bench::operations::{Clear, Deliver, Fetch, Inform, Query};
 use psu_bench::{Caller, Gate, Others, Visit};
 use psu_disk::Disk;
 use psu_exec::{Freed, Grant, Info, Kind, LockRefusal, Outcome, Request, Session};
@@ -84,15 +85,17 @@ impl<'s, 'c, 'r, R: Wait + Clock, D: Disk + Drop, G: Gate + Drop> Device
 
     fn deliver(&mut self) {
         self.caller
-            .delivered(self.rt, &mut self.visit, self.session);
+            .call(self.rt, &mut self.visit, Deliver(self.session));
     }
 
     fn query(&mut self) -> u8 {
-        self.caller.status(self.rt, &mut self.visit, self.session)
+        self.caller
+            .call(self.rt, &mut self.visit, Query(self.session))
     }
 
     fn fetch(&mut self) -> Option<u8> {
-        self.caller.requests(self.rt, &mut self.visit, self.session)
+        self.caller
+            .call(self.rt, &mut self.visit, Fetch(self.session))
     }
 
     // The registry is locked meanwhile, as it is at a release: the results of other requests have been passed on then.
@@ -121,11 +124,12 @@ impl<'s, 'c, 'r, R: Wait + Clock, D: Disk + Drop, G: Gate + Drop> Device
     }
 
     fn inform(&mut self) -> Info {
-        self.caller.info(self.rt, &mut self.visit)
+        self.caller.call(self.rt, &mut self.visit, Inform)
     }
 
     fn clear(&mut self) {
-        self.caller.clear(self.rt, &mut self.visit, self.session);
+        self.caller
+            .call(self.rt, &mut self.visit, Clear(self.session));
         self.others().wake(self.session);
     }
 }

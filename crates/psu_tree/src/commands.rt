@@ -8,6 +8,7 @@ ghost use Rattle.psu_outputs.specs.declared.output.Output.{Output as SomeOutput}
 
 use crate::counts::alone;
 use crate::double::{label_and_body, label_and_name, name_and_bytes, register_and_name, two_names};
+use crate::parameters::LAST_REGISTER;
 use crate::single::{
     one_block, one_count, one_flag, one_label, one_level, one_name, one_recall, one_switch,
     perhaps_extreme,
@@ -47,7 +48,7 @@ fn filter<'a>(group: Group, which: Filter, parameters: &Data<'a>) -> Result<Comm
 fn register<'a>(what: OnRegister, parameters: &Data<'a>) -> Result<Command<'a>, ScpiError>
     ensures { (output : SomeOutput) (list : List DatumData) → HoldsData parameters.now list → CommandReads (f.Register what) output list result }
 {
-    let value = one_count(parameters, 0, 99)?;
+    let value = one_count(parameters, 0, LAST_REGISTER)?;
     Ok(Command::Register(what, value as u8))
 }
 

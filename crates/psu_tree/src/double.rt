@@ -6,7 +6,7 @@ ghost use Rattle.psu_tree.specs.Parameters.{TakesBlock, TakesString, TakesWhole,
 
 use crate::Text;
 use crate::counts::two;
-use crate::parameters::{counted, whole};
+use crate::parameters::{LAST_REGISTER, counted, whole};
 use crate::texts::{at_most, block, label, name};
 use psu_lex::{Data, ScpiError};
 
@@ -53,7 +53,7 @@ pub(crate) fn register_and_name<'a>(
     let (first, second) = two(parameters)?;
     let register = whole(&first)?;
     let name = name(&second)?;
-    Ok((counted(register, 0, 99)? as u8, name))
+    Ok((counted(register, 0, LAST_REGISTER)? as u8, name))
 }
 
 /// Returns a label and a name, each none where the string is not a valid one.

@@ -34,6 +34,9 @@ pub(crate) fn whole(datum: &Datum<'_>) -> Result<i64, ScpiError>
     }
 }
 
+/// The largest number of a register of settings.
+pub(crate) const LAST_REGISTER: u32 = 99;
+
 /// Returns the number, if it is in a range.
 pub(crate) fn counted(number: i64, least: u32, most: u32) -> Result<u32, ScpiError>
     ensures value { result ≡ counted least most number }

@@ -1,6 +1,6 @@
 //! The files of a report.
 ghost use Rattle.std.specs.Prelude.{◌≡◌, IfOk, map};
-ghost use Rattle.psu_run.specs.Recover.{entry, kind_of, of_value, reported};
+ghost use Rattle.psu_run.specs.Recover.{entry, of_value, reported};
 
 use crate::ReportedFile;
 use psu_items::Pair;
@@ -8,24 +8,13 @@ use psu_lex::Bytes;
 use psu_nv::FileKind;
 use std::alloc::{AllocError, Allocator};
 
-// The type that a byte encodes.
-fn kind_of(code: u8) -> FileKind
-    ensures { result ≡ kind_of code }
-{
-    match code {
-        0 => FileKind::Binary,
-        1 => FileKind::State,
-        _ => FileKind::Macro,
-    }
-}
-
 // The type of a file, and the number of its bytes.
 fn of_value(value: &[u8]) -> (FileKind, usize)
     ensures { result ≡ of_value value.now }
 {
     match value {
         [] => (FileKind::Macro, 0),
-        [code, bytes @ ..] => (kind_of(*code), bytes.len()),
+        [code, bytes @ ..] => (FileKind::of_stored(*code), bytes.len()),
     }
 }
 

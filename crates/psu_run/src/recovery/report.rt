@@ -1,6 +1,6 @@
 //! What a restart would find in an image.
 ghost use Rattle.std.specs.Prelude.{◌≡◌, IfOk, OnOk, ◌++◌};
-ghost use Rattle.psu_run.specs.Report.{image_line, pages_line, enables_line, request_line, power_line, count_line, file_line, file_lines, kind_text, report_text_of};
+ghost use Rattle.psu_run.specs.Report.{image_line, pages_line, enables_line, request_line, power_line, count_line, file_line, file_lines, report_text_of};
 
 use itoa::Buffer;
 use psu_lex::Bytes;
@@ -152,17 +152,6 @@ fn put_count<A: Allocator + Copy>(
     Ok(())
 }
 
-// The type of a file, as a report writes it.
-fn kind_text(kind: FileKind) -> &'static [u8]
-    ensures { result.now ≡ kind_text kind }
-{
-    match kind {
-        FileKind::Binary => b"BIN",
-        FileKind::State => b"STAT",
-        FileKind::Macro => b"MACR",
-    }
-}
-
 fn put_file<A: Allocator + Copy>(
     text: &mut Vec<u8, A>,
     file: &ReportedFile<A>,
@@ -173,7 +162,7 @@ fn put_file<A: Allocator + Copy>(
     text.extend_from_slice(b"file ")?;
     text.extend_from_slice(file.name.as_slice())?;
     text.push(b',')?;
-    text.extend_from_slice(kind_text(file.kind))?;
+    text.extend_from_slice(file.kind.text())?;
     text.push(b',')?;
     text.extend_from_slice(size.format(file.size).as_bytes())?;
     text.push(b'\n')?;

@@ -5,11 +5,11 @@ use Rattle.psu_disk.specs.Moments.{started}
 use Rattle.psu_items.specs.Layout.{slots_from, slots_of, IsSized, StandsWritten}
 use Rattle.psu_items.specs.declared.layout.Slot.{Slot}
 use Rattle.psu_pages.specs.Image.{Head, AreApart, AreClear, IsInPool, pages_of, taken}
-use Rattle.psu_pages.specs.Outcome.{IsPlanned}
+use Rattle.psu_pages.specs.Outcome.{EncodesPages, IsPlanned}
 use Rattle.psu_pages.specs.Writing.{IsWritten, Reaches}
 use Rattle.psu_pages.proofs.Lists.{all_at}
 use Rattle.psu_map.specs.Target.{aimed}
-use Rattle.psu_items.proofs.Taking.{EncodesPages, encodes_on, encodes_on_run, same_on}
+use Rattle.psu_items.proofs.Taking.{encodes_on, encodes_on_run, same_on}
 use Rattle.psu_items.proofs.Placing.{all_written, at_place, heads_are, slot, written_on}
 use Rattle.psu_disk.specs.Disk.{IsCrashImage, Follows, LeavesOnly}
 use Rattle.psu_items.specs.Writing.{SameAfterPool}

@@ -2,13 +2,12 @@ use Rattle.std.proofs.Common.{◌≡◌, ℕ, List, drop}
 use Rattle.std.specs.List.{AllByRecursion}
 use Rattle.psu_disk.specs.Disk.{IsCrashImage, Follows, LeavesOnly}
 use Rattle.psu_pages.specs.Image.{Head}
-use Rattle.psu_pages.specs.Outcome.{IsPlanned, HasSameHeads}
+use Rattle.psu_pages.specs.Outcome.{EncodesPages, IsPlanned, HasSameHeads}
 use Rattle.psu_pages.specs.Shown.{items_in}
 use Rattle.psu_pages.specs.Writing.{Reaches}
 use Rattle.psu_items.specs.Writing.{SameAfterPool}
 use Rattle.psu_items.specs.Layout.{slots_from, slots_of, StandsWritten}
 use Rattle.psu_map.specs.Target.{aimed}
-use Rattle.psu_items.proofs.Taking.{EncodesPages}
 use Rattle.psu_items.proofs.put.write_heads.Given as goal
 
 -- all new heads are written but those at the places that remain; each possible crash image encodes the items from

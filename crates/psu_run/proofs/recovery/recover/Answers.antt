@@ -11,22 +11,23 @@ use Rattle.psu_items.proofs.Fitting.{represents_readable}
 use Rattle.psu_nv.specs.Contents.{items_of, fits, Contents}
 use Rattle.psu_exec.specs.declared.power_fault.PowerCause.{PowerCause}
 use Rattle.psu_exec.specs.declared.power_fault.PowerCause.TheVariants as power
+use Rattle.psu_exec.specs.Starts.{start_of_opening, start_of_power_on}
 use Rattle.psu_exec.specs.declared.start_cause.StartCause.TheVariants as start
+use Rattle.psu_exec.specs.declared.start_cause.StartFault.{StartFault}
+use Rattle.psu_exec.specs.declared.start_cause.StartFault.TheVariants.{Start, Memory}
 use Rattle.psu_exec.specs.declared.idle_store.IdleStore.TheVariants as idle_store
 use Rattle.psu_run.specs.declared.recovery.report.Report.{Report}
-use Rattle.psu_run.specs.declared.recovery.RecoverFault.{RecoverFault}
-use Rattle.psu_run.specs.declared.recovery.RecoverFault.TheVariants.{Start, Memory}
 use Rattle.psu_run.specs.Causes.{HasBadItems}
-use Rattle.psu_run.specs.Recover.{IsReported, IsRecoverRefusal, Reports, recover_open, recover_power}
+use Rattle.psu_run.specs.Recover.{IsReported, IsRecoverRefusal, Reports}
 use Rattle.psu_run.proofs.recovery.recover.Goals as goal
 
 -- the report is valid where it is one of the device
-found_of : {A : Type 0} (r : Result (Report A) RecoverFault) (image : List ℕ) (P : Report A → Type 0) → IfOk r P → ((report : Report A) → P report → IsReported image report) → IfOk r (IsReported image)
+found_of : {A : Type 0} (r : Result (Report A) StartFault) (image : List ℕ) (P : Report A → Type 0) → IfOk r P → ((report : Report A) → P report → IsReported image report) → IfOk r (IsReported image)
 found_of (Ok report) image P p turn = turn report p
 found_of (Err e) image P p turn = tt
 
 -- the only refusal is out of memory
-only_memory : {A : Type 0} (r : Result (Report A) RecoverFault) (P : RecoverFault → Type 0) → IfErr r (λ e. e ≡ Memory) → P Memory → IfErr r P
+only_memory : {A : Type 0} (r : Result (Report A) StartFault) (P : StartFault → Type 0) → IfErr r (λ e. e ≡ Memory) → P Memory → IfErr r P
 only_memory (Ok report) P p q = tt
 only_memory (Err e) P p q = subst P (sym p) q
 
@@ -69,7 +70,7 @@ returns-in-Ok-power_on-clause-step g c =
     same_disk c.report_of.result c.in-Ok.ensures.step (c.disk_of.ensures (idle_store.Whole c.in-Ok.store) c.in-Ok-power_on.ensures.idle_store)
     (only_memory c.report_of.result (λ e. e ≡ Start start.Device → ⊥) c.report_of.ensures.wants (λ is. cc (is)))
 
-by_open : (image : List ℕ) (cause : OpenCause) → IfImage cause (IsRefusal image) → (cause ≡ opening.Memory → HasReadableRoot image) → IsRecoverRefusal image (recover_open cause)
+by_open : (image : List ℕ) (cause : OpenCause) → IfImage cause (IsRefusal image) → (cause ≡ opening.Memory → HasReadableRoot image) → IsRecoverRefusal image (start_of_opening cause)
 by_open image opening.Device is memory = tt
 by_open image (opening.Image BadImage.NoRoot) is memory = is
 by_open image (opening.Image BadImage.BadRoot) is memory = is
@@ -77,13 +78,13 @@ by_open image (opening.Image BadImage.BadVersion) is memory = is
 by_open image opening.Memory is memory = memory refl
 
 -- bad items are not those of any contents
-by_cause : (image : List ℕ) (cause : PowerCause) → HasReadableRoot image → (cause ≡ power.BadItems → HasBadItems image) → IsRecoverRefusal image (recover_power cause)
+by_cause : (image : List ℕ) (cause : PowerCause) → HasReadableRoot image → (cause ≡ power.BadItems → HasBadItems image) → IsRecoverRefusal image (start_of_power_on cause)
 by_cause image power.BadItems rooted bad = bad refl
 by_cause image power.Memory rooted bad = rooted
 
 pub returns-in-Err-clause-refused : goal.returns-in-Err-clause-refused
 returns-in-Err-clause-refused g c = λ h.
-    subst (λ (e : RecoverFault). IsRecoverRefusal (g.D.Disk.state c.args.disk).bytes e) (sym c.from.ensures)
+    subst (λ (e : StartFault). IsRecoverRefusal (g.D.Disk.state c.args.disk).bytes e) (sym c.from.ensures)
     (by_open (g.D.Disk.state c.args.disk).bytes c.in-Err.refused.cause (c.in-Err.ensures.refused h) (c.in-Err.ensures.memory h))
 
 pub returns-in-Err-power_on-clause-refused : goal.returns-in-Err-power_on-clause-refused
@@ -91,7 +92,7 @@ returns-in-Err-power_on-clause-refused g c = λ h.
     let bytes : List ℕ = (g.D.Disk.state c.args.disk).bytes in
     let cause : PowerCause = c.in-Err-power_on.fault.cause in
     let bad : cause ≡ power.BadItems → HasBadItems bytes = λ is. record { limit = c.in-Ok.store.limit; map = c.in-Ok.store.items; stands = c.in-Ok.ensures.represented h; none = c.in-Err-power_on.ensures.bad is } in
-    subst (λ (e : RecoverFault). IsRecoverRefusal bytes e) (sym c.from-in-Err-power_on.ensures) (by_cause bytes cause (represents_readable bytes c.in-Ok.store.limit c.in-Ok.store.items (c.in-Ok.ensures.represented h)) bad)
+    subst (λ (e : StartFault). IsRecoverRefusal bytes e) (sym c.from-in-Err-power_on.ensures) (by_cause bytes cause (represents_readable bytes c.in-Ok.store.limit c.in-Ok.store.items (c.in-Ok.ensures.represented h)) bad)
 
 pub returns-in-Ok-power_on-clause-left : goal.returns-in-Ok-power_on-clause-left
 returns-in-Ok-power_on-clause-left g c = λ h limit map each.
@@ -103,7 +104,7 @@ returns-in-Err-power_on-clause-left g c = λ h limit map each.
     (subst (λ s. EachRepresents (g.D.Disk.state s.disk) limit map) (sym c.in-Err-power_on.ensures.back) ((c.in-Ok.ensures.left limit map each).left h))
 
 -- no cause of a failed power-on is a failed call
-not_device : (cause : PowerCause) → recover_power cause ≡ Start start.Device → ⊥
+not_device : (cause : PowerCause) → start_of_power_on cause ≡ Start start.Device → ⊥
 not_device power.BadItems is = cc
 not_device power.Memory is = cc
 
@@ -113,7 +114,7 @@ returns-in-Err-power_on-clause-step g c =
     (λ is. not_device c.in-Err-power_on.fault.cause (sym c.from-in-Err-power_on.ensures ∙ is))
 
 -- a refused opening is a device fault exactly where its cause is one
-by_device : (cause : OpenCause) → recover_open cause ≡ Start start.Device → cause ≡ opening.Device
+by_device : (cause : OpenCause) → start_of_opening cause ≡ Start start.Device → cause ≡ opening.Device
 by_device opening.Device is = refl
 by_device (opening.Image BadImage.NoRoot) is = absurd (cc (is))
 by_device (opening.Image BadImage.BadRoot) is = absurd (cc (is))

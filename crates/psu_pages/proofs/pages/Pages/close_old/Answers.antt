@@ -3,7 +3,8 @@ use Rattle.psu_disk.specs.Disk.{SameBut}
 use Rattle.psu_disk.specs.Moments.{started}
 use Rattle.psu_pages.specs.Free.{IsRoster, AreClaimed}
 use Rattle.psu_pages.specs.Image.{other, gate_at, taken, pages_of, Head, IsNone, AreClear}
-use Rattle.psu_pages.specs.Shown.{items_in, Encodes}
+use Rattle.psu_pages.specs.Outcome.{EncodesPages}
+use Rattle.psu_pages.specs.Shown.{items_in}
 use Rattle.psu_pages.proofs.Lists.{clear_swap}
 use Rattle.psu_pages.proofs.Marking.{claimed_beside}
 use Rattle.psu_pages.proofs.Planning.{none_root, pool_within}
@@ -30,7 +31,7 @@ returns-in_default-clause-left g c = record {
   time = λ h t.
       let d = g.D.Disk in
       let p = c.args.self.now in
-      started d.moment d.left_since p.disk (Encodes p.root p.version p.limit p.number p.heads.items (items_in p.root (d.state p.disk).bytes)) (λ x l. p.encodes h c.requires.sure x (g.met.D.Disk.only_now t p.disk x l));
+      started d.moment d.left_since p.disk (EncodesPages p) (λ x l. p.encodes h c.requires.sure x (g.met.D.Disk.only_now t p.disk x l));
 }
 
 pub returns-in_err-set_gate-clause-left : goal.returns-in_err-set_gate-clause-left

@@ -12,6 +12,3 @@ returns-clause-there g c = λ h sure.
     let p = c.args.self.now in
     subst (λ (hs : List Head). AllByRecursion (λ (head : Head). head_at disk.bytes head.at ≡ head) hs) (sym c.deref.ensures.value)
     (heads_there p.root disk.bytes p.heads.items (p.encodes h sure disk.bytes (reads_left disk)).has_contents.heads_are)
-
-pub returns-clause-encodes : goal.returns-clause-encodes
-returns-clause-encodes g c = λ h sure. rw c.deref.ensures.value (let p = c.args.self.now in p.encodes h sure)

@@ -12,9 +12,9 @@ returns-in-Ok g c = record {
     Job (job_data c.in-Ok.job),
     (
       c.in-Ok.job,
-      c.take.new.self.seat,
+      c.call.new.self.seat,
       refl,
-      subst (λ r. SeatCalls (AdmitsOn g.D.Disk.honest) c.args.self.now.caller.seat (Took (taken_of r)) c.take.new.self.seat) c.in-Ok.is c.take.ensures.call,
+      subst (λ r. SeatCalls (AdmitsOn g.D.Disk.honest) c.args.self.now.caller.seat (Took (taken_of r)) c.call.new.self.seat) c.in-Ok.is c.call.ensures.call,
       c.run.ensures.call,
     ),
   );

@@ -1,5 +1,0 @@
-use Rattle.std.proofs.Common.{refl}
-use Rattle.psu_bench.proofs.bench.Bench.clear.Goals as goal
-
-pub returns-clause-call : goal.returns-clause-call
-returns-clause-call g c = rw (← c.enter-taken.ensures.seat) (c.leave.ensures.call _ refl)

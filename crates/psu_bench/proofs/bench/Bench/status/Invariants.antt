@@ -1,6 +1,0 @@
-use Rattle.std.proofs.Common.{Some}
-use Rattle.psu_exec.specs.Calls.Entry.{Queried}
-use Rattle.psu_bench.proofs.bench.Bench.status.Given as goal
-
-abbrev pub ghosts-leave : goal.ghosts-leave
-ghosts-leave g a = record { entry = Some (Queried a._call.now a._reply.now) }
