@@ -94,7 +94,8 @@ pub trait FileCalls {
     ghost at_risk: { keeps → (f : Self) (k : ℕ) → forgotten f k ≡ true → is_unsynced (state f) k ≡ true };
 
     /// The effect of each call.
-    ghost effect: { keeps → (old new : Self) (call : FileCall) → made old call new → Keeps (extent old) call (state old) (state new) (forgotten old) (forgotten new) };
+    ghost effect: { keeps → (old new : Self) (call : FileCall) → made old call new
+        → Keeps (extent old) call (state old) (state new) (forgotten old) (forgotten new) };
 
     /// Each call on a file that works succeeds, and the file still works after it.
     ghost working: { (old new : Self) (call : FileCall) → works old → made old call new → Works (extent old) call × works new };

@@ -68,7 +68,8 @@ impl<F: FileCalls> Medium for SystemFile<F> {
         ensures written { F.keeps → OnOk result (Holds at bytes.now (F.state self.old.file).bytes (F.state self.new.file).bytes) }
         ensures flagged { F.keeps → IsFlagged at (length bytes.now) (F.state self.new.file) }
         ensures state { F.keeps → Touches at (length bytes.now) (F.state self.old.file) (F.state self.new.file) }
-        ensures again { F.keeps → bytes.now ≡ Range at (length bytes.now) (F.state self.old.file).bytes → IsFlagged at (length bytes.now) (F.state self.old.file)
+        ensures again { F.keeps → bytes.now ≡ Range at (length bytes.now) (F.state self.old.file).bytes
+            → IsFlagged at (length bytes.now) (F.state self.old.file)
             → F.state self.new.file ≡ F.state self.old.file }
         ensures none_more { F.keeps → NoneMore (F.forgotten self.old.file) (F.forgotten self.new.file) }
         ensures known { F.keeps → OnOk result (IsKnown at (length bytes.now) (F.forgotten self.new.file)) }

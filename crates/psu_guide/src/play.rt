@@ -33,7 +33,8 @@ fn written<D: Disk + Drop, A: Allocator + Copy>(
     ensures whole { D.honest → IfOk result (λ text. (over : D)
         × WritesRun (D.state disk).bytes (Some sent.now) (D.failures disk) (D.failures over) (Some [])
         (Some text.items) (D.state over)) }
-    ensures early { D.honest → IfErr result (λ cause. (over : D) × (rest : List ℕ) × EndsFor (D.state disk).bytes (D.failures disk) (D.failures over) (D.state over).bytes
+    ensures early { D.honest → IfErr result (λ cause. (over : D) × (rest : List ℕ)
+        × EndsFor (D.state disk).bytes (D.failures disk) (D.failures over) (D.state over).bytes
         (GivenByInput (Some sent.now) (Some rest) None None) cause) }
 {
     let mut reader = sent;

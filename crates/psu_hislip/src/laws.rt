@@ -71,7 +71,8 @@ pub fn one_answer_for_each_message()
 /// Between an AsyncDeviceClear and the next DeviceClearComplete nothing is executed, unless a DeviceClearComplete was
 /// received before the AsyncDeviceClear and no Data, DataEnd or Trigger followed it.
 pub fn nothing_executed_in_a_clear()
-    ensures { (session : ℕ) (before between : List Arrival) (clear : Arrival) → begins_clear clear ≡ true → (EndsComplete before → ⊥) → list_any completes_clear between ≡ false
+    ensures { (session : ℕ) (before between : List Arrival) (clear : Arrival) → begins_clear clear ≡ true
+        → (EndsComplete before → ⊥) → list_any completes_clear between ≡ false
         → executions (actions_of (core_after (started session) (before ++ clear ∷ [])) between) ≡ [] }
 {}
 

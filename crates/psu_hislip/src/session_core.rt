@@ -45,7 +45,15 @@ impl<A: Allocator + Copy> Model for SessionCore<A> {
 
     ghost Value = { Core };
 
-    ghost view = { λ c. record { session = c.session; joined = c.joined; failed = c.failed; size = c.size; transmission = c.transmission; clear = c.clear; clears = c.clears } };
+    ghost view = { λ c. record {
+      session = c.session;
+      joined = c.joined;
+      failed = c.failed;
+      size = c.size;
+      transmission = c.transmission;
+      clear = c.clear;
+      clears = c.clears;
+    } };
 }
 
 fn initializes(header: Header) -> bool

@@ -75,7 +75,8 @@ fn write_heads<D: Disk, A: Allocator + Copy>(
     ensures same { HasSameHeads pages.old pages.new }
     ensures standing { OnOk result (pages.new.standing ≡ pages.old.standing) }
     ensures written { D.honest → AllByRecursion (StandsWritten (D.state pages.old.disk).bytes (aimed target.now)) (slots_of layout.now)
-        → OnOk result (AllByRecursion (λ (slot : SlotOf A). IsWritten (D.state pages.new.disk).bytes slot.head (value_at (aimed target.now) slot.head.key)) (slots_of layout.now)) }
+        → OnOk result (AllByRecursion (λ (slot : SlotOf A). IsWritten (D.state pages.new.disk).bytes slot.head
+        (value_at (aimed target.now) slot.head.key)) (slots_of layout.now)) }
     ensures shown { D.honest → items_in pages.new.root (D.state pages.new.disk).bytes ≡ items_in pages.old.root (D.state pages.old.disk).bytes }
     ensures left { LeavesImages D.Disk pages.old.disk pages.new.disk (EncodesPages pages.old) }
     ensures after_pool { LeavesImages D.Disk pages.old.disk pages.new.disk (Reaches (SameAfterPool pages.old.limit) (IsCrashImage (D.state pages.old.disk))) }
@@ -101,7 +102,9 @@ fn write_head<D: Disk, A: Allocator + Copy>(
     ensures standing { OnOk result (pages.new.standing ≡ pages.old.standing) }
     ensures planned { (other : HeadOf) → IsPlanned pages.old other → IsPlanned pages.new other }
     ensures written { D.honest → OnOk result (IsWritten (D.state pages.new.disk).bytes head.now (value_at (aimed target.now) head.now.key)) }
-    ensures others { D.honest → (other : HeadOf) (its : List ℕ) → IsWritten (D.state pages.old.disk).bytes other its → AllByRecursion (IsInPool pages.old.limit) (pages_of other)
+    ensures others { D.honest → (other : HeadOf) (its : List ℕ)
+        → IsWritten (D.state pages.old.disk).bytes other its
+        → AllByRecursion (IsInPool pages.old.limit) (pages_of other)
         → AreClear (pages_of head.now) (pages_of other) → IsWritten (D.state pages.new.disk).bytes other its }
     ensures shown { D.honest → items_in pages.new.root (D.state pages.new.disk).bytes ≡ items_in pages.old.root (D.state pages.old.disk).bytes }
     ensures left { LeavesImages D.Disk pages.old.disk pages.new.disk (EncodesPages pages.old) }

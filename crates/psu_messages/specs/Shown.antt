@@ -40,6 +40,7 @@ IsTried does at parked request now new (tried.Waits need) = (reply : Reply) × T
 abbrev pub ProgressAdvances : {A X S : Type 0} → Relations X S → Source → X → Progress A → X → Progress A → Type 0
 ProgressAdvances r source at old now new = executions.Advances r.does source at (progress_of old) now (progress_of new)
 
--- an execution of the source has stopped after this progress of it, where that one has the responses that are not sent
+-- an execution of the source has stopped so after this progress of it; the responses that it has not sent are those of
+-- the later progress
 abbrev pub ProgressStops : {A X S : Type 0} → Relations X S → Source → X → Progress A → S → X → Progress A → Type 0
 ProgressStops r source at old stop now new = executions.StopsAt r source at (progress_of old) stop now new.gathered

@@ -18,7 +18,8 @@ pub(crate) fn expand<A: Allocator + Copy, F: Executor<A>>(
     parked: &mut bool,
     gathered: &mut ResponseBuffer<A>,
 ) -> Result<Option<Need>, F::Stop>
-    ensures advances { IfOk result (λ need. (source : Source) (units : ℕ) → Advances F.relations.does source executor.old (within units body.now done.old parked.old gathered.old)
+    ensures advances { IfOk result (λ need. (source : Source) (units : ℕ)
+        → Advances F.relations.does source executor.old (within units body.now done.old parked.old gathered.old)
         executor.new (expanded_by need units body.now done.new parked.new gathered.new)) }
     ensures waits { IfOk result (λ some. IfSome some (IsAwaited F.relations executor.new)) }
     ensures stops { IfErr result (λ stop. (source : Source) (units : ℕ)

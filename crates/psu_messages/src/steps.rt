@@ -22,7 +22,8 @@ pub(crate) fn take_step<A: Allocator + Copy, F: Executor<A>>(
     gathered: &mut ResponseBuffer<A>,
 ) -> Result<Option<Need>, F::Stop>
     ensures advances { IfOk result (λ need. (source : Source) (units : ℕ) (body : List ℕ) (done : ℕ) → IsInside body done request.now
-        → Advances F.relations.does source executor.old (within units body done parked.old gathered.old) executor.new (within units body (done_by need done) parked.new gathered.new)) }
+        → Advances F.relations.does source executor.old (within units body done parked.old gathered.old)
+        executor.new (within units body (done_by need done) parked.new gathered.new)) }
     ensures waits { IfOk result (λ some. IfSome some (Awaits F.relations.does executor.new)) }
     ensures stops { IfErr result (λ stop. (source : Source) (units : ℕ) (body : List ℕ) (done : ℕ) → IsInside body done request.now
         → StopsAt F.relations source executor.old (within units body done parked.old gathered.old) stop executor.new gathered.new) }

@@ -69,7 +69,9 @@ fn lay_out<D: Disk>(disk: &mut D, contents: &[u8]) -> Result<(), DiskFault>
     ensures step { DiskStep D.Disk disk.old disk.new result (λ fault. ⊤) }
     ensures spelled { D.honest → OnOk result (page_of First (D.state disk.new).bytes ≡ 165 ∷ contents.now) }
     ensures zero { D.honest → OnOk result (gate Second (D.state disk.new).bytes ≡ 0) }
-    ensures encoded { D.honest → (limit number : ℕ) → AreRootContents limit number [] contents.now (D.state disk.old).bytes → 4 ≤ limit → limit ≤ 480 → 512 * (2 + 2 * limit) ≤ D.extent disk.old
+    ensures encoded { D.honest → (limit number : ℕ)
+        → AreRootContents limit number [] contents.now (D.state disk.old).bytes → 4 ≤ limit → limit ≤ 480
+        → 512 * (2 + 2 * limit) ≤ D.extent disk.old
         → OnOk result (EachEncodes (D.state disk.new) First 2 limit number [] []) }
     ensures shut { D.honest → OnOk result (EachShut (D.state disk.new) Second) }
 {

@@ -38,7 +38,8 @@ pub struct Pages<D: Disk, A: Allocator + Copy> {
     ghost older_roster: { IsRoster limit older.items } by { IsRoster-IsProp limit older.items },
     ghost older_claimed: { AreClaimed free (taken older.items) } by { AreClaimed-IsProp free (taken older.items) },
     ghost none_older: { standing ≡ One → older.items ≡ [] },
-    ghost encodes: { D.honest → standing ≢ Unsure → EachEncodes (D.state disk) root version limit number heads.items (items_in root (D.state disk).bytes) } by { Prim.hlevel (props, Encodes-IsProp) },
+    ghost encodes: { D.honest → standing ≢ Unsure
+        → EachEncodes (D.state disk) root version limit number heads.items (items_in root (D.state disk).bytes) } by { Prim.hlevel (props, Encodes-IsProp) },
     ghost shut: { D.honest → standing ≡ One → EachShut (D.state disk) (other root) },
     ghost lower: { D.honest → standing ≡ Both → EachLower (D.state disk) (other root) number },
 }

@@ -39,7 +39,10 @@ impl<D: Disk, A: Allocator + Copy> Pages<D, A> {
         ensures planned { (other : HeadOf) → IsPlanned self.old other → IsPlanned self.new other }
         ensures spelled { D.honest → OnOk result (AreWritten (head_drafts head.now value.now) (D.state self.new.disk).bytes) }
         ensures written { D.honest → OnOk result (IsWritten (D.state self.new.disk).bytes head.now value.now) }
-        ensures others { D.honest → (other : HeadOf) (its : List ℕ) → IsWritten (D.state self.old.disk).bytes other its → AllByRecursion (IsInPool self.old.limit) (pages_of other) → AreClear (pages_of head.now) (pages_of other)
+        ensures others { D.honest → (other : HeadOf) (its : List ℕ)
+            → IsWritten (D.state self.old.disk).bytes other its
+            → AllByRecursion (IsInPool self.old.limit) (pages_of other)
+            → AreClear (pages_of head.now) (pages_of other)
             → IsWritten (D.state self.new.disk).bytes other its }
 
         // At every moment the disk represents the same items, and no page but those of the head is written.

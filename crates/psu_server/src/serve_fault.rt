@@ -25,7 +25,9 @@ pub enum ServeFault {
 }
 
 impl From<IoError> for ServeFault {
-    ghost from_gives = { λ error fault. (error_kind error ≡ ErrorKind.OutOfMemory → fault ≡ ServeFault.Start StartFault.Memory) × ((error_kind error ≡ ErrorKind.OutOfMemory → ⊥) → fault ≡ ServeFault.Network) };
+    ghost from_gives = { λ error fault.
+        (error_kind error ≡ ErrorKind.OutOfMemory → fault ≡ ServeFault.Start StartFault.Memory)
+        × ((error_kind error ≡ ErrorKind.OutOfMemory → ⊥) → fault ≡ ServeFault.Network) };
 
     fn from(error: IoError) -> Self {
         match error.kind() {

@@ -38,10 +38,13 @@ impl<'a, 'b, 'c, D: Device> Executor<Global> for Execution<'a, 'b, 'c, D> {
     ghost use Rattle.psu_session.specs.Phases.{tries_by};
 
     ghost relations = { record {
-      does = λ x effect y. (y.output.ghost_name ≡ x.output.ghost_name) × (y.device.ghost_name ≡ x.device.ghost_name) × (y.until ≡ x.until) × (y.left ≡ x.left - tries_by (call_of effect)) × (y.core ≡ x.core) × (y.origin ≡ x.origin)
+      does = λ x effect y. (y.output.ghost_name ≡ x.output.ghost_name)
+          × (y.device.ghost_name ≡ x.device.ghost_name) × (y.until ≡ x.until)
+          × (y.left ≡ x.left - tries_by (call_of effect)) × (y.core ≡ x.core) × (y.origin ≡ x.origin)
           × Puts x.core.now x.origin effect x.output.now.items y.output.now.items × D.does x.device.now (call_of effect) y.device.now;
       fails = λ x request stop y. ⊥;
-      stops = λ x stop y. (y.output.ghost_name ≡ x.output.ghost_name) × (y.device.ghost_name ≡ x.device.ghost_name) × (y.device.now ≡ x.device.now) × (stop ≡ Memory);
+      stops = λ x stop y. (y.output.ghost_name ≡ x.output.ghost_name)
+          × (y.device.ghost_name ≡ x.device.ghost_name) × (y.device.now ≡ x.device.now) × (stop ≡ Memory);
       yields = λ x. (x.left ≤ x.until) ⊎ (65536 ≤ length x.output.now.items);
     } };
 
@@ -88,7 +91,9 @@ impl<'a, 'b, 'c, D: Device> Execution<'a, 'b, 'c, D> {
         alloc: Global,
         transmission: &mut Transmission<Global>,
     ) -> Result<Option<Need>, EndCause>
-        ensures advances { IfOk result (λ _. AdvancesOrder D.does self.old.core.now (record { origin = self.old.origin; source = transmission.old.source }) transmission.old.progress self.old.output.now.items self.old.device.now
+        ensures advances { IfOk result (λ _. AdvancesOrder D.does self.old.core.now
+            (record { origin = self.old.origin; source = transmission.old.source }) transmission.old.progress
+            self.old.output.now.items self.old.device.now
             transmission.new.progress self.new.output.now.items self.new.device.now self.old.left self.new.left) }
         ensures yields { IfOk result (λ some. IfSome some (λ need.
             need ≡ Turn → (self.new.left ≤ self.old.until) ⊎ (65536 ≤ length self.new.output.now.items))) }

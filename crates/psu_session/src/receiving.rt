@@ -24,7 +24,9 @@ impl Parts {
         number: u32,
         actions: Actions<Global>,
     ) -> Result<(), EndCause>
-        ensures done { OnOk result (Appends D.does (Each (state_of self.old).lock_waits (acts actions.items)) (flat_map works_in (acts actions.items)) (flat_map (release_in now number) (acts actions.items)) (state_of self.old) device.old
+        ensures done { OnOk result (Appends D.does (Each (state_of self.old).lock_waits (acts actions.items))
+            (flat_map works_in (acts actions.items)) (flat_map (release_in now number) (acts actions.items))
+            (state_of self.old) device.old
             (state_of self.new) device.new) }
         ensures stopped { OnErr result (CallsPrefix D.does (Each (state_of self.old).lock_waits (acts actions.items)) device.old device.new) }
         ensures cause { IfErr result (λ cause. IsQueueCause cause (flat_map works_in (acts actions.items))

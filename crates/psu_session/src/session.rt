@@ -60,7 +60,8 @@ impl HislipSession {
     /// Returns a session of this number, which has only its synchronous connection. The bytes received there are one
     /// message, its Initialize; other bytes are refused.
     pub fn open(alloc: Global, session: u16, opening: &[u8]) -> Result<HislipSession, OpeningError>
-        ensures opened { IfOk result (λ opened. (start : Start) × (first : Received) × Fed start.sync opening.now (first ∷ []) × Fed start.async [] [] × (start.session ≡ session)
+        ensures opened { IfOk result (λ opened. (start : Start) × (first : Received)
+            × Fed start.sync opening.now (first ∷ []) × Fed start.async [] [] × (start.session ≡ session)
             × (opened ≡ record { phase = Open; state = fresh start })) }
         ensures refused { IfErr result (λ error. error ≡ NotOneMessage → (first : Received) → IsStream opening.now (first ∷ []) → ⊥) }
     {

@@ -39,7 +39,13 @@ impl Model for SharedSession {
 
     ghost Value = { Shared };
 
-    ghost view = { λ s. record { phase = s.session.phase; state = s.session.state; waits = s.waits; sync_waits = s.sync_reader_waits; async_waits = s.async_reader_waits } };
+    ghost view = { λ s. record {
+      phase = s.session.phase;
+      state = s.session.state;
+      waits = s.waits;
+      sync_waits = s.sync_reader_waits;
+      async_waits = s.async_reader_waits;
+    } };
 }
 
 // Returns what the next unit waits for; none where others are only let in.

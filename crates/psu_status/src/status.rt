@@ -56,7 +56,14 @@ impl Model for Status {
 
     ghost view = { λ s. record { esr = s.esr; sre = s.sre; ese = s.ese; operation = s.operation; questionable = s.questionable; errors = s.errors.items } };
 
-    ghost invariant = { λ s. IsReported (record { esr = s.esr; sre = s.sre; ese = s.ese; operation = s.operation; questionable = s.questionable; errors = s.errors.items }) };
+    ghost invariant = { λ s. IsReported (record {
+      esr = s.esr;
+      sre = s.sre;
+      ese = s.ese;
+      operation = s.operation;
+      questionable = s.questionable;
+      errors = s.errors.items;
+    }) };
 }
 
 impl Status {

@@ -29,9 +29,10 @@ pub fn calls_are_in_the_history<'s, 'c, 'r, R: Wait + Clock, D: Disk + Drop, G: 
 
 /// What a client is sent, from the one legal history of the device. Threads call a session one after another, each with
 /// a shared device of the session's number, and so a seat, of its own. Then each call of the device in the session's
-/// history is an entry of this very session that the legal history has under the seat of that thread, with the same reply; the seat has made these calls in their
-/// order and no others meanwhile. The response to a message of a transmission that is over is formed from the replies
-/// of the very entries of the message's units, and is sent whole under its MessageID.
+/// history is an entry of this very session that the legal history has under the seat of that thread, with the same
+/// reply; the seat has made these calls in their order and no others meanwhile. The response to a message of a
+/// transmission that is over is formed from the replies of the very entries of the message's units, and is sent whole
+/// under its MessageID.
 ///
 /// So where a message is `*OPC?`, the `1` that the client is sent is the reply of the entry of that `*OPC?`: the one of
 /// `Executed`, or where the unit had to wait the one of `Settled`. Of this entry the theorem on power loss holds

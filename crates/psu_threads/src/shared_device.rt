@@ -60,7 +60,8 @@ impl<'s, 'c, 'r, R: Wait, D: Disk, G: Gate> SharedDevice<'s, 'c, 'r, R, D, G> {
 
 impl<'s, 'c, 'r, R: Wait + Clock, D: Disk + Drop, G: Gate + Drop> Device
     for SharedDevice<'s, 'c, 'r, R, D, G> {
-    ghost does = { λ x call y. (y.caller.ghost_name ≡ x.caller.ghost_name) × (y.session ≡ x.session) × IsCalled D.honest x.session x.caller.now.seat call y.caller.now.seat };
+    ghost does = { λ x call y. (y.caller.ghost_name ≡ x.caller.ghost_name) × (y.session ≡ x.session)
+        × IsCalled D.honest x.session x.caller.now.seat call y.caller.now.seat };
 
     fn execute(&mut self, request: &Request<'_>) -> Outcome<Global> {
         let (outcome, caused) = self
