@@ -1,25 +1,23 @@
 -- A history happens, call by call.
-use Rattle.std.proofs.Common.{◌≡◌, Some, None, List, [], ◌∷◌, refl, sym, ap, subst, inl, inr}
+use Rattle.std.proofs.Common.{◌≡◌, Option, Some, None, List, [], ◌∷◌, refl, sym, ap, subst, inl, inr}
 use Rattle.std.specs.Prelude.{⊤}
 use Rattle.psu_disk.specs.Disk.{DiskState}
 use Rattle.psu_exec.specs.Device.{State}
-use Rattle.psu_exec.specs.Calls.{Entry}
-use Rattle.psu_exec.specs.Calls.Entry.{Executed, Settled, Took, GaveBack, Opened, Closed, Cleared, Sent, Delivered, Queried, Fetched, Notified, Locked, Released, Ticked, Informed, Due}
+use Rattle.psu_exec.specs.Calls.{Entry, JobEnd, Allows}
 use Rattle.psu_exec.specs.Lives.{broken_life}
-use Rattle.psu_exec.specs.World.{World, Running, Event, Call, DiskCall, Loss, Stop, Restart, DiskAfter, Happens, Run, recorded}
+use Rattle.psu_exec.specs.World.{World, Running, Event, Call, DiskCall, Loss, Stop, Restart, DiskAfter, DiskOfEnd, Happens, Run, accepted_end, recorded}
 use Rattle.psu_exec.proofs.BrokenLife.{breaks_and_mends}
 use Rattle.psu_exec.proofs.Events.{prefix_is_left}
 use Rattle.psu_turn.specs.History.{HistoryLeads}
 use Rattle.psu_turn.specs.declared.numbered.Numbered.{Numbered}
-use Rattle.psu_bench.specs.Calls.{Admits, AdmitsOn, HasDisk, HasNoSession}
+use Rattle.psu_bench.specs.Calls.{AllowsOn, EndHasDisk, HasDisk}
 use Rattle.psu_bench.specs.Lives.{Happening, Called, Moved, HistoriesHappen, LeadsOverDisks, Lives, LivesAreEvents, SeenHistoriesHappen, SomeHistoryHappens, ThreadsLeavePrefix, by_one, calls_in}
 
 -- ---- happenings are events
 
 events_of : (happenings : List Happening) (w new : World) → Lives w happenings new → (events : List Event) × Run w events new
 events_of [] w new same = ([], same)
-events_of (Called call disk ∷ more) w new (inl (mid, happens, rest)) = let r = events_of more mid new rest in (Call call.entry disk ∷ r.0, (mid, happens, r.1))
-events_of (Called call disk ∷ more) w new (inr (absent, same, rest)) = events_of more w new rest
+events_of (Called call disk ∷ more) w new (mid, happens, rest) = let r = events_of more mid new rest in (Call call.entry disk ∷ r.0, (mid, happens, r.1))
 events_of (Moved disk ∷ more) w new (mid, happens, rest) = let r = events_of more mid new rest in (DiskCall disk ∷ r.0, (mid, happens, r.1))
 
 -- a disk call leaves the device's state unchanged
@@ -27,15 +25,14 @@ still : (w mid : World) (disk : DiskState) → Happens w (DiskCall disk) mid →
 still w mid disk (moves, inl (keeps, is)) = ap (λ (z : World). z.state) is
 still w mid disk (moves, inr (keeps, is)) = ap (λ (z : World). z.state) is
 
-leads_of : (happenings : List Happening) (w new : World) → Lives w happenings new → HistoryLeads Admits w.state (calls_in happenings) new.state
+leads_of : (happenings : List Happening) (w new : World) → Lives w happenings new → HistoryLeads Allows w.state (calls_in happenings) new.state
 leads_of [] w new same = sym (ap (λ (z : World). z.state) same)
-leads_of (Called call disk ∷ more) w new (inl (mid, happens, rest)) = (
+leads_of (Called call disk ∷ more) w new (mid, happens, rest) = (
   mid.state,
-  subst (λ (s : State). Admits w.state call.entry s) (sym (ap (λ (z : World). z.state) happens.4)) (inl happens.2),
+  subst (λ (s : State). Allows w.state call.entry s) (sym (ap (λ (z : World). z.state) happens.4)) happens.2,
   leads_of more mid new rest,
 )
-leads_of (Called call disk ∷ more) w new (inr (absent, same, rest)) = (w.state, inr (absent, refl), leads_of more w new rest)
-leads_of (Moved disk ∷ more) w new (mid, happens, rest) = subst (λ (s : State). HistoryLeads Admits s (calls_in more) new.state) (still w mid disk happens) (leads_of more mid new rest)
+leads_of (Moved disk ∷ more) w new (mid, happens, rest) = subst (λ (s : State). HistoryLeads Allows s (calls_in more) new.state) (still w mid disk happens) (leads_of more mid new rest)
 
 pub lives_are_events : LivesAreEvents
 lives_are_events w new happenings lives = (events_of happenings w new lives, leads_of happenings w new lives)
@@ -44,24 +41,10 @@ lives_are_events w new happenings lives = (events_of happenings w new lives, lea
 
 -- a disk that a call may leave
 disk_after : (w : World) (entry : Entry) → HasDisk w.state entry → (disk : DiskState) × DiskAfter w entry disk
-disk_after w (GaveBack finished (Some over)) has = has
-disk_after w (GaveBack finished None) has = (w.disk, refl)
-disk_after w (Executed session request reply) has = (w.disk, refl)
-disk_after w (Settled session reply) has = (w.disk, refl)
-disk_after w (Took taken) has = (w.disk, refl)
-disk_after w (Opened session) has = (w.disk, refl)
-disk_after w (Closed session granted) has = (w.disk, refl)
-disk_after w (Cleared session) has = (w.disk, refl)
-disk_after w (Sent session) has = (w.disk, refl)
-disk_after w (Delivered session) has = (w.disk, refl)
-disk_after w (Queried session byte) has = (w.disk, refl)
-disk_after w (Fetched session byte) has = (w.disk, refl)
-disk_after w (Notified sessions work) has = (w.disk, refl)
-disk_after w (Locked session kind now timeout result) has = (w.disk, refl)
-disk_after w (Released session result) has = (w.disk, refl)
-disk_after w (Ticked now failed) has = (w.disk, refl)
-disk_after w (Informed info) has = (w.disk, refl)
-disk_after w (Due deadline) has = (w.disk, refl)
+disk_after w entry has = of (accepted_end entry) has where
+  of : (end : Option JobEnd) → EndHasDisk w.state end → (disk : DiskState) × DiskOfEnd w end disk
+  of (Some finished) has = has
+  of None has = (w.disk, refl)
 
 Happened : World → List (Numbered Entry) → State → Type 0
 Happened w history last = (happenings : List Happening) × (new : World) × (calls_in happenings ≡ history) × Lives w happenings new × (new.state ≡ last)
@@ -69,72 +52,29 @@ Happened w history last = (happenings : List Happening) × (new : World) × (cal
 happen : (history : List (Numbered Entry)) (w : World) (last : State) → w.mode ≡ Running → LeadsOverDisks w.state history last → Happened w history last
 unfolding Happened
 happen [] w last running leads = ([], w, refl, refl, leads)
-happen (call ∷ history) w last running (next, inl allows, has, rest) =
+happen (call ∷ history) w last running (next, allows, has, rest) =
     let after = disk_after w call.entry has in
     let mid : World = record w { state = next; history = recorded w.state call.entry w.history; disk = after.0 } in
     let r = happen history mid last running rest in (
       Called call after.0 ∷ r.0,
       r.1,
       ap (λ (l : List (Numbered Entry)). call ∷ l) r.2,
-      inl (mid, (next, running, allows, after.1, refl), r.3),
-      r.4,
-    )
-happen (call ∷ history) w last running (next, inr (absent, same), has, rest) =
-    let r = happen history w last running (subst (λ (s : State). LeadsOverDisks s history last) same rest) in (
-      Called call w.disk ∷ r.0,
-      r.1,
-      ap (λ (l : List (Numbered Entry)). call ∷ l) r.2,
-      inr (absent, refl, r.3),
+      (mid, (next, running, allows, after.1, refl), r.3),
       r.4,
     )
 
 -- ---- and only then
 
 has_after : (w : World) (entry : Entry) (disk : DiskState) → DiskAfter w entry disk → HasDisk w.state entry
-has_after w (GaveBack finished (Some over)) disk is = (disk, is)
-has_after w (GaveBack finished None) disk is = tt
-has_after w (Executed session request reply) disk is = tt
-has_after w (Settled session reply) disk is = tt
-has_after w (Took taken) disk is = tt
-has_after w (Opened session) disk is = tt
-has_after w (Closed session granted) disk is = tt
-has_after w (Cleared session) disk is = tt
-has_after w (Sent session) disk is = tt
-has_after w (Delivered session) disk is = tt
-has_after w (Queried session byte) disk is = tt
-has_after w (Fetched session byte) disk is = tt
-has_after w (Notified sessions work) disk is = tt
-has_after w (Locked session kind now timeout result) disk is = tt
-has_after w (Released session result) disk is = tt
-has_after w (Ticked now failed) disk is = tt
-has_after w (Informed info) disk is = tt
-has_after w (Due deadline) disk is = tt
-
--- a call for a session that isn't open gives no end back
-has_absent : (s : State) (entry : Entry) → HasNoSession s entry → HasDisk s entry
-has_absent s (GaveBack finished over) absent = absurd absent
-has_absent s (Executed session request reply) absent = tt
-has_absent s (Settled session reply) absent = tt
-has_absent s (Took taken) absent = tt
-has_absent s (Opened session) absent = tt
-has_absent s (Closed session granted) absent = tt
-has_absent s (Cleared session) absent = tt
-has_absent s (Sent session) absent = tt
-has_absent s (Delivered session) absent = tt
-has_absent s (Queried session byte) absent = tt
-has_absent s (Fetched session byte) absent = tt
-has_absent s (Notified sessions work) absent = tt
-has_absent s (Locked session kind now timeout result) absent = tt
-has_absent s (Released session result) absent = tt
-has_absent s (Ticked now failed) absent = tt
-has_absent s (Informed info) absent = tt
-has_absent s (Due deadline) absent = tt
+has_after w entry disk is = of (accepted_end entry) is where
+  of : (end : Option JobEnd) → DiskOfEnd w end disk → EndHasDisk w.state end
+  of (Some finished) is = (disk, is)
+  of None is = tt
 
 led : (happenings : List Happening) (w new : World) → Lives w happenings new → LeadsOverDisks w.state (calls_in happenings) new.state
 led [] w new same = sym (ap (λ (z : World). z.state) same)
-led (Called call disk ∷ more) w new (inl (mid, happens, rest)) =
-    (mid.state, subst (λ (s : State). Admits w.state call.entry s) (sym (ap (λ (z : World). z.state) happens.4)) (inl happens.2), has_after w call.entry disk happens.3, led more mid new rest)
-led (Called call disk ∷ more) w new (inr (absent, same, rest)) = (w.state, inr (absent, refl), has_absent w.state call.entry absent, led more w new rest)
+led (Called call disk ∷ more) w new (mid, happens, rest) =
+    (mid.state, subst (λ (s : State). Allows w.state call.entry s) (sym (ap (λ (z : World). z.state) happens.4)) happens.2, has_after w call.entry disk happens.3, led more mid new rest)
 led (Moved disk ∷ more) w new (mid, happens, rest) = subst (λ (s : State). LeadsOverDisks s (calls_in more) new.state) (still w mid disk happens) (led more mid new rest)
 
 led_to : (w : World) (history : List (Numbered Entry)) (last : State) → Happened w history last → LeadsOverDisks w.state history last
@@ -148,29 +88,9 @@ histories_happen w history last running = (happen history w last running, led_to
 
 -- ---- the history that a seat has seen happens
 
-on_disk : (honest : Type 0) (s next : State) (entry : Entry) → honest → AdmitsOn honest s entry next → Admits s entry next × HasDisk s entry
-on_disk honest s next (GaveBack finished over) h (admits, has) = (admits, has h)
-on_disk honest s next (Executed session request reply) h admits = (admits, tt)
-on_disk honest s next (Settled session reply) h admits = (admits, tt)
-on_disk honest s next (Took taken) h admits = (admits, tt)
-on_disk honest s next (Opened session) h admits = (admits, tt)
-on_disk honest s next (Closed session granted) h admits = (admits, tt)
-on_disk honest s next (Cleared session) h admits = (admits, tt)
-on_disk honest s next (Sent session) h admits = (admits, tt)
-on_disk honest s next (Delivered session) h admits = (admits, tt)
-on_disk honest s next (Queried session byte) h admits = (admits, tt)
-on_disk honest s next (Fetched session byte) h admits = (admits, tt)
-on_disk honest s next (Notified sessions work) h admits = (admits, tt)
-on_disk honest s next (Locked session kind now timeout result) h admits = (admits, tt)
-on_disk honest s next (Released session result) h admits = (admits, tt)
-on_disk honest s next (Ticked now failed) h admits = (admits, tt)
-on_disk honest s next (Informed info) h admits = (admits, tt)
-on_disk honest s next (Due deadline) h admits = (admits, tt)
-
-pub over_disks : (honest : Type 0) (history : List (Numbered Entry)) (first last : State) → honest → HistoryLeads (AdmitsOn honest) first history last → LeadsOverDisks first history last
+pub over_disks : (honest : Type 0) (history : List (Numbered Entry)) (first last : State) → honest → HistoryLeads (AllowsOn honest) first history last → LeadsOverDisks first history last
 over_disks honest [] first last h leads = leads
-over_disks honest (call ∷ history) first last h (next, admits, rest) =
-    let on = on_disk honest first next call.entry h admits in (next, on.0, on.1, over_disks honest history next last h rest)
+over_disks honest (call ∷ history) first last h (next, allows, rest) = (next, allows.0, allows.1 h, over_disks honest history next last h rest)
 
 pub seen_histories_happen : (honest : Type 0) → SeenHistoriesHappen honest
 unfolding Happened
@@ -190,7 +110,7 @@ IsUninterrupted (Restart limit contents ∷ more) = ⊥
 lives_of : (events : List Event) (w new : World) → IsUninterrupted events → Run w events new → Lives w (by_one events) new
 unfolding IsUninterrupted
 lives_of [] w new goes same = same
-lives_of (Call entry disk ∷ more) w new goes (mid, happens, rest) = inl (mid, happens, lives_of more mid new goes rest)
+lives_of (Call entry disk ∷ more) w new goes (mid, happens, rest) = (mid, happens, lives_of more mid new goes rest)
 lives_of (DiskCall disk ∷ more) w new goes (mid, happens, rest) = (mid, happens, lives_of more mid new goes rest)
 lives_of (Loss image ∷ more) w new goes run = absurd goes
 lives_of (Stop ∷ more) w new goes run = absurd goes

@@ -3,10 +3,10 @@ use Rattle.std.proofs.Common.{◌≡◌, ◌⊎◌, inl, inr, ◌++◌, ap, ◌�
 use Rattle.psu_turn.specs.Seats.{Sight, SeatCalls}
 use Rattle.psu_exec.specs.Device.{State}
 use Rattle.psu_exec.specs.Calls.{Entry}
-use Rattle.psu_bench.specs.Calls.{AdmitsOn}
+use Rattle.psu_bench.specs.Calls.{AllowsOn}
 use Rattle.psu_bench.specs.Seen.{HasSeen}
 
-pub call_seen : (honest : Type 0) (old new : Sight State Entry) (entry : Entry) → SeatCalls (AdmitsOn honest) old entry new → HasSeen honest old new
+pub call_seen : (honest : Type 0) (old new : Sight State Entry) (entry : Entry) → SeatCalls (AllowsOn honest) old entry new → HasSeen honest old new
 call_seen honest old new entry c = record { seen = (c.seen.0 ++ _, c.seen.1 ∙ append_assoc old.seen c.seen.0 _); legal = c.legal; own = c.own }
 
 pub seen_then : (honest : Type 0) (old mid new : Sight State Entry) → HasSeen honest old mid → HasSeen honest mid new → HasSeen honest old new

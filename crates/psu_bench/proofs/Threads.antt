@@ -7,16 +7,16 @@ use Rattle.psu_items.specs.Image.{EachIsEither}
 use Rattle.psu_nv.specs.Contents.{items_of}
 use Rattle.psu_exec.specs.Consistent.{IsConsistent}
 use Rattle.psu_exec.specs.Device.{Reply, State, Flush, is_whole, map_held, target}
-use Rattle.psu_exec.specs.Calls.{Entry, JobData, JobEnd, Taken, Allows, ends_wait, job_out, sessions_over, settled, unparked, with_stored}
+use Rattle.psu_exec.specs.Calls.{Entry, JobData, JobEnd, Taken, Allows, Serves, ends_wait, job_out, sessions_over, settled, unparked, with_stored}
 use Rattle.psu_exec.specs.Calls.Entry.{Executed, Settled, Took, GaveBack, Opened, Closed, Cleared, Sent, Delivered, Queried, Fetched, Notified, Locked, Released, Ticked, Informed, Due}
 use Rattle.psu_exec.specs.Jobs.{finished_disk, finished_of, job_data, job_disk}
-use Rattle.psu_exec.specs.World.{World, Running, DiskAfter, IsStart, Moves, recorded}
+use Rattle.psu_exec.specs.World.{World, Running, DiskAfter, DiskOfEnd, IsStart, Moves, recorded}
 use Rattle.psu_exec.proofs.Carrying.{still_either, true_of}
 use Rattle.psu_exec.proofs.Consistent.{consistent_start}
 use Rattle.psu_exec.proofs.Staying.{each_stays_consistent}
 use Rattle.psu_turn.specs.History.{numbered}
 use Rattle.psu_turn.specs.declared.numbered.Numbered.{Numbered}
-use Rattle.psu_bench.specs.Calls.{AdmitsOn}
+use Rattle.psu_bench.specs.Calls.{AllowsOn}
 use Rattle.psu_bench.specs.Lives.{Called, Moved, LeadsOverDisks, Lives, calls_in}
 use Rattle.psu_bench.specs.Threads.{DisksLeavePrefix, EndsAreTrue, HaveDisks, IsDiskCall, IsPlain, JobRun, SomeStepsExist, ThreadStep, CallMade, Takes, Reaches, Gives, ThreadsAreEvents, shown, taken}
 use Rattle.psu_bench.proofs.Lives.{lives_are_events, over_disks, threads_leave_prefix}
@@ -25,24 +25,7 @@ use Rattle.psu_bench.proofs.Lives.{lives_are_events, over_disks, threads_leave_p
 
 -- the disk stays
 plain_after : (w : World) (entry : Entry) → IsPlain entry → DiskAfter w entry w.disk
-plain_after w (GaveBack finished (Some over)) plain = absurd plain
-plain_after w (GaveBack finished None) plain = refl
-plain_after w (Executed session request reply) plain = refl
-plain_after w (Settled session reply) plain = refl
-plain_after w (Took taken) plain = refl
-plain_after w (Opened session) plain = refl
-plain_after w (Closed session granted) plain = refl
-plain_after w (Cleared session) plain = refl
-plain_after w (Sent session) plain = refl
-plain_after w (Delivered session) plain = refl
-plain_after w (Queried session byte) plain = refl
-plain_after w (Fetched session byte) plain = refl
-plain_after w (Notified sessions work) plain = refl
-plain_after w (Locked session kind now timeout result) plain = refl
-plain_after w (Released session result) plain = refl
-plain_after w (Ticked now failed) plain = refl
-plain_after w (Informed info) plain = refl
-plain_after w (Due deadline) plain = refl
+plain_after w entry plain = subst (λ (end : Option JobEnd). DiskOfEnd w end w.disk) (sym plain.1) refl
 
 -- the limit, the map before, the target and whether a job is out stay
 record SameJob (f new : Flush) : Type 0 where
@@ -60,29 +43,33 @@ settled_same f session reply = at (ends_wait reply) where
   at true = record { limit = refl; before = refl; held = refl; out = refl }
   at false = record { limit = refl; before = refl; held = refl; out = refl }
 
+serves_same : (s new : State) (entry : Entry) → IsPlain entry → Serves s entry new → SameJob s.flush new.flush
+serves_same s new (Took (Taken.Job job)) plain a = absurd (let bad = plain.0 in cc)
+serves_same s new (Took Taken.Nothing) plain a = same_at s.flush new _ a.1 (record { limit = refl; before = refl; held = refl; out = refl })
+serves_same s new (Took Taken.Out) plain a = same_at s.flush new _ a.1 (record { limit = refl; before = refl; held = refl; out = refl })
+serves_same s new (Took Taken.Memory) plain a = same_at s.flush new _ a.1 (record { limit = refl; before = refl; held = refl; out = refl })
+serves_same s new (GaveBack finished (Some over)) plain a = absurd (let bad = plain.1 in cc)
+serves_same s new (GaveBack finished None) plain a = same_at s.flush new _ a.1 (record { limit = refl; before = refl; held = refl; out = refl })
+serves_same s new (Executed session request reply) plain a = same_at s.flush new _ a.1.is (record { limit = refl; before = refl; held = refl; out = refl })
+serves_same s new (Settled session reply) plain a = same_at s.flush new _ a.2 (settled_same s.flush session reply)
+serves_same s new (Opened None) plain a = same_at s.flush new _ a.1 (record { limit = refl; before = refl; held = refl; out = refl })
+serves_same s new (Opened (Some session)) plain a = same_at s.flush new _ a.1 (record { limit = refl; before = refl; held = refl; out = refl })
+serves_same s new (Closed session granted) plain a = same_at s.flush new _ a.2 (record { limit = refl; before = refl; held = refl; out = refl })
+serves_same s new (Cleared session) plain a = same_at s.flush new _ a.1 (record { limit = refl; before = refl; held = refl; out = refl })
+serves_same s new (Sent session sessions work) plain a = same_at s.flush new _ a.1.2 (record { limit = refl; before = refl; held = refl; out = refl })
+serves_same s new (Delivered session) plain a = same_at s.flush new _ a.1 (record { limit = refl; before = refl; held = refl; out = refl })
+serves_same s new (Queried session byte) plain a = same_at s.flush new _ a.2 (record { limit = refl; before = refl; held = refl; out = refl })
+serves_same s new (Fetched session byte) plain a = same_at s.flush new _ a.2 (record { limit = refl; before = refl; held = refl; out = refl })
+serves_same s new (Notified sessions work) plain a = same_at s.flush new _ a.2 (record { limit = refl; before = refl; held = refl; out = refl })
+serves_same s new (Locked session kind now timeout result) plain a = same_at s.flush new _ a.2 (record { limit = refl; before = refl; held = refl; out = refl })
+serves_same s new (Released session result) plain a = same_at s.flush new _ a.2 (record { limit = refl; before = refl; held = refl; out = refl })
+serves_same s new (Ticked now failed) plain a = same_at s.flush new _ a.1 (record { limit = refl; before = refl; held = refl; out = refl })
+serves_same s new (Informed info) plain a = same_at s.flush new _ a.1 (record { limit = refl; before = refl; held = refl; out = refl })
+serves_same s new (Due deadline) plain a = same_at s.flush new _ a.1 (record { limit = refl; before = refl; held = refl; out = refl })
+
 plain_same : (s new : State) (entry : Entry) → IsPlain entry → Allows s entry new → SameJob s.flush new.flush
-plain_same s new (Took (Taken.Job job)) plain a = absurd plain
-plain_same s new (Took Taken.Nothing) plain a = same_at s.flush new _ a.1 (record { limit = refl; before = refl; held = refl; out = refl })
-plain_same s new (Took Taken.Out) plain a = same_at s.flush new _ a.1 (record { limit = refl; before = refl; held = refl; out = refl })
-plain_same s new (Took Taken.Memory) plain a = same_at s.flush new _ a.1 (record { limit = refl; before = refl; held = refl; out = refl })
-plain_same s new (GaveBack finished (Some over)) plain a = absurd plain
-plain_same s new (GaveBack finished None) plain a = same_at s.flush new _ a.1 (record { limit = refl; before = refl; held = refl; out = refl })
-plain_same s new (Executed session request reply) plain a = same_at s.flush new _ a.1.is (record { limit = refl; before = refl; held = refl; out = refl })
-plain_same s new (Settled session reply) plain a = same_at s.flush new _ a.2 (settled_same s.flush session reply)
-plain_same s new (Opened None) plain a = same_at s.flush new _ a.1 (record { limit = refl; before = refl; held = refl; out = refl })
-plain_same s new (Opened (Some session)) plain a = same_at s.flush new _ a.1 (record { limit = refl; before = refl; held = refl; out = refl })
-plain_same s new (Closed session granted) plain a = same_at s.flush new _ a.2 (record { limit = refl; before = refl; held = refl; out = refl })
-plain_same s new (Cleared session) plain a = same_at s.flush new _ a.1 (record { limit = refl; before = refl; held = refl; out = refl })
-plain_same s new (Sent session) plain a = same_at s.flush new _ a.1 (record { limit = refl; before = refl; held = refl; out = refl })
-plain_same s new (Delivered session) plain a = same_at s.flush new _ a.1 (record { limit = refl; before = refl; held = refl; out = refl })
-plain_same s new (Queried session byte) plain a = same_at s.flush new _ a.2 (record { limit = refl; before = refl; held = refl; out = refl })
-plain_same s new (Fetched session byte) plain a = same_at s.flush new _ a.2 (record { limit = refl; before = refl; held = refl; out = refl })
-plain_same s new (Notified sessions work) plain a = same_at s.flush new _ a.2 (record { limit = refl; before = refl; held = refl; out = refl })
-plain_same s new (Locked session kind now timeout result) plain a = same_at s.flush new _ a.2 (record { limit = refl; before = refl; held = refl; out = refl })
-plain_same s new (Released session result) plain a = same_at s.flush new _ a.2 (record { limit = refl; before = refl; held = refl; out = refl })
-plain_same s new (Ticked now failed) plain a = same_at s.flush new _ a.1 (record { limit = refl; before = refl; held = refl; out = refl })
-plain_same s new (Informed info) plain a = same_at s.flush new _ a.1 (record { limit = refl; before = refl; held = refl; out = refl })
-plain_same s new (Due deadline) plain a = same_at s.flush new _ a.1 (record { limit = refl; before = refl; held = refl; out = refl })
+plain_same s new entry plain (inl a) = serves_same s new entry plain a
+plain_same s new entry plain (inr none) = same_at s.flush new s none.1 (record { limit = refl; before = refl; held = refl; out = refl })
 
 -- ---- the run that is under way
 
@@ -115,12 +102,13 @@ out_is f = out_if (is_whole f.store) (record f { out = true; held = Some (record
 
 -- after its take
 taken_out : (D A : Type 0) (G : Ghosts D) (run : JobRun D A G) (s new : State) → Allows s (Took (Taken.Job (job_data run.job))) new → IsOut run new.flush
-taken_out D A G run s new a = record {
+taken_out D A G run s new (inl a) = record {
   out = ap (λ (t : State). t.flush.out) a.1 ∙ out_is s.flush;
   limit = ap (λ (t : State). t.flush.limit) a.1 ∙ sym (ap (λ (j : JobData). j.limit) a.0.2);
   before = ap (λ (t : State). t.flush.before) a.1 ∙ sym (ap (λ (j : JobData). j.before) a.0.2);
   goal = ap (λ (t : State). target t.flush) a.1 ∙ sym (ap (λ (j : JobData). j.target) a.0.2);
 }
+taken_out D A G run s new (inr none) = absurd none.0
 
 -- ---- all steps
 
@@ -138,7 +126,7 @@ after_call w entry next disk = record w { state = next; history = recorded w.sta
 one_call : (D A : Type 0) (G : Ghosts D) (w : World) (call : Numbered Entry) (next : State) (disk : DiskState) (steps : List (ThreadStep D A G)) (state : State) (last : D)
     → w.mode ≡ Running → Allows w.state call.entry next → DiskAfter w call.entry disk → Stepped D A G (after_call w call.entry next disk) steps state last
     → (new : World) × Lives w (Called call disk ∷ shown disk steps) new × (new.state ≡ state) × (new.disk ≡ Ghosts.state G last)
-one_call D A G w call next disk steps state last running allows after r = (r.0, inl (after_call w call.entry next disk, (next, running, allows, after, refl), r.1), r.2, r.3)
+one_call D A G w call next disk steps state last running allows after r = (r.0, (after_call w call.entry next disk, (next, running, allows, after, refl), r.1), r.2, r.3)
 
 -- a disk call of the run, before steps that happen
 one_disk_call : (D A : Type 0) (G : Ghosts D) → Counts D G → Ghosts.honest G → Ghosts.records G
@@ -157,19 +145,15 @@ step_by_step : (D A : Type 0) (G : Ghosts D) → Counts D G → Ghosts.honest G 
     → (steps : List (ThreadStep D A G)) (run : Option (JobRun D A G)) (w : World) (disk last : D) (state : State) → w.mode ≡ Running → IsConsistent w.state.flush → AreOut run w.state.flush → w.disk ≡ Ghosts.state G disk
     → HaveDisks D A G run disk steps last → LeadsOverDisks w.state (calls_in (shown w.disk steps)) state → Stepped D A G w steps state last
 step_by_step D A G counts honest records [] run w disk last state running k out is have leads = (w, refl, leads, is ∙ sym (ap (λ (d : D). Ghosts.state G d) have))
-step_by_step D A G counts honest records (CallMade call ∷ steps) run w disk last state running k out is have (next, inl allows, on, rest) =
+step_by_step D A G counts honest records (CallMade call ∷ steps) run w disk last state running k out is have (next, allows, on, rest) =
     let still = still_out D A G run w.state.flush next.flush (plain_same w.state next call.entry have.0 allows) out in
     let r = step_by_step D A G counts honest records steps run (after_call w call.entry next w.disk) disk last state running (each_stays_consistent w.state next call.entry allows k) still is have.1 rest in
     one_call D A G w call next w.disk steps state last running allows (plain_after w call.entry have.0) r
-step_by_step D A G counts honest records (CallMade call ∷ steps) run w disk last state running k out is have (next, inr (absent, same), on, rest) =
-    let r = step_by_step D A G counts honest records steps run w disk last state running k out is have.1 (subst (λ (s : State). LeadsOverDisks s (calls_in (shown w.disk steps)) state) same rest) in
-    (r.0, inr (absent, refl, r.1), r.2, r.3)
-step_by_step D A G counts honest records (Takes seat begun ∷ steps) run w disk last state running k out is have (next, inl allows, on, rest) =
+step_by_step D A G counts honest records (Takes seat begun ∷ steps) run w disk last state running k out is have (next, allows, on, rest) =
     let call : Numbered Entry = numbered seat (Took (Taken.Job (job_data begun.job))) in
     let started = taken_out D A G begun w.state next allows in
     let r = step_by_step D A G counts honest records steps (Some begun) (after_call w call.entry next w.disk) disk last state running (each_stays_consistent w.state next call.entry allows k) started is have.1 rest in
     one_call D A G w call next w.disk steps state last running allows refl r
-step_by_step D A G counts honest records (Takes seat begun ∷ steps) run w disk last state running k out is have (next, inr (absent, same), on, rest) = absurd absent
 step_by_step D A G counts honest records (Reaches next ∷ steps) None w disk last state running k out is have leads = absurd have.0
 step_by_step D A G counts honest records (Reaches next ∷ steps) (Some now) w disk last state running k out is have leads =
     let r = step_by_step D A G counts honest records steps (Some now) (record w { disk = Ghosts.state G next }) next last state running k out refl have.1 leads in
@@ -178,14 +162,15 @@ step_by_step D A G counts honest records (Gives seat finished over ∷ steps) ru
     let call : Numbered Entry = numbered seat (GaveBack (finished_of finished) (Some over)) in
     let carried : DiskState = Ghosts.state G (finished_disk finished) in
     let own = true_of w.state.flush finished k allows.expected (have.0 honest) in
-    let r = step_by_step D A G counts honest records steps None (after_call w call.entry next carried) (finished_disk finished) last state running (each_stays_consistent w.state next call.entry allows k) tt refl have.1 rest in
-    one_call D A G w call next carried steps state last running allows own r
+    let r = step_by_step D A G counts honest records steps None (after_call w call.entry next carried) (finished_disk finished) last state running (each_stays_consistent w.state next call.entry (inl allows) k) tt refl have.1 rest in
+    one_call D A G w call next carried steps state last running (inl allows) own r
 step_by_step D A G counts honest records (Gives seat finished over ∷ steps) run w disk last state running k out is have (next, inr (absent, same), on, rest) = absurd absent
 
 -- ---- the laws
 
 pub ends_are_true : (D A : Type 0) (G : Ghosts D) → EndsAreTrue D A G
-ends_are_true D A G s new finished over k stands accepted = true_of s.flush finished k accepted.expected stands
+ends_are_true D A G s new finished over k stands (inl accepted) = true_of s.flush finished k accepted.expected stands
+ends_are_true D A G s new finished over k stands (inr none) = absurd none.0
 
 pub threads_are_events : (D A : Type 0) (G : Ghosts D) → Counts D G → Ghosts.honest G → Ghosts.records G → ThreadsAreEvents D A G
 threads_are_events D A G counts honest records w first last steps state running k is have leads =
@@ -204,10 +189,10 @@ disks_leave_prefix D A G counts honest records w first last steps state image st
 -- ---- such steps exist
 
 abbrev HasGiven : Type 0 → World → JobEnd → Type 0
-HasGiven honest w end = AdmitsOn honest (taken w) (GaveBack end (Some (sessions_over (with_stored (taken w)).flush))) (with_stored (taken w))
+HasGiven honest w end = AllowsOn honest (taken w) (GaveBack end (Some (sessions_over (with_stored (taken w)).flush))) (with_stored (taken w))
 
 pub some_steps_exist : (D A : Type 0) (G : Ghosts D) → SomeStepsExist D A G
 some_steps_exist D A G w first run store s =
     let given : HasGiven (Ghosts.honest G) w (finished_of run.finished) = subst (λ (end : JobEnd). HasGiven (Ghosts.honest G) w end) (sym s.ended)
     (inl (record { out = out_is w.state.flush; expected = (s.limit, s.items); gives = refl; over_is = refl }), λ honest. (Ghosts.state G store.disk, s.on.represents)) in
-    ((s.there, (s.call, ((λ honest. s.stands), refl))), (taken w, inl ((s.free, s.work, s.job), refl), (with_stored (taken w), given, refl)))
+    ((s.there, (s.call, ((λ honest. s.stands), refl))), (taken w, (inl ((s.free, s.work, s.job), refl), λ honest. tt), (with_stored (taken w), given, refl)))

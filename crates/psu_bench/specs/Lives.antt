@@ -1,17 +1,17 @@
 -- The histories of the bench as events of the power-loss theorem.
-use Rattle.std.specs.Prelude.{◌≡◌, ◌⊎◌, ◌↔◌, ℕ, List, [], ◌∷◌}
+use Rattle.std.specs.Prelude.{◌≡◌, ◌↔◌, ℕ, List, [], ◌∷◌}
 use Rattle.psu_disk.specs.Disk.{DiskState, IsCrashImage}
 use Rattle.psu_items.specs.Image.{Represents, EachRepresents, EachIsEither}
 use Rattle.psu_nv.specs.Contents.{items_of}
 use Rattle.psu_exec.specs.Consistent.{MayBeKept}
 use Rattle.psu_exec.specs.Device.{State}
-use Rattle.psu_exec.specs.Calls.{Entry}
+use Rattle.psu_exec.specs.Calls.{Entry, Allows}
 use Rattle.psu_exec.specs.Headline.{IsPrefix}
 use Rattle.psu_exec.specs.Lives.{cleared, broken_life}
 use Rattle.psu_exec.specs.World.{World, Running, Event, Call, DiskCall, Loss, Stop, Restart, Happens, IsStart, Moves, Run, after, answered}
 use Rattle.psu_turn.specs.History.{HistoryLeads, numbered}
 use Rattle.psu_turn.specs.declared.numbered.Numbered.{Numbered}
-use Rattle.psu_bench.specs.Calls.{Admits, AdmitsOn, HasDisk, HasNoSession}
+use Rattle.psu_bench.specs.Calls.{AllowsOn, HasDisk}
 
 -- What happens while threads run: a call, with the disk after it, or a disk call of the job that is out.
 pub data Happening : Type 0 where
@@ -24,24 +24,21 @@ calls_in [] = []
 calls_in (Called call disk ∷ more) = call ∷ calls_in more
 calls_in (Moved disk ∷ more) = calls_in more
 
--- These happen one after another, from world w to the world new. A call is an event, or is for a session that isn't
--- open, and then nothing changes; a disk call is an event.
+-- These happen one after another, from world w to the world new: each is an event.
 abbrev pub Lives : World → List Happening → World → Type 0
 Lives w [] new = new ≡ w
-Lives w (Called call disk ∷ more) new =
-    ((mid : World) × Happens w (Call call.entry disk) mid × Lives mid more new)
-    ⊎ (HasNoSession w.state call.entry × (disk ≡ w.disk) × Lives w more new)
+Lives w (Called call disk ∷ more) new = (mid : World) × Happens w (Call call.entry disk) mid × Lives mid more new
 Lives w (Moved disk ∷ more) new = (mid : World) × Happens w (DiskCall disk) mid × Lives mid more new
 
 -- What happens are events of the power-loss theorem, and its calls are a legal history.
 abbrev pub LivesAreEvents : Type 0
 LivesAreEvents = (w new : World) (happenings : List Happening) → Lives w happenings new
-    → ((events : List Event) × Run w events new) × HistoryLeads Admits w.state (calls_in happenings) new.state
+    → ((events : List Event) × Run w events new) × HistoryLeads Allows w.state (calls_in happenings) new.state
 
 -- a legal history whose accepted ends are each true of some disk
 abbrev pub LeadsOverDisks : State → List (Numbered Entry) → State → Type 0
 LeadsOverDisks first [] last = first ≡ last
-LeadsOverDisks first (call ∷ more) last = (next : State) × Admits first call.entry next × HasDisk first call.entry × LeadsOverDisks next more last
+LeadsOverDisks first (call ∷ more) last = (next : State) × Allows first call.entry next × HasDisk first call.entry × LeadsOverDisks next more last
 
 -- Exactly those histories happen.
 abbrev pub HistoriesHappen : Type 0
@@ -50,7 +47,7 @@ HistoriesHappen = (w : World) (history : List (Numbered Entry)) (last : State) �
 
 -- So the history that a seat has seen happens, if the disks of the bench's kind are honest.
 abbrev pub SeenHistoriesHappen : Type 0 → Type 0
-SeenHistoriesHappen honest = (w : World) (history : List (Numbered Entry)) (last : State) → honest → w.mode ≡ Running → HistoryLeads (AdmitsOn honest) w.state history last
+SeenHistoriesHappen honest = (w : World) (history : List (Numbered Entry)) (last : State) → honest → w.mode ≡ Running → HistoryLeads (AllowsOn honest) w.state history last
     → (happenings : List Happening) × (new : World) × (calls_in happenings ≡ history) × Lives w happenings new × (new.state ≡ last)
 
 -- the happenings of one thread that causes these events, up to a power loss, the process's end or a restart

@@ -7,16 +7,16 @@ use Rattle.psu_items.specs.Standing.{IsOnDisk, MapOn}
 use Rattle.psu_nv.specs.Contents.{items_of}
 use Rattle.psu_exec.specs.Consistent.{IsConsistent, MayBeKept}
 use Rattle.psu_exec.specs.Device.{State, target}
-use Rattle.psu_exec.specs.Calls.{Entry, Taken, Allows, HasWork, JobEnd, job_of, job_out, sessions_over, with_stored}
+use Rattle.psu_exec.specs.Calls.{Entry, Taken, Allows, HasWork, JobData, JobEnd, job_of, job_out, sessions_over, with_stored}
 use Rattle.psu_exec.specs.Calls.Entry.{Took, GaveBack}
 use Rattle.psu_exec.specs.Headline.{IsPrefix}
 use Rattle.psu_exec.specs.Jobs.{EndStands, finished_disk, finished_of, job_data, job_disk}
-use Rattle.psu_exec.specs.World.{World, Running, Event, Moves, Run, IsStart, IsTrueOf, after}
+use Rattle.psu_exec.specs.World.{World, Running, Event, Moves, Run, IsStart, IsTrueOf, accepted_end, after}
 use Rattle.psu_exec.specs.declared.job.Job.{Job}
 use Rattle.psu_exec.specs.declared.finished.End.{End as EndOf}
 use Rattle.psu_turn.specs.History.{HistoryLeads, numbered}
 use Rattle.psu_turn.specs.declared.numbered.Numbered.{Numbered}
-use Rattle.psu_bench.specs.Calls.{AdmitsOn}
+use Rattle.psu_bench.specs.Calls.{AllowsOn}
 use Rattle.psu_bench.specs.Lives.{Happening, Called, Moved, Lives, calls_in}
 
 -- ---- the steps of threads
@@ -51,11 +51,14 @@ shown {D} {A} {G} disk (Gives seat finished over ∷ more) =
 
 -- ---- the disks of the steps
 
+-- the job that a call takes
+abbrev pub taken_job : Entry → Option JobData
+taken_job (Took (Taken.Job job)) = Some job
+taken_job _ = None
+
 -- no job is taken, and no end is accepted
 abbrev pub IsPlain : Entry → Type 0
-IsPlain (Took (Taken.Job job)) = ⊥
-IsPlain (GaveBack finished (Some over)) = ⊥
-IsPlain _ = ⊤
+IsPlain entry = (taken_job entry ≡ None) × (accepted_end entry ≡ None)
 
 -- A disk call of the run that succeeds or fails: it changes the disk as a disk call may, and each crash image that is
 -- possible since the run began, up to the disk after it, is possible since then at the run's end.
@@ -98,14 +101,14 @@ pub record Occurs {D A : Type 0} {G : Ghosts D} (w : World) (steps : List (Threa
 -- So do the steps of threads whose calls are a legal history.
 abbrev pub ThreadsAreEvents : (D A : Type 0) → Ghosts D → Type 0
 ThreadsAreEvents D A G = (w : World) (first last : D) (steps : List (ThreadStep D A G)) (state : State)
-    → w.mode ≡ Running → IsConsistent w.state.flush → w.disk ≡ Ghosts.state G first → HaveDisks D A G None first steps last → HistoryLeads (AdmitsOn (Ghosts.honest G)) w.state (calls_in (shown w.disk steps)) state
+    → w.mode ≡ Running → IsConsistent w.state.flush → w.disk ≡ Ghosts.state G first → HaveDisks D A G None first steps last → HistoryLeads (AllowsOn (Ghosts.honest G)) w.state (calls_in (shown w.disk steps)) state
     → Occurs w steps state last
 
 -- Therefore each possible crash image of the threads' disk, after any of their steps since a power-on, represents the
 -- contents after a prefix of the executed units that includes every unit before an answered `*OPC?`.
 abbrev pub DisksLeavePrefix : (D A : Type 0) → Ghosts D → Type 0
 DisksLeavePrefix D A G = (w : World) (first last : D) (steps : List (ThreadStep D A G)) (state : State) (image : List ℕ)
-    → IsStart w → w.disk ≡ Ghosts.state G first → HaveDisks D A G None first steps last → HistoryLeads (AdmitsOn (Ghosts.honest G)) w.state (calls_in (shown w.disk steps)) state → IsCrashImage (Ghosts.state G last) image
+    → IsStart w → w.disk ≡ Ghosts.state G first → HaveDisks D A G None first steps last → HistoryLeads (AllowsOn (Ghosts.honest G)) w.state (calls_in (shown w.disk steps)) state → IsCrashImage (Ghosts.state G last) image
     → (now : World) × (k : ℕ) × Lives w (shown w.disk steps) now × IsPrefix now k × MayBeKept now.limit (after now k) × Represents image now.limit (items_of (after now k))
 
 -- ---- such steps exist
@@ -135,4 +138,4 @@ one_job w run = Takes 1 run ∷ Reaches (finished_disk run.finished) ∷ Gives 1
 -- The premises of the laws hold of these steps: they have the disks, and their calls are a legal history.
 abbrev pub SomeStepsExist : (D A : Type 0) → Ghosts D → Type 0
 SomeStepsExist D A G = (w : World) (first : D) (run : JobRun D A G) (store : MapOn D) → StoresTarget w first run store
-    → HaveDisks D A G None first (one_job w run) (finished_disk run.finished) × HistoryLeads (AdmitsOn (Ghosts.honest G)) w.state (calls_in (shown w.disk (one_job w run))) (with_stored (taken w))
+    → HaveDisks D A G None first (one_job w run) (finished_disk run.finished) × HistoryLeads (AllowsOn (Ghosts.honest G)) w.state (calls_in (shown w.disk (one_job w run))) (with_stored (taken w))

@@ -3,14 +3,15 @@ ghost use Rattle.std.specs.Prelude.{◌≡◌, IfOk, IfErr, length};
 ghost use Rattle.psu_turn.specs.Seats.{Begins, IsOf, SeatCalls, Sees, Splits, Joins, Closes};
 ghost use Rattle.psu_exec.specs.Calls.Entry.{Executed, Settled, Took, GaveBack, Opened, Closed, Cleared, Sent, Delivered, Queried, Fetched, Notified, Locked, Released, Ticked, Informed, Due};
 ghost use Rattle.psu_exec.specs.Shown.{outcome_of, over_of};
-ghost use Rattle.psu_bench.specs.Calls.{AdmitsOn, session_of};
+ghost use Rattle.psu_bench.specs.Calls.{AllowsOn, session_of};
 
+use crate::Call;
 use crate::boxed_device::BoxedDevice;
+use crate::operation::Operation;
 use crate::operations::{
-    Clear, CloseSession, Deliver, Execute, Fetch, GiveBack, Inform, Lock, NextDeadline, Notify,
-    OpenSession, Query, Release, Send, Settle, Take, Tick,
+    Clear, CloseSession, Execute, Fetch, GiveBack, Inform, Lock, MarkDelivered, MarkSent,
+    NextDeadline, Notify, OpenSession, Query, Release, Settle, Take, Tick,
 };
-use crate::{Call, Operation};
 use psu_disk::Disk;
 use psu_exec::{
     Crowded, Device, Exec, Finished, Freed, Grant, Info, Job, Kind, LockRefusal, NoJob,
@@ -75,7 +76,7 @@ impl<D: Disk, A: Allocator + Copy> Bench<D, A> {
         operation: O,
     ) -> O::Reply
         requires own { IsOf self.now seat.old }
-        ensures call { SeatCalls (AdmitsOn D.honest) seat.old (O.entry operation result) seat.new }
+        ensures call { SeatCalls (AllowsOn D.honest) seat.old (O.entry operation result) seat.new }
         ensures own { IsOf self.now seat.new }
     {
         let call = Snapshot::of(&operation);
@@ -94,7 +95,7 @@ impl<D: Disk, A: Allocator + Copy> Bench<D, A> {
         request: &Request<'_>,
     ) -> Outcome<A>
         requires own { IsOf self.now seat.old }
-        ensures call { SeatCalls (AdmitsOn D.honest) seat.old (Executed session request.now (outcome_of result)) seat.new }
+        ensures call { SeatCalls (AllowsOn D.honest) seat.old (Executed session request.now (outcome_of result)) seat.new }
         ensures own { IsOf self.now seat.new }
     {
         self.call(rt, seat, Execute { session, request })
@@ -103,7 +104,7 @@ impl<D: Disk, A: Allocator + Copy> Bench<D, A> {
     /// Returns the result of a session's wait, in a turn; Later if the session isn't open.
     pub fn settle<R: Wait>(&self, rt: &R, seat: &mut Seat<A>, session: Session) -> Outcome<A>
         requires own { IsOf self.now seat.old }
-        ensures call { SeatCalls (AdmitsOn D.honest) seat.old (Settled session (outcome_of result)) seat.new }
+        ensures call { SeatCalls (AllowsOn D.honest) seat.old (Settled session (outcome_of result)) seat.new }
         ensures own { IsOf self.now seat.new }
     {
         self.call(rt, seat, Settle(session))
@@ -112,7 +113,7 @@ impl<D: Disk, A: Allocator + Copy> Bench<D, A> {
     /// Takes a job, in a turn.
     pub fn take<R: Wait>(&self, rt: &R, seat: &mut Seat<A>) -> Result<Job<D, A>, NoJob>
         requires own { IsOf self.now seat.old }
-        ensures call { SeatCalls (AdmitsOn D.honest) seat.old (Took (taken_of result)) seat.new }
+        ensures call { SeatCalls (AllowsOn D.honest) seat.old (Took (taken_of result)) seat.new }
         ensures own { IsOf self.now seat.new }
     {
         self.call(rt, seat, Take)
@@ -126,7 +127,7 @@ impl<D: Disk, A: Allocator + Copy> Bench<D, A> {
         finished: Finished<D, A>,
     ) -> Result<Sessions, Stranger<D, A>>
         requires own { IsOf self.now seat.old }
-        ensures call { SeatCalls (AdmitsOn D.honest) seat.old (GaveBack (finished_of finished.end) (over_of result)) seat.new }
+        ensures call { SeatCalls (AllowsOn D.honest) seat.old (GaveBack (finished_of finished.end) (over_of result)) seat.new }
         ensures own { IsOf self.now seat.new }
     {
         self.call(rt, seat, GiveBack(finished))
@@ -135,7 +136,7 @@ impl<D: Disk, A: Allocator + Copy> Bench<D, A> {
     /// Opens a session under the least free number, in a turn.
     pub fn open_session<R: Wait>(&self, rt: &R, seat: &mut Seat<A>) -> Result<Session, Crowded>
         requires own { IsOf self.now seat.old }
-        ensures call { SeatCalls (AdmitsOn D.honest) seat.old (Opened (session_of result)) seat.new }
+        ensures call { SeatCalls (AllowsOn D.honest) seat.old (Opened (session_of result)) seat.new }
         ensures own { IsOf self.now seat.new }
     {
         self.call(rt, seat, OpenSession)
@@ -144,7 +145,7 @@ impl<D: Disk, A: Allocator + Copy> Bench<D, A> {
     /// Closes a session if it is open, in a turn. Returns the sessions whose lock requests were then granted.
     pub fn close_session<R: Wait>(&self, rt: &R, seat: &mut Seat<A>, session: Session) -> Sessions
         requires own { IsOf self.now seat.old }
-        ensures call { SeatCalls (AdmitsOn D.honest) seat.old (Closed session result) seat.new }
+        ensures call { SeatCalls (AllowsOn D.honest) seat.old (Closed session result) seat.new }
         ensures own { IsOf self.now seat.new }
     {
         self.call(rt, seat, CloseSession(session))
@@ -153,43 +154,43 @@ impl<D: Disk, A: Allocator + Copy> Bench<D, A> {
     /// Drops the wait of a session if it is open, in a turn.
     pub fn clear<R: Wait>(&self, rt: &R, seat: &mut Seat<A>, session: Session)
         requires own { IsOf self.now seat.old }
-        ensures call { SeatCalls (AdmitsOn D.honest) seat.old (Cleared session) seat.new }
+        ensures call { SeatCalls (AllowsOn D.honest) seat.old (Cleared session) seat.new }
         ensures own { IsOf self.now seat.new }
     {
         self.call(rt, seat, Clear(session));
     }
 
-    /// If a session is open, records that a response was sent to it, in a turn.
-    pub fn sent<R: Wait>(&self, rt: &R, seat: &mut Seat<A>, session: Session)
+    /// If a session is open, records that a response was sent to it, in a turn. Returns the notifications after that.
+    pub fn mark_sent<R: Wait>(&self, rt: &R, seat: &mut Seat<A>, session: Session) -> Notifications
         requires own { IsOf self.now seat.old }
-        ensures call { SeatCalls (AdmitsOn D.honest) seat.old (Sent session) seat.new }
+        ensures call { SeatCalls (AllowsOn D.honest) seat.old (Sent session result.requesting result.has_work) seat.new }
         ensures own { IsOf self.now seat.new }
     {
-        self.call(rt, seat, Send(session));
+        self.call(rt, seat, MarkSent(session))
     }
 
     /// If a session is open, records that what was sent to it is delivered, in a turn.
-    pub fn delivered<R: Wait>(&self, rt: &R, seat: &mut Seat<A>, session: Session)
+    pub fn mark_delivered<R: Wait>(&self, rt: &R, seat: &mut Seat<A>, session: Session)
         requires own { IsOf self.now seat.old }
-        ensures call { SeatCalls (AdmitsOn D.honest) seat.old (Delivered session) seat.new }
+        ensures call { SeatCalls (AllowsOn D.honest) seat.old (Delivered session) seat.new }
         ensures own { IsOf self.now seat.new }
     {
-        self.call(rt, seat, Deliver(session));
+        self.call(rt, seat, MarkDelivered(session));
     }
 
     /// Returns the response to a status query of a session, in a turn; 0 if the session isn't open.
-    pub fn status<R: Wait>(&self, rt: &R, seat: &mut Seat<A>, session: Session) -> u8
+    pub fn query<R: Wait>(&self, rt: &R, seat: &mut Seat<A>, session: Session) -> u8
         requires own { IsOf self.now seat.old }
-        ensures call { SeatCalls (AdmitsOn D.honest) seat.old (Queried session result) seat.new }
+        ensures call { SeatCalls (AllowsOn D.honest) seat.old (Queried session result) seat.new }
         ensures own { IsOf self.now seat.new }
     {
         self.call(rt, seat, Query(session))
     }
 
     /// Fetches the service request of a session, in a turn; none if the session isn't open.
-    pub fn requests<R: Wait>(&self, rt: &R, seat: &mut Seat<A>, session: Session) -> Option<u8>
+    pub fn fetch<R: Wait>(&self, rt: &R, seat: &mut Seat<A>, session: Session) -> Option<u8>
         requires own { IsOf self.now seat.old }
-        ensures call { SeatCalls (AdmitsOn D.honest) seat.old (Fetched session result) seat.new }
+        ensures call { SeatCalls (AllowsOn D.honest) seat.old (Fetched session result) seat.new }
         ensures own { IsOf self.now seat.new }
     {
         self.call(rt, seat, Fetch(session))
@@ -199,7 +200,7 @@ impl<D: Disk, A: Allocator + Copy> Bench<D, A> {
     /// in a turn.
     pub fn take_notifications<R: Wait>(&self, rt: &R, seat: &mut Seat<A>) -> Notifications
         requires own { IsOf self.now seat.old }
-        ensures call { SeatCalls (AdmitsOn D.honest) seat.old (Notified result.requesting result.has_work) seat.new }
+        ensures call { SeatCalls (AllowsOn D.honest) seat.old (Notified result.requesting result.has_work) seat.new }
         ensures own { IsOf self.now seat.new }
     {
         self.call(rt, seat, Notify)
@@ -217,7 +218,7 @@ impl<D: Disk, A: Allocator + Copy> Bench<D, A> {
         timeout: u32,
     ) -> Result<Grant, LockRefusal>
         requires own { IsOf self.now seat.old }
-        ensures call { SeatCalls (AdmitsOn D.honest) seat.old (Locked session kind now timeout result) seat.new }
+        ensures call { SeatCalls (AllowsOn D.honest) seat.old (Locked session kind now timeout result) seat.new }
         ensures own { IsOf self.now seat.new }
     {
         let operation = Lock {
@@ -237,7 +238,7 @@ impl<D: Disk, A: Allocator + Copy> Bench<D, A> {
         session: Session,
     ) -> Result<(Freed, Sessions), LockRefusal>
         requires own { IsOf self.now seat.old }
-        ensures call { SeatCalls (AdmitsOn D.honest) seat.old (Released session result) seat.new }
+        ensures call { SeatCalls (AllowsOn D.honest) seat.old (Released session result) seat.new }
         ensures own { IsOf self.now seat.new }
     {
         self.call(rt, seat, Release(session))
@@ -246,16 +247,16 @@ impl<D: Disk, A: Allocator + Copy> Bench<D, A> {
     /// Fails the lock requests whose timeout has expired, in a turn.
     pub fn tick<R: Wait>(&self, rt: &R, seat: &mut Seat<A>, now: u64) -> Sessions
         requires own { IsOf self.now seat.old }
-        ensures call { SeatCalls (AdmitsOn D.honest) seat.old (Ticked now result) seat.new }
+        ensures call { SeatCalls (AllowsOn D.honest) seat.old (Ticked now result) seat.new }
         ensures own { IsOf self.now seat.new }
     {
         self.call(rt, seat, Tick(now))
     }
 
     /// Returns whether the exclusive lock is held, and how many sessions hold a lock, in a turn.
-    pub fn info<R: Wait>(&self, rt: &R, seat: &mut Seat<A>) -> Info
+    pub fn inform<R: Wait>(&self, rt: &R, seat: &mut Seat<A>) -> Info
         requires own { IsOf self.now seat.old }
-        ensures call { SeatCalls (AdmitsOn D.honest) seat.old (Informed result) seat.new }
+        ensures call { SeatCalls (AllowsOn D.honest) seat.old (Informed result) seat.new }
         ensures own { IsOf self.now seat.new }
     {
         self.call(rt, seat, Inform)
@@ -264,7 +265,7 @@ impl<D: Disk, A: Allocator + Copy> Bench<D, A> {
     /// Returns the earliest time at which a waiting lock request fails, in a turn.
     pub fn next_deadline<R: Wait>(&self, rt: &R, seat: &mut Seat<A>) -> Option<u128>
         requires own { IsOf self.now seat.old }
-        ensures call { SeatCalls (AdmitsOn D.honest) seat.old (Due result) seat.new }
+        ensures call { SeatCalls (AllowsOn D.honest) seat.old (Due result) seat.new }
         ensures own { IsOf self.now seat.new }
     {
         self.call(rt, seat, NextDeadline)
@@ -273,7 +274,7 @@ impl<D: Disk, A: Allocator + Copy> Bench<D, A> {
     /// Returns the number of calls so far. It waits for no other thread. It is for a program that watches others call.
     pub fn progress(&self, seat: &mut Seat<A>) -> u64
         requires own { IsOf self.now seat.old }
-        ensures look { Sees (AdmitsOn D.honest) seat.old seat.new }
+        ensures look { Sees (AllowsOn D.honest) seat.old seat.new }
         ensures length { result ≡ length seat.new.seen }
         ensures own { IsOf self.now seat.new }
     {
@@ -294,7 +295,7 @@ impl<D: Disk, A: Allocator + Copy> Bench<D, A> {
     /// joins its threads, as the server never does.
     pub fn join(&self, seat: &mut Seat<A>, other: Seat<A>)
         requires own { IsOf self.now seat.old × IsOf self.now other }
-        ensures join { Joins (AdmitsOn D.honest) seat.old other seat.new }
+        ensures join { Joins (AllowsOn D.honest) seat.old other seat.new }
         ensures own { IsOf self.now seat.new }
     {
         self.turn.join(seat, other);
@@ -304,7 +305,7 @@ impl<D: Disk, A: Allocator + Copy> Bench<D, A> {
     /// does.
     pub fn close<R: Wait>(self, rt: &R, seat: Seat<A>) -> Exec<D, A>
         requires own { IsOf self seat }
-        ensures close { Closes (AdmitsOn D.honest) seat result.device }
+        ensures close { Closes (AllowsOn D.honest) seat result.device }
     {
         let Bench { turn } = self;
         let BoxedDevice { exec } = turn.close(rt, seat);

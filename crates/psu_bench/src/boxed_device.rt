@@ -1,5 +1,5 @@
 //! The device's state in its box, as the object of the turn.
-ghost use Rattle.psu_bench.specs.Calls.{AdmitsOn};
+ghost use Rattle.psu_bench.specs.Calls.{AllowsOn};
 
 use crate::Call;
 use psu_disk::Disk;
@@ -21,5 +21,5 @@ impl<D: Disk, A: Allocator + Copy> Machine for BoxedDevice<D, A> {
 
     ghost state = { λ g. g.exec.value.device };
 
-    ghost allows = { AdmitsOn D.honest };
+    ghost allows = { AllowsOn D.honest };
 }

@@ -4,7 +4,7 @@ ghost use Rattle.psu_exec.specs.Shown.{outcome_of, over_of};
 ghost use Rattle.psu_exec.specs.Jobs.{finished_of, taken_of};
 ghost use Rattle.psu_bench.specs.Calls.{session_of};
 
-use crate::Operation;
+use crate::operation::Operation;
 use psu_disk::Disk;
 use psu_exec::{
     Crowded, Exec, Finished, Freed, Grant, Info, Job, Kind, LockRefusal, NoJob, Notifications,
@@ -14,7 +14,7 @@ use std::alloc::Allocator;
 
 /// Executes one unit of a session; Later if the session isn't open.
 #[derive(Drop)]
-pub struct Execute<'r, 't> {
+pub(crate) struct Execute<'r, 't> {
     pub session: Session,
     pub request: &'r Request<'t>,
 }
@@ -25,16 +25,13 @@ impl<'r, 't, D: Disk, A: Allocator + Copy> Operation<D, A> for Execute<'r, 't> {
     ghost entry = { λ o reply. Executed o.session o.request.now (outcome_of reply) };
 
     fn perform(self, exec: &mut Exec<D, A>) -> Outcome<A> {
-        if !exec.is_open(self.session) {
-            return Outcome::Later;
-        }
         exec.execute(self.session, self.request)
     }
 }
 
 /// Returns the result of a session's wait; Later if the session isn't open.
 #[derive(Drop)]
-pub struct Settle(pub Session);
+pub(crate) struct Settle(pub Session);
 
 impl<D: Disk, A: Allocator + Copy> Operation<D, A> for Settle {
     type Reply = Outcome<A>;
@@ -42,9 +39,6 @@ impl<D: Disk, A: Allocator + Copy> Operation<D, A> for Settle {
     ghost entry = { λ o reply. Settled o.0 (outcome_of reply) };
 
     fn perform(self, exec: &mut Exec<D, A>) -> Outcome<A> {
-        if !exec.is_open(self.0) {
-            return Outcome::Later;
-        }
         exec.settle(self.0)
     }
 }
@@ -64,7 +58,7 @@ impl<D: Disk, A: Allocator + Copy> Operation<D, A> for Take {
 }
 
 /// Gives back a finished job.
-pub struct GiveBack<D: Disk, A: Allocator + Copy>(pub Finished<D, A>);
+pub(crate) struct GiveBack<D: Disk, A: Allocator + Copy>(pub Finished<D, A>);
 
 impl<D: Disk, A: Allocator + Copy> Operation<D, A> for GiveBack<D, A> {
     type Reply = Result<Sessions, Stranger<D, A>>;
@@ -96,7 +90,7 @@ impl<D: Disk, A: Allocator + Copy> Operation<D, A> for OpenSession {
 
 /// Closes a session if it is open. Returns the sessions whose lock requests were then granted.
 #[derive(Drop)]
-pub struct CloseSession(pub Session);
+pub(crate) struct CloseSession(pub Session);
 
 impl<D: Disk, A: Allocator + Copy> Operation<D, A> for CloseSession {
     type Reply = Sessions;
@@ -104,9 +98,6 @@ impl<D: Disk, A: Allocator + Copy> Operation<D, A> for CloseSession {
     ghost entry = { λ o reply. Closed o.0 reply };
 
     fn perform(self, exec: &mut Exec<D, A>) -> Sessions {
-        if !exec.is_open(self.0) {
-            return Sessions::new();
-        }
         exec.close_session(self.0)
     }
 }
@@ -121,41 +112,35 @@ impl<D: Disk, A: Allocator + Copy> Operation<D, A> for Clear {
     ghost entry = { λ o _. Cleared o.0 };
 
     fn perform(self, exec: &mut Exec<D, A>) {
-        if exec.is_open(self.0) {
-            exec.clear(self.0);
-        }
+        exec.clear(self.0);
     }
 }
 
-/// If a session is open, records that a response was sent to it.
+/// If a session is open, records that a response was sent to it. Returns the notifications after that.
 #[derive(Drop)]
-pub struct Send(pub Session);
+pub(crate) struct MarkSent(pub Session);
 
-impl<D: Disk, A: Allocator + Copy> Operation<D, A> for Send {
-    type Reply = ();
+impl<D: Disk, A: Allocator + Copy> Operation<D, A> for MarkSent {
+    type Reply = Notifications;
 
-    ghost entry = { λ o _. Sent o.0 };
+    ghost entry = { λ o reply. Sent o.0 reply.requesting reply.has_work };
 
-    fn perform(self, exec: &mut Exec<D, A>) {
-        if exec.is_open(self.0) {
-            exec.sent(self.0);
-        }
+    fn perform(self, exec: &mut Exec<D, A>) -> Notifications {
+        exec.mark_sent(self.0)
     }
 }
 
 /// If a session is open, records that what was sent to it is delivered.
 #[derive(Drop)]
-pub struct Deliver(pub Session);
+pub struct MarkDelivered(pub Session);
 
-impl<D: Disk, A: Allocator + Copy> Operation<D, A> for Deliver {
+impl<D: Disk, A: Allocator + Copy> Operation<D, A> for MarkDelivered {
     type Reply = ();
 
     ghost entry = { λ o _. Delivered o.0 };
 
     fn perform(self, exec: &mut Exec<D, A>) {
-        if exec.is_open(self.0) {
-            exec.delivered(self.0);
-        }
+        exec.mark_delivered(self.0);
     }
 }
 
@@ -169,10 +154,7 @@ impl<D: Disk, A: Allocator + Copy> Operation<D, A> for Query {
     ghost entry = { λ o reply. Queried o.0 reply };
 
     fn perform(self, exec: &mut Exec<D, A>) -> u8 {
-        if !exec.is_open(self.0) {
-            return 0;
-        }
-        exec.status(self.0)
+        exec.query(self.0)
     }
 }
 
@@ -186,16 +168,13 @@ impl<D: Disk, A: Allocator + Copy> Operation<D, A> for Fetch {
     ghost entry = { λ o reply. Fetched o.0 reply };
 
     fn perform(self, exec: &mut Exec<D, A>) -> Option<u8> {
-        if !exec.is_open(self.0) {
-            return None;
-        }
-        exec.requests(self.0)
+        exec.fetch(self.0)
     }
 }
 
 /// Returns the sessions that have requested service since the last such call, and whether a take would return a job.
 #[derive(Drop)]
-pub struct Notify;
+pub(crate) struct Notify;
 
 impl<D: Disk, A: Allocator + Copy> Operation<D, A> for Notify {
     type Reply = Notifications;
@@ -209,7 +188,7 @@ impl<D: Disk, A: Allocator + Copy> Operation<D, A> for Notify {
 
 /// Requests a lock for a session. `now` and `timeout` are in milliseconds. `Failed` if the session isn't open.
 #[derive(Drop)]
-pub struct Lock {
+pub(crate) struct Lock {
     pub session: Session,
     pub kind: Kind,
     pub now: u64,
@@ -228,9 +207,6 @@ impl<D: Disk, A: Allocator + Copy> Operation<D, A> for Lock {
             now,
             timeout,
         } = self;
-        if !exec.is_open(session) {
-            return Ok(Grant::Failed);
-        }
         exec.lock(session, kind, now, timeout)
     }
 }
@@ -238,7 +214,7 @@ impl<D: Disk, A: Allocator + Copy> Operation<D, A> for Lock {
 /// Releases a lock of a session, and returns the sessions whose lock requests were then granted. A session that isn't
 /// open holds none.
 #[derive(Drop)]
-pub struct Release(pub Session);
+pub(crate) struct Release(pub Session);
 
 impl<D: Disk, A: Allocator + Copy> Operation<D, A> for Release {
     type Reply = Result<(Freed, Sessions), LockRefusal>;
@@ -246,16 +222,13 @@ impl<D: Disk, A: Allocator + Copy> Operation<D, A> for Release {
     ghost entry = { λ o reply. Released o.0 reply };
 
     fn perform(self, exec: &mut Exec<D, A>) -> Result<(Freed, Sessions), LockRefusal> {
-        if !exec.is_open(self.0) {
-            return Err(LockRefusal::NotHeld);
-        }
         exec.release(self.0)
     }
 }
 
 /// Fails the lock requests whose timeout has expired, and returns their sessions.
 #[derive(Drop)]
-pub struct Tick(pub u64);
+pub(crate) struct Tick(pub u64);
 
 impl<D: Disk, A: Allocator + Copy> Operation<D, A> for Tick {
     type Reply = Sessions;
@@ -277,7 +250,7 @@ impl<D: Disk, A: Allocator + Copy> Operation<D, A> for Inform {
     ghost entry = { λ _ reply. Informed reply };
 
     fn perform(self, exec: &mut Exec<D, A>) -> Info {
-        exec.info()
+        exec.inform()
     }
 }
 

@@ -3,16 +3,12 @@ ghost use Rattle.std.specs.Prelude.{IfOk};
 ghost use Rattle.psu_bench.specs.PowerOn.{BeginsWith};
 
 use crate::caller::Caller;
-use crate::shared_gate::SharedGate;
-use crate::{Gate, Gated};
+use crate::{Gate, Gated, Served, SharedGate};
 use psu_disk::Disk;
 use psu_exec::{Exec, StartFault};
 use psu_items::Store;
 use std::alloc::Global;
 use std::sync::Arc;
-
-/// The disk of the server, with a gate before each write.
-pub type Served<D, G> = Gated<D, SharedGate<G>>;
 
 /// Powers a device on with the contents of a disk, and returns the first caller of it. The device begins in the state
 /// at power-on that these contents prescribe, with no session and no lock (IEEE 488.2, 5.12), and its history has no
@@ -21,7 +17,7 @@ pub fn power_on<D: Disk + Drop, G: Gate + Drop>(
     alloc: Global,
     disk: D,
     gate: G,
-) -> Result<Caller<Served<D, G>, G>, StartFault>
+) -> Result<Caller<Served<D, G>>, StartFault>
     ensures begins { D.honest → IfOk result (λ caller. BeginsWith (D.state disk).bytes caller.seat) }
 {
     let Ok(gate) = Arc::new(alloc, gate) else {

@@ -3,7 +3,7 @@ ghost use Rattle.std.specs.Prelude.{◌≡◌, ◌++◌, ◌<◌, List, Some};
 ghost use Rattle.psu_turn.specs.Seats.{SeatCalls, IsOf, IsSame};
 ghost use Rattle.psu_exec.specs.Calls.{Entry};
 ghost use Rattle.psu_exec.specs.Shown.{outcome_of};
-ghost use Rattle.psu_bench.specs.Calls.{AdmitsOn};
+ghost use Rattle.psu_bench.specs.Calls.{AllowsOn};
 ghost use Rattle.psu_bench.specs.Seen.{HasSeen};
 ghost use Rattle.psu_bench.specs.Tries.{AreTries, is_put_off, try_after};
 
@@ -59,7 +59,7 @@ fn next_try<D: Disk, A: Allocator + Copy, R: Wait>(
     before: &Outcome<A>,
 ) -> Outcome<A>
     requires own { IsOf bench.now seat.old }
-    ensures call { SeatCalls (AdmitsOn D.honest) seat.old (try_after session request.now (Some (outcome_of before.now)) (outcome_of result)) seat.new }
+    ensures call { SeatCalls (AllowsOn D.honest) seat.old (try_after session request.now (Some (outcome_of before.now)) (outcome_of result)) seat.new }
     ensures own { IsOf bench.now seat.new }
 {
     match before {

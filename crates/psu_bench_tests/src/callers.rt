@@ -25,7 +25,7 @@ const EACH: u8 = 8;
 // less concurrent, and fails nothing.
 const LOOKS: u32 = 100_000;
 
-type Device = Caller<Served<MemDisk<Global>, Open>, Open>;
+type Device = Caller<Served<MemDisk<Global>, Open>>;
 
 /// The other threads of a server, to which these tests report nothing.
 #[derive(Drop)]

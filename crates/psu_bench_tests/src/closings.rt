@@ -20,8 +20,8 @@ fn comes_later<R: Wait>(rt: &R, bench: &Device, seat: &mut Seat<Global>, one: Se
 {
     matches!(unit(rt, bench, seat, one, b"*IDN?"), Outcome::Later)
         && matches!(bench.settle(rt, seat, one), Outcome::Later)
-        && bench.status(rt, seat, one) == 0
-        && bench.requests(rt, seat, one).is_none()
+        && bench.query(rt, seat, one) == 0
+        && bench.fetch(rt, seat, one).is_none()
 }
 
 // Whether no lock is granted or held.
@@ -40,10 +40,14 @@ fn leaves_nothing<R: Wait>(rt: &R, bench: &Device, seat: &mut Seat<Global>, one:
     ensures { IsOf bench.now seat.new }
 {
     bench.clear(rt, seat, one);
-    bench.sent(rt, seat, one);
-    bench.delivered(rt, seat, one);
-    let info = bench.info(rt, seat);
-    !info.exclusive && info.holders == 0 && bench.next_deadline(rt, seat).is_none()
+    let notifications = bench.mark_sent(rt, seat, one);
+    bench.mark_delivered(rt, seat, one);
+    let info = bench.inform(rt, seat);
+    notifications.requesting.is_empty()
+        && !notifications.has_work
+        && !info.exclusive
+        && info.holders == 0
+        && bench.next_deadline(rt, seat).is_none()
 }
 
 // Whether none of its twelve calls has an effect.

@@ -12,7 +12,8 @@
 //! | `1 settles 1` | this is the outcome of its wait, as of a unit |
 //! | `1 srq 68`, `1 srq nothing` | this is the service request that is sent now |
 //! | `1 polls 68` | this is the status byte of a status query |
-//! | `1 sent`, `1 delivered` | a response is sent, is delivered |
+//! | `1 sent`, `1 sent 1 2` | a response is sent; no session, or these, request service then |
+//! | `1 delivered` | what was sent is delivered |
 //! | `1 clears` | its wait is dropped |
 //! | `1 closes`, `1 closes 4` | it ends, and these sessions are then granted a lock |
 //! | `1 shares` | it requests the shared lock `k`, and is granted it |

@@ -1,6 +1,4 @@
-//! The steps of an open session on locks, and its end, by their words.
-ghost use Rattle.std.specs.Prelude.{◌≡◌, true};
-ghost use Rattle.psu_exec.specs.Device.{is_open};
+//! The steps of a session on locks, and its end, by their words.
 
 use crate::words::are;
 use psu_disk::Disk;
@@ -59,9 +57,7 @@ fn requests<D: Disk, A: Allocator + Copy>(
     exec: &mut Exec<D, A>,
     session: Session,
     doing: &str,
-) -> bool
-    requires { is_open exec.old.device session ≡ true }
-{
+) -> bool {
     let (wanted, request) = parted(doing);
     match moment_and_wait(request) {
         Some((now, wait)) => called(exec.lock(session, Kind::Exclusive, now, wait)) == wanted,
@@ -70,9 +66,7 @@ fn requests<D: Disk, A: Allocator + Copy>(
 }
 
 // Whether the shared lock `k` is granted.
-fn shares<D: Disk, A: Allocator + Copy>(exec: &mut Exec<D, A>, session: Session) -> bool
-    requires { is_open exec.old.device session ≡ true }
-{
+fn shares<D: Disk, A: Allocator + Copy>(exec: &mut Exec<D, A>, session: Session) -> bool {
     match LockString::new(b"k".as_slice()) {
         Some(string) => called(exec.lock(session, Kind::Shared(string), 0, 0)) == "granted",
         None => false,
@@ -84,9 +78,7 @@ fn releases<D: Disk, A: Allocator + Copy>(
     exec: &mut Exec<D, A>,
     session: Session,
     wanted: &str,
-) -> bool
-    requires { is_open exec.old.device session ≡ true }
-{
+) -> bool {
     let (what, granted) = parted(wanted);
     match exec.release(session) {
         Ok((freed, sessions)) => freed_as(freed) == what && are(&sessions, granted),
@@ -99,21 +91,17 @@ fn closes<D: Disk, A: Allocator + Copy>(
     exec: &mut Exec<D, A>,
     session: Session,
     granted: &str,
-) -> bool
-    requires { is_open exec.old.device session ≡ true }
-{
+) -> bool {
     are(&exec.close_session(session), granted)
 }
 
-/// Whether the result of an open session's step on locks is the one that it states.
+/// Whether the result of a session's step on locks is the one that it states.
 pub(crate) fn lock_step_holds<D: Disk, A: Allocator + Copy>(
     exec: &mut Exec<D, A>,
     session: Session,
     action: LockAction,
     rest: &str,
-) -> bool
-    requires { is_open exec.old.device session ≡ true }
-{
+) -> bool {
     match action {
         LockAction::Shares => shares(exec, session),
         LockAction::Requests => requests(exec, session, rest),

@@ -1,8 +1,7 @@
-//! The steps of an open session on its units, its wait and its service, by their words.
-ghost use Rattle.std.specs.Prelude.{◌≡◌, true};
-ghost use Rattle.psu_exec.specs.Device.{is_open};
+//! The steps of a session on its units, its wait and its service, by their words.
 
 use crate::unit_steps::{are_done, fills, settles};
+use crate::words::are;
 use psu_disk::Disk;
 use psu_exec::{Exec, Session};
 use std::alloc::Allocator;
@@ -40,10 +39,8 @@ fn requests_service<D: Disk, A: Allocator + Copy>(
     exec: &mut Exec<D, A>,
     session: Session,
     wanted: &str,
-) -> bool
-    requires { is_open exec.old.device session ≡ true }
-{
-    match exec.requests(session) {
+) -> bool {
+    match exec.fetch(session) {
         Some(status) => wanted.parse() == Ok(status),
         None => wanted == "nothing",
     }
@@ -54,29 +51,25 @@ fn polls<D: Disk, A: Allocator + Copy>(
     exec: &mut Exec<D, A>,
     session: Session,
     wanted: &str,
-) -> bool
-    requires { is_open exec.old.device session ≡ true }
-{
-    wanted.parse() == Ok(exec.status(session))
+) -> bool {
+    wanted.parse() == Ok(exec.query(session))
 }
 
-/// Whether the result of an open session's step is the one that it states.
+/// Whether the result of a session's step is the one that it states.
 pub(crate) fn service_step_holds<D: Disk, A: Allocator + Copy>(
     exec: &mut Exec<D, A>,
     session: Session,
     action: Action,
     rest: &str,
-) -> bool
-    requires { is_open exec.old.device session ≡ true }
-{
+) -> bool {
     match action {
         Action::Does => return are_done(exec, session, rest),
         Action::Fills => return fills(exec, session, rest),
         Action::Settles => return settles(exec, session, rest),
         Action::Srq => return requests_service(exec, session, rest),
         Action::Polls => return polls(exec, session, rest),
-        Action::Sent => exec.sent(session),
-        Action::Delivered => exec.delivered(session),
+        Action::Sent => return are(&exec.mark_sent(session).requesting, rest),
+        Action::Delivered => exec.mark_delivered(session),
         Action::Clears => exec.clear(session),
     }
     true

@@ -8,16 +8,12 @@ use psu_exec::{Exec, Session};
 use psu_tables::parted;
 use std::alloc::Allocator;
 
-// Whether a step of a session other than a single unit holds. `false` where it is not a step, or the session is not
-// open.
+// Whether a step of a session other than a single unit holds. `false` where it is not a step.
 fn does<D: Disk, A: Allocator + Copy>(
     exec: &mut Exec<D, A>,
     session: Session,
     doing: &str,
 ) -> bool {
-    if !exec.is_open(session) {
-        return false;
-    }
     let (word, rest) = parted(doing);
     if let Some(action) = action_of(word) {
         return service_step_holds(exec, session, action, rest);

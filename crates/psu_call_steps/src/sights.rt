@@ -66,7 +66,7 @@ pub(crate) fn is_seen<D: Disk, A: Allocator + Copy>(
         Sight::Whole => exec.condition() == Condition::Whole,
         Sight::Broken => exec.condition() == Condition::Broken,
         Sight::Keeps => are_kept(exec.contents().enables(), rest),
-        Sight::LockInfo => are_locked(exec.info(), rest),
+        Sight::LockInfo => are_locked(exec.inform(), rest),
         Sight::Next => is_due(exec.next_deadline(), rest),
     }
 }

@@ -1,6 +1,4 @@
 //! Units that a session executes, and its wait.
-ghost use Rattle.std.specs.Prelude.{◌≡◌, true};
-ghost use Rattle.psu_exec.specs.Device.{is_open};
 
 use crate::outcomes::said;
 use psu_disk::Disk;
@@ -22,29 +20,14 @@ fn read(text: &str) -> Request<'_> {
     request(&mut Path::root(), &unit, false)
 }
 
-// Whether this is the outcome of a unit of an open session.
+// Whether this is the outcome of a unit of a session.
 fn has_outcome<D: Disk, A: Allocator + Copy>(
     exec: &mut Exec<D, A>,
     session: Session,
     text: &str,
     want: &str,
-) -> bool
-    requires { is_open exec.old.device session ≡ true }
-{
-    said(&exec.execute(session, &read(text))) == want.as_bytes()
-}
-
-// Whether the session is open, and this is the outcome of its unit.
-fn is_executed<D: Disk, A: Allocator + Copy>(
-    exec: &mut Exec<D, A>,
-    session: Session,
-    text: &str,
-    want: &str,
 ) -> bool {
-    if !exec.is_open(session) {
-        return false;
-    }
-    has_outcome(exec, session, text, want)
+    said(&exec.execute(session, &read(text))) == want.as_bytes()
 }
 
 // Whether the contents cost this many pages.
@@ -60,8 +43,8 @@ fn is_met<D: Disk, A: Allocator + Copy>(
     wanted: &str,
 ) -> bool {
     match wanted.split_once("; costs ") {
-        Some((want, cost)) => is_executed(exec, session, unit, want) && costs(exec, cost),
-        None => is_executed(exec, session, unit, wanted),
+        Some((want, cost)) => has_outcome(exec, session, unit, want) && costs(exec, cost),
+        None => has_outcome(exec, session, unit, wanted),
     }
 }
 
@@ -84,7 +67,7 @@ pub(crate) fn are_done<D: Disk, A: Allocator + Copy>(
     units: &str,
 ) -> bool {
     for unit in units.split(";") {
-        if !is_executed(exec, session, unit, "done") {
+        if !has_outcome(exec, session, unit, "done") {
             return false;
         }
     }
@@ -98,20 +81,18 @@ pub(crate) fn fills<D: Disk, A: Allocator + Copy>(
     unit: &str,
 ) -> bool {
     for _ in 0..FILLING {
-        if !is_executed(exec, session, unit, "done") {
+        if !has_outcome(exec, session, unit, "done") {
             return false;
         }
     }
     true
 }
 
-/// Whether this is the outcome of the wait of an open session.
+/// Whether this is the outcome of the wait of a session.
 pub(crate) fn settles<D: Disk, A: Allocator + Copy>(
     exec: &mut Exec<D, A>,
     session: Session,
     want: &str,
-) -> bool
-    requires { is_open exec.old.device session ≡ true }
-{
+) -> bool {
     said(&exec.settle(session)) == want.as_bytes()
 }

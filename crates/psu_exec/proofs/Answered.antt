@@ -11,8 +11,8 @@ use Rattle.psu_instrument.specs.Meaning.{Situation, Meaning, Refuses, Does, Keep
 use Rattle.psu_instrument.specs.declared.act.Completion.{Completion}
 use Rattle.psu_instrument.specs.declared.act.Completion.TheVariants as completion
 use Rattle.psu_instrument.proofs.Speaking.{each_answer_is_quiet, some_digit}
-use Rattle.psu_exec.specs.Calls.{settle_answer}
-use Rattle.psu_exec.specs.Device.{Reply, Answer, Error, Parked, Flush, State, MayAnswer, MayMean, LockedOut, TooEarly, Runs, Expands, Means, answer_complete, answer_meant, here, is_whole, kept_unless, meant, parks, wait_of}
+use Rattle.psu_exec.specs.Calls.{Allows, Executed, Settled, settle_answer}
+use Rattle.psu_exec.specs.Device.{Reply, Answer, Error, Parked, Later, Flush, State, MayAnswer, MayMean, LockedOut, TooEarly, Runs, Expands, Means, answer_complete, answer_meant, here, is_whole, kept_unless, meant, parks, wait_of}
 use Rattle.psu_exec.specs.declared.wait.Wait.{Wait}
 use Rattle.psu_exec.specs.declared.wait.Wait.TheVariants.{Until, CutOff}
 use Rattle.psu_exec.proofs.Answering.{answer_is_no_call}
@@ -59,11 +59,11 @@ may_told s session request reply (inr (e, wanted)) text is = let bad = sym e ∙
 
 -- ---- units, and the ends of waits
 
-pub unit_has_text : (s : State) (session : ℕ) (request : Request) (reply : Reply) → MayAnswer s session request reply → HasText reply
-unit_has_text s session request reply (LockedOut denied) text is = cc
-unit_has_text s session request reply (TooEarly free late) text is = cc
-unit_has_text s session request reply (Runs run (Expands body calls call)) text is = absurd (answer_is_no_call text call.given (sym is ∙ call.is))
-unit_has_text s session request reply (Runs run (Means none may)) text is = may_told s session request reply may text is
+unit_told : (s : State) (session : ℕ) (request : Request) (reply : Reply) → MayAnswer s session request reply → HasText reply
+unit_told s session request reply (LockedOut denied) text is = cc
+unit_told s session request reply (TooEarly free late) text is = cc
+unit_told s session request reply (Runs run (Expands body calls call)) text is = absurd (answer_is_no_call text call.given (sym is ∙ call.is))
+unit_told s session request reply (Runs run (Means none may)) text is = may_told s session request reply may text is
 
 until_told : (flushed : Bool) (c : Completion) → HasText (if flushed then answer_complete c else Parked)
 until_told true c text is = complete_told c text is
@@ -74,5 +74,16 @@ wait_told None text is = cc
 wait_told (Some CutOff) text is = cc
 wait_told (Some (Until c n)) text is = until_told (n == 0) c text is
 
-pub settle_has_text : (s : State) (session : ℕ) (reply : Reply) → reply ≡ settle_answer (wait_of s.flush session) → HasText reply
-settle_has_text s session reply e text is = wait_told (wait_of s.flush session) text (sym e ∙ is)
+settle_told : (s : State) (session : ℕ) (reply : Reply) → reply ≡ settle_answer (wait_of s.flush session) → HasText reply
+settle_told s session reply e text is = wait_told (wait_of s.flush session) text (sym e ∙ is)
+
+later_told : HasText Later
+later_told text is = cc
+
+pub unit_has_text : (s new : State) (session : ℕ) (request : Request) (reply : Reply) → Allows s (Executed session request reply) new → HasText reply
+unit_has_text s new session request reply (inl a) = unit_told s session request reply a.1.may
+unit_has_text s new session request reply (inr none) = subst HasText (sym none.0.1) later_told
+
+pub settle_has_text : (s new : State) (session : ℕ) (reply : Reply) → Allows s (Settled session reply) new → HasText reply
+settle_has_text s new session reply (inl a) = settle_told s session reply a.1
+settle_has_text s new session reply (inr none) = subst HasText (sym none.0.1) later_told

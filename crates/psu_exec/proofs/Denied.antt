@@ -6,6 +6,7 @@ use Rattle.psu_tree.specs.declared.command.Request.{Request}
 use Rattle.psu_instrument.specs.Meaning.{Meaning, Refuses, Does, Keeps, Completes}
 use Rattle.psu_instrument.specs.declared.act.Completion.{Completion}
 use Rattle.psu_instrument.specs.declared.act.Completion.TheVariants as completion
+use Rattle.psu_exec.specs.Calls.{Allows, Executed}
 use Rattle.psu_exec.specs.Device.{Reply, Error, Parked, Held, Later, State, Flush, MayAnswer, Step, LockedOut, TooEarly, Runs, Expands, Means, after_unit, answer_call, answer_complete, answer_meant, here, is_denied, kept_unless, meant}
 use Rattle.psu_exec.proofs.RqsUpdates.{followed_same}
 
@@ -59,3 +60,12 @@ held_leaves s new session request reply step is = step.is ∙ ap (after_unit s s
 
 pub later_leaves : (s new : State) (session : ℕ) (request : Request) (reply : Reply) → Step s session request reply new → reply ≡ Later → new ≡ s
 later_leaves s new session request reply step is = step.is ∙ ap (after_unit s session request) is ∙ followed_same s
+
+-- of a session that is open or not
+pub held_changes_nothing : (s new : State) (session : ℕ) (request : Request) (reply : Reply) → Allows s (Executed session request reply) new → reply ≡ Held → new ≡ s
+held_changes_nothing s new session request reply (inl a) is = held_leaves s new session request reply a.1 is
+held_changes_nothing s new session request reply (inr none) is = none.1
+
+pub later_changes_nothing : (s new : State) (session : ℕ) (request : Request) (reply : Reply) → Allows s (Executed session request reply) new → reply ≡ Later → new ≡ s
+later_changes_nothing s new session request reply (inl a) is = later_leaves s new session request reply a.1 is
+later_changes_nothing s new session request reply (inr none) is = none.1

@@ -1,5 +1,5 @@
 -- Each possible crash image of an opening represents what one from before it represented.
-use Rattle.std.proofs.Common.{◌⊎◌, inl, inr, ℕ, List}
+use Rattle.std.proofs.Common.{inl, inr, ℕ, List}
 use Rattle.psu_disk.specs.Disk.{DiskState, IsCrashImage}
 use Rattle.psu_disk.specs.Ranges.{reads_left}
 use Rattle.psu_map.specs.Map.{Item}

@@ -4,9 +4,10 @@ use Rattle.std.proofs.Math.Dec.{eqb-suc-zero}
 use Rattle.std.proofs.lemmas.Result.{IfOk-weaker}
 use Rattle.psu_exec.specs.Device.{place_of}
 use Rattle.psu_exec.specs.Device.{State, is_open}
-use Rattle.psu_exec.specs.Calls.{Opened, Allows, free_from, with_session, least_free}
+use Rattle.psu_exec.specs.Calls.{Opened, Allows, Serves, free_from, with_session, least_free}
 use Rattle.psu_exec.specs.ServiceStates.{opened_service_state}
-use Rattle.psu_exec.specs.Headline.{OpensTheLeast, PlacesAreApart}
+use Rattle.psu_exec.proofs.Ignored.{serves_opened}
+use Rattle.psu_exec.specs.Headline.{OpensLeast, OpensTheLeast, PlacesAreApart}
 
 -- a place that is free: its number, and what is before it
 record Free (n : ℕ) (list : List Bool) (session : ℕ) : Type 0 where
@@ -55,22 +56,25 @@ at_place : (list : List Bool) (session : ℕ) (b : Bool) → 1 ≤ session → g
 at_place list zero b h e = absurd (let bad : ⊥ = omega arith in bad)
 at_place list (suc n) b h e = rw (eqb-suc-zero n) e
 
+opens_least : (s new : State) (session : ℕ) → Serves s (Opened (Some session)) new → OpensLeast s new session
+opens_least s new session a =
+    let r = free_at 1 s.volatile.open_now session (sym a.0) in
+    let number = r.number in
+    let place : place_of session ≡ r.place = omega arith in
+    let still : get_or s.volatile.open_now (place_of session) false ≡ false = rw place r.free in
+    let set : get_or (slice_set s.volatile.open_now (place_of session) true) (place_of session) false ≡ true = rw place (set_there s.volatile.open_now r.place true r.inside) in
+    let then : is_open (with_session s session true (opened_service_state s.volatile.instrument.status)) session ≡ true = at_place (slice_set s.volatile.open_now (place_of session) true) session true (omega arith) set in
+    record {
+      free = at_place s.volatile.open_now session false (omega arith) still;
+      now_open = subst (λ (t : State). is_open t session ≡ true) (sym a.1) then;
+      least = λ other from below. at_place s.volatile.open_now other true from (r.before (place_of other) (omega arith));
+    }
+
+none_is_free : (s new : State) → Serves s (Opened None) new → (other : ℕ) → 1 ≤ other → other ≤ length s.volatile.open_now → is_open s other ≡ true
+none_is_free s new a other from to = at_place s.volatile.open_now other true from (taken 1 s.volatile.open_now (sym a.0) (place_of other) (omega arith))
+
 pub opens_the_least : OpensTheLeast
-opens_the_least s new = (
-  λ session a.
-      let r = free_at 1 s.volatile.open_now session (sym a.0) in
-      let number = r.number in
-      let place : place_of session ≡ r.place = omega arith in
-      let still : get_or s.volatile.open_now (place_of session) false ≡ false = rw place r.free in
-      let set : get_or (slice_set s.volatile.open_now (place_of session) true) (place_of session) false ≡ true = rw place (set_there s.volatile.open_now r.place true r.inside) in
-      let then : is_open (with_session s session true (opened_service_state s.volatile.instrument.status)) session ≡ true = at_place (slice_set s.volatile.open_now (place_of session) true) session true (omega arith) set in
-      record {
-        free = at_place s.volatile.open_now session false (omega arith) still;
-        now_open = subst (λ (t : State). is_open t session ≡ true) (sym a.1) then;
-        least = λ other from below. at_place s.volatile.open_now other true from (r.before (place_of other) (omega arith));
-      },
-  λ a other from to. at_place s.volatile.open_now other true from (taken 1 s.volatile.open_now (sym a.0) (place_of other) (omega arith)),
-)
+opens_the_least s new = (λ session a. opens_least s new session (serves_opened s new (Some session) a), λ a. none_is_free s new (serves_opened s new None a))
 
 pub then_open : {E : Type 0} (s new : State) (result : Result ℕ E) → IfOk result (λ (session : ℕ). Allows s (Opened (Some session)) new) → IfOk result (λ (session : ℕ). is_open new session ≡ true)
 then_open s new result a =

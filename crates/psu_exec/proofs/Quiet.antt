@@ -1,5 +1,5 @@
--- A unit that is answered causes nothing.
-use Rattle.std.proofs.Common.{◌≡◌, inl, inr, ℕ, suc, Bool, true, false, cond, not, ◌==◌, ◌&&◌, ◌||◌, Option, Some, None, Result, Ok, Err, List, [], ◌∷◌, ◌++◌, refl, sym, ap, ap₂}
+-- Units and ends of waits that cause nothing.
+use Rattle.std.proofs.Common.{◌≡◌, inl, inr, ℕ, suc, Bool, true, false, cond, not, ◌==◌, ◌&&◌, ◌||◌, Option, Some, None, Result, Ok, Err, List, [], ◌∷◌, ◌++◌, refl, ap, ap₂}
 use Rattle.psu_lex.specs.declared.scpi_error.ScpiError.{ScpiError}
 use Rattle.psu_lex.specs.declared.scpi_error.ScpiError.TheVariants.{StorageFault}
 use Rattle.psu_nv.specs.Commands as nv
@@ -15,9 +15,10 @@ use Rattle.psu_instrument.specs.Speaking.{RaisesNone}
 use Rattle.psu_instrument.specs.declared.act.Completion.TheVariants as completion
 use Rattle.psu_instrument.proofs.Rising.{none_rises}
 use Rattle.psu_instrument.proofs.Speaking.{each_answer_is_quiet}
-use Rattle.psu_exec.specs.Calls.{Executed, Allows, has_work}
-use Rattle.psu_exec.specs.Device.{Reply, Answer, Error, State, Flush, MayAnswer, MayMean, Runs, Expands, Means, answer_call, answer_completing, answer_meant, change_in, counted, done_by, here, is_broken, is_whole, kept_unless, meant}
-use Rattle.psu_exec.specs.Quiet.{EachAnswerIsQuiet, IsQuiet}
+use Rattle.psu_exec.specs.Calls.{Executed, Settled, Serves, has_work}
+use Rattle.psu_exec.specs.Device.{Reply, Done, Answer, Error, Expand, Parked, Held, Later, State, Flush, followed, MayAnswer, MayMean, Runs, Expands, Means, answer_call, answer_meant, change_in, counted, done_by, here, is_broken, is_whole, kept_unless, meant}
+use Rattle.psu_exec.specs.Quiet.{EachUnitIsQuiet, EachWaitIsQuiet, IsQuiet, may_cause}
+use Rattle.psu_exec.specs.declared.wait.Wait.{Wait}
 use Rattle.psu_exec.specs.ServiceStates.{each_rqs_updated, falls, named, released, requested, rises, rqs_updated, unreported_from}
 use Rattle.psu_exec.specs.declared.service_state.ServiceState.{ServiceState}
 
@@ -81,7 +82,7 @@ answered s session request text (Runs run (Means none may)) = means s session re
 work_same : (f : Flush) (change : Option Change) → change ≡ None → (not f.out && (is_broken f.store || (is_whole f.store && not (counted change f.unflushed == 0)))) ≡ has_work f
 work_same f change none = ap (λ (c : Option Change). not f.out && (is_broken f.store || (is_whole f.store && not (counted c f.unflushed == 0)))) none
 
-pub answer_is_quiet : EachAnswerIsQuiet
+answer_is_quiet : (s new : State) (session : ℕ) (request : Request) (text : List ℕ) → Serves s (Executed session request (Answer text)) new → IsQuiet s new
 answer_is_quiet s new session request text a =
     let m = meant (here s session) request.reading in
     let left = answered s session request text a.1.may in
@@ -90,3 +91,42 @@ answer_is_quiet s new session request text a =
       requests = rw a.1.is (unreported_same s.volatile.instrument.status (done_by s.flush.unflushed s.volatile.instrument m).status left.bits 1 s.volatile.open_now s.volatile.service_states);
       work = rw a.1.is (work_same s.flush (change_in m) left.none);
     }
+
+-- nothing changes but the waits
+waits_are_quiet : (s new : State) (waits : List (Option Wait)) → new ≡ followed s (record s { flush = record s.flush { waits = waits } }) → IsQuiet s new
+waits_are_quiet s new waits is =
+    let status = s.volatile.instrument.status in
+    record {
+      bits = rw is (none_rises status);
+      requests = rw is (unreported_same status status (none_rises status) 1 s.volatile.open_now s.volatile.service_states);
+      work = rw is refl;
+    }
+
+nothing_is_quiet : (s new : State) → new ≡ s → IsQuiet s new
+nothing_is_quiet s new is = rw is (record { bits = none_rises s.volatile.instrument.status; requests = refl; work = refl })
+
+unit_is_quiet : (s new : State) (session : ℕ) (request : Request) (reply : Reply) → may_cause reply ≡ false → Serves s (Executed session request reply) new → IsQuiet s new
+unit_is_quiet s new session request Done quiet a = cc
+unit_is_quiet s new session request (Error e) quiet a = cc
+unit_is_quiet s new session request (Answer text) quiet a = answer_is_quiet s new session request text a
+unit_is_quiet s new session request (Expand text) quiet a = waits_are_quiet s new _ a.1.is
+unit_is_quiet s new session request Parked quiet a = waits_are_quiet s new _ a.1.is
+unit_is_quiet s new session request Held quiet a = waits_are_quiet s new _ a.1.is
+unit_is_quiet s new session request Later quiet a = waits_are_quiet s new _ a.1.is
+
+wait_is_quiet : (s new : State) (session : ℕ) (reply : Reply) → may_cause reply ≡ false → Serves s (Settled session reply) new → IsQuiet s new
+wait_is_quiet s new session Done quiet a = cc
+wait_is_quiet s new session (Error e) quiet a = cc
+wait_is_quiet s new session (Answer text) quiet a = waits_are_quiet s new _ a.2
+wait_is_quiet s new session (Expand text) quiet a = waits_are_quiet s new _ a.2
+wait_is_quiet s new session Parked quiet a = waits_are_quiet s new _ a.2
+wait_is_quiet s new session Held quiet a = waits_are_quiet s new _ a.2
+wait_is_quiet s new session Later quiet a = waits_are_quiet s new _ a.2
+
+pub each_unit_is_quiet : EachUnitIsQuiet
+each_unit_is_quiet s new session request reply quiet (inl a) = unit_is_quiet s new session request reply quiet a
+each_unit_is_quiet s new session request reply quiet (inr none) = nothing_is_quiet s new none.1
+
+pub each_wait_is_quiet : EachWaitIsQuiet
+each_wait_is_quiet s new session reply quiet (inl a) = wait_is_quiet s new session reply quiet a
+each_wait_is_quiet s new session reply quiet (inr none) = nothing_is_quiet s new none.1

@@ -1,6 +1,5 @@
 -- A part that has not changed needs no edit, and a change leaves each part but its own.
-use Rattle.std.proofs.Common.{◌≡◌, ◌≢◌, ◌⊎◌, ◌&&◌, ◌||◌, is_some, ℕ, zero, suc, ◌+◌, ◌<◌, ◌==◌, not, Bool, true, false, cond, Option, Some, None, List, [], ◌∷◌, ◌++◌, length, map, refl, sym, ap, ◌∙◌, subst, inl, inr, arith, append-nil, slice_index_or, slice_set, replicate}
-use Rattle.std.proofs.lemmas.Bool.Decides.{nat_tests}
+use Rattle.std.proofs.Common.{◌≡◌, ◌≢◌, ◌⊎◌, ◌&&◌, ◌||◌, is_some, ℕ, zero, suc, ◌+◌, ◌<◌, Bool, true, false, cond, Option, Some, None, List, [], ◌∷◌, ◌++◌, length, map, refl, sym, ap, ◌∙◌, subst, inl, inr, arith, append-nil, slice_index_or, slice_set, replicate}
 use Rattle.std.proofs.lemmas.Grind.{flat_map-append}
 use Rattle.std.proofs.lemmas.List.{get_or-set_other}
 use Rattle.std.specs.List.{flat_map, AllByRecursion}
@@ -14,7 +13,6 @@ use Rattle.psu_outputs.specs.Settings.{bytes_of, is_reset, reset}
 use Rattle.psu_status.specs.declared.groups.Enables.{Enables}
 use Rattle.psu_nv.specs.Commands.{Command, ServiceEnable, EventEnable, PowerOnClear, Save, User, DefineMacro, RemoveMacro, PurgeMacros, StoreBytes, Delete, Copy, Move, StoreState, LoadState, StoreMacro, LoadMacro, Recall, apply, settings_at}
 use Rattle.psu_nv.specs.Contents.{Contents, Macro, enables_items, file_item, items_of, macros_items, macro_bytes, recall_items, register_items, registers_items, user_items}
-use Rattle.psu_nv.specs.Decoding.{is_nothing}
 use Rattle.psu_nv.specs.Parts as kept
 use Rattle.psu_nv.specs.Parts.{Part, file_items, key_of, part_items, value_in}
 use Rattle.psu_nv.proofs.Gets.{part_found, value_file}

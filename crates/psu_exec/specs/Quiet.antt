@@ -1,10 +1,10 @@
--- What an answered query causes for other sessions and for the flusher: nothing.
-use Rattle.std.specs.Prelude.{◌≡◌, ℕ, List}
+-- What causes nothing for other sessions and for the flusher.
+use Rattle.std.specs.Prelude.{◌≡◌, ℕ, Bool, true, false, List}
 use Rattle.psu_instrument.specs.Speaking.{RaisesNone}
 use Rattle.psu_tree.specs.declared.command.Request.{Request}
 use Rattle.psu_exec.specs.ServiceStates.{unreported_from}
-use Rattle.psu_exec.specs.Device.{Answer, State}
-use Rattle.psu_exec.specs.Calls.{Entry, Executed, Allows, has_work}
+use Rattle.psu_exec.specs.Device.{Reply, Done, Answer, Error, Expand, Parked, Held, Later, State}
+use Rattle.psu_exec.specs.Calls.{Executed, Settled, Allows, has_work}
 
 -- the open sessions with a service request that is not yet reported
 abbrev pub requesting : State → List ℕ
@@ -17,6 +17,19 @@ pub record IsQuiet (s new : State) : Type 0 where
   pub requests : requesting new ≡ requesting s
   pub work : has_work new.flush ≡ has_work s.flush
 
--- so it is after each unit that is answered
-abbrev pub EachAnswerIsQuiet : Type 0
-EachAnswerIsQuiet = (s new : State) (session : ℕ) (request : Request) (text : List ℕ) → Allows s (Executed session request (Answer text)) new → IsQuiet s new
+-- whether a unit, or the end of a wait, with this reply may cause something for others
+abbrev pub may_cause : Reply → Bool
+may_cause Done = true
+may_cause (Error e) = true
+may_cause (Answer text) = false
+may_cause (Expand text) = false
+may_cause Parked = false
+may_cause Held = false
+may_cause Later = false
+
+-- so it is after each unit, and each settle, that may cause nothing
+abbrev pub EachUnitIsQuiet : Type 0
+EachUnitIsQuiet = (s new : State) (session : ℕ) (request : Request) (reply : Reply) → may_cause reply ≡ false → Allows s (Executed session request reply) new → IsQuiet s new
+
+abbrev pub EachWaitIsQuiet : Type 0
+EachWaitIsQuiet = (s new : State) (session : ℕ) (reply : Reply) → may_cause reply ≡ false → Allows s (Settled session reply) new → IsQuiet s new

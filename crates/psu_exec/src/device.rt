@@ -1,6 +1,6 @@
 //! The device's state, without its store.
 ghost use Rattle.std.specs.Prelude.{◌≡◌, ◌==◌, true, IfOk};
-ghost use Rattle.psu_nv.specs.Contents.{IsContents, fits};
+ghost use Rattle.psu_nv.specs.Contents.{IsContents, fits, items_of};
 ghost use Rattle.psu_exec.specs.Device.{State, followed, is_open, power_on};
 ghost use Rattle.psu_exec.specs.ServiceStates.{enabled_of};
 ghost use Rattle.psu_status.specs.Status.{first_request};
@@ -16,7 +16,7 @@ use crate::{
     ChangedParts, Condition, Contents, Enabled, LockTable, SESSIONS, ServiceState, Session, Wait,
 };
 use psu_instrument::Instrument;
-use psu_items::Plan;
+use psu_items::{Items, Plan};
 use std::alloc::{AllocError, Allocator};
 use std::marker::Model;
 
@@ -66,17 +66,19 @@ impl<A: Allocator + Copy> Model for Device<A> {
 }
 
 impl<A: Allocator + Copy> Device<A> {
-    /// The state at power-on.
+    /// The state at power-on with contents and the map that they are stored as. The device shares the map's values.
     pub(crate) fn power_on(
         alloc: A,
         limit: u16,
         contents: Contents<A>,
+        items: &Items<A>,
     ) -> Result<Device<A>, AllocError>
         requires sound { IsContents contents }
         requires fitting { fits limit contents ≡ true }
+        requires stored { items.now ≡ items_of contents }
         ensures { IfOk result (λ d. d ≡ power_on limit contents) }
     {
-        let map = Plan::of(alloc, contents.encode_items(alloc)?);
+        let map = Plan::of(alloc, items.copy(alloc)?);
         let locks = Box::new(alloc, LockTable::new())?;
         let instrument = Instrument::power_on(&contents);
         Ok(Device {

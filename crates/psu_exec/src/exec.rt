@@ -80,7 +80,7 @@ impl<D: Disk, A: Allocator + Copy> Exec<D, A> {
                 store,
             });
         }
-        match Device::power_on(alloc, limit, contents) {
+        match Device::power_on(alloc, limit, contents, store.items()) {
             Ok(device) => Ok(Exec {
                 alloc,
                 device,
@@ -93,33 +93,32 @@ impl<D: Disk, A: Allocator + Copy> Exec<D, A> {
         }
     }
 
-    /// Executes one program message unit of an open session.
+    /// Executes one program message unit of a session; Later if the session isn't open.
     pub fn execute(&mut self, session: Session, request: &Request<'_>) -> Outcome<A>
-        requires open { is_open self.old.device session ≡ true }
         ensures step { Allows self.old.device (Executed session request.now (outcome_of result)) self.new.device }
         ensures idle_store { self.new.idle_store ≡ self.old.idle_store }
 
         // Consequences of the step: `*OPC?` is answered only if no change is unflushed; no response is empty; an
         // error is reported and changes nothing else but the RQS bits that follow from it; a unit with the outcome
-        // Later changes nothing; the outcome is Held exactly if another session's lock denies the session, and then
-        // nothing changes.
+        // Later changes nothing; the outcome for an open session is Held exactly if another session's lock denies it,
+        // and then nothing changes.
         ensures complete { asks_opc request.now.reading ≡ true → (text : List ℕ) → outcome_of result ≡ Answer text → self.old.device.flush.unflushed ≡ 0 }
         ensures text { (text : List ℕ) → outcome_of result ≡ Answer text → text ≢ [] }
         ensures refused { (e : AnyError) → outcome_of result ≡ Error e → self.new.device ≡ followed self.old.device (refused self.old.device e) }
         ensures later { outcome_of result ≡ Later → self.new.device ≡ self.old.device }
-        ensures held { (outcome_of result ≡ Held) ↔ (is_denied self.old.device session ≡ true) }
+        ensures held { is_open self.old.device session ≡ true → (outcome_of result ≡ Held) ↔ (is_denied self.old.device session ≡ true) }
         ensures same { outcome_of result ≡ Held → self.new.device ≡ self.old.device }
 
-        // Consequences of the step: the precondition still holds, and no lock changes.
-        ensures still_open { is_open self.new.device session ≡ true }
+        // Consequences of the step: no session opens or closes, and no lock changes.
+        ensures still_open { self.new.device.volatile.open_now ≡ self.old.device.volatile.open_now }
         ensures still_locked { self.new.device.volatile.locks ≡ self.old.device.volatile.locks }
     {
         self.device.execute(session, request)
     }
 
-    /// Returns the result of an open session's wait: Done if it isn't parked, Parked only while a change is unflushed.
+    /// Returns the result of a session's wait: Done if it isn't parked, Parked only while a change is unflushed; Later
+    /// if the session isn't open.
     pub fn settle(&mut self, session: Session) -> Outcome<A>
-        requires open { is_open self.old.device session ≡ true }
         ensures step { Allows self.old.device (Settled session (outcome_of result)) self.new.device }
         ensures idle_store { self.new.idle_store ≡ self.old.idle_store }
 
@@ -132,8 +131,8 @@ impl<D: Disk, A: Allocator + Copy> Exec<D, A> {
             → self.new.device.volatile ≡ (followed self.old.device (refused self.old.device e)).volatile }
         ensures kept { self.new.device.flush.contents ≡ self.old.device.flush.contents }
 
-        // Consequences of the step: the precondition still holds, and no lock changes.
-        ensures still_open { is_open self.new.device session ≡ true }
+        // Consequences of the step: no session opens or closes, and no lock changes.
+        ensures still_open { self.new.device.volatile.open_now ≡ self.old.device.volatile.open_now }
         ensures still_locked { self.new.device.volatile.locks ≡ self.old.device.volatile.locks }
     {
         self.device.settle(session)
@@ -149,51 +148,48 @@ impl<D: Disk, A: Allocator + Copy> Exec<D, A> {
         self.device.open_session()
     }
 
-    /// Closes an open session: drops its wait, its service state, its locks and its lock request. Returns the
+    /// Closes a session, if it is open: drops its wait, its service state, its locks and its lock request. Returns the
     /// sessions whose lock requests were then granted, in order of arrival.
     pub fn close_session(&mut self, session: Session) -> Sessions
-        requires { is_open self.old.device session ≡ true }
         ensures step { Allows self.old.device (Closed session result) self.new.device }
         ensures idle_store { self.new.idle_store ≡ self.old.idle_store }
     {
         self.device.close_session(session)
     }
 
-    /// Records that a response was sent to an open session: a message is available to it (MAV) until it is delivered.
-    pub fn sent(&mut self, session: Session)
-        requires { is_open self.old.device session ≡ true }
-        ensures step { Allows self.old.device (Sent session) self.new.device }
+    /// Records that a response was sent to a session, if it is open: a message is available to it (MAV) until it is
+    /// delivered. Returns the notifications after that.
+    pub fn mark_sent(&mut self, session: Session) -> Notifications
+        ensures step { Allows self.old.device (Sent session result.requesting result.has_work) self.new.device }
         ensures idle_store { self.new.idle_store ≡ self.old.idle_store }
     {
-        self.device.sent(session);
+        self.device.mark_sent(session)
     }
 
-    /// Records that what was sent to an open session is delivered.
-    pub fn delivered(&mut self, session: Session)
-        requires { is_open self.old.device session ≡ true }
+    /// Records that what was sent to a session is delivered, if it is open.
+    pub fn mark_delivered(&mut self, session: Session)
         ensures step { Allows self.old.device (Delivered session) self.new.device }
         ensures idle_store { self.new.idle_store ≡ self.old.idle_store }
     {
-        self.device.delivered(session);
+        self.device.mark_delivered(session);
     }
 
-    /// Answers a status query of an open session, by the status byte with its RQS in bit 6, and then clears RQS.
-    pub fn status(&mut self, session: Session) -> u8
-        requires { is_open self.old.device session ≡ true }
+    /// Answers a status query of a session, by the status byte with its RQS in bit 6, and then clears RQS; 0 if the
+    /// session isn't open.
+    pub fn query(&mut self, session: Session) -> u8
         ensures step { Allows self.old.device (Queried session result) self.new.device }
         ensures idle_store { self.new.idle_store ≡ self.old.idle_store }
     {
-        self.device.status(session)
+        self.device.query(session)
     }
 
-    /// Fetches the service request of an open session, one for all that were made since the last fetch: the status
-    /// byte with bit 6 set.
-    pub fn requests(&mut self, session: Session) -> Option<u8>
-        requires { is_open self.old.device session ≡ true }
+    /// Fetches the service request of a session, one for all that were made since the last fetch: the status byte with
+    /// bit 6 set. None if the session isn't open.
+    pub fn fetch(&mut self, session: Session) -> Option<u8>
         ensures step { Allows self.old.device (Fetched session result) self.new.device }
         ensures idle_store { self.new.idle_store ≡ self.old.idle_store }
     {
-        self.device.requests(session)
+        self.device.fetch(session)
     }
 
     /// Returns the open sessions that requested service since the last call, and whether a take would return a job.
@@ -204,8 +200,8 @@ impl<D: Disk, A: Allocator + Copy> Exec<D, A> {
         self.device.take_notifications()
     }
 
-    /// Requests a lock for an open session. `now` and `timeout` are in milliseconds. A request that can't be granted
-    /// now waits for the timeout; with a timeout of 0 it fails at once.
+    /// Requests a lock for a session. `now` and `timeout` are in milliseconds. A request that can't be granted now waits
+    /// for the timeout; with a timeout of 0 it fails at once, and so does one of a session that isn't open.
     pub fn lock(
         &mut self,
         session: Session,
@@ -213,17 +209,15 @@ impl<D: Disk, A: Allocator + Copy> Exec<D, A> {
         now: u64,
         timeout: u32,
     ) -> Result<Grant, LockRefusal>
-        requires { is_open self.old.device session ≡ true }
         ensures step { Allows self.old.device (Locked session kind now timeout result) self.new.device }
         ensures idle_store { self.new.idle_store ≡ self.old.idle_store }
     {
         self.device.lock(session, kind, now, timeout)
     }
 
-    /// Releases the exclusive lock of an open session, or else its shared one. Returns which, and the sessions whose
-    /// requests were then granted, in order of arrival.
+    /// Releases the exclusive lock of a session, or else its shared one. Returns which, and the sessions whose requests
+    /// were then granted, in order of arrival. A session that isn't open holds none.
     pub fn release(&mut self, session: Session) -> Result<(Freed, Sessions), LockRefusal>
-        requires { is_open self.old.device session ≡ true }
         ensures step { Allows self.old.device (Released session result) self.new.device }
         ensures idle_store { self.new.idle_store ≡ self.old.idle_store }
     {
@@ -239,10 +233,10 @@ impl<D: Disk, A: Allocator + Copy> Exec<D, A> {
     }
 
     /// Returns whether the exclusive lock is held, and how many sessions hold a lock.
-    pub fn info(&self) -> Info
+    pub fn inform(&self) -> Info
         ensures { Allows self.now.device (Informed result) self.now.device }
     {
-        self.device.info()
+        self.device.inform()
     }
 
     /// The earliest time at which a waiting lock request fails, if one waits.
@@ -256,14 +250,13 @@ impl<D: Disk, A: Allocator + Copy> Exec<D, A> {
         self.device.next_deadline()
     }
 
-    /// Drops the wait of an open session.
+    /// Drops the wait of a session, if it is open.
     pub fn clear(&mut self, session: Session)
-        requires { is_open self.old.device session ≡ true }
         ensures step { Allows self.old.device (Cleared session) self.new.device }
         ensures idle_store { self.new.idle_store ≡ self.old.idle_store }
 
-        // Consequences of the step: the precondition still holds, and no lock changes.
-        ensures still_open { is_open self.new.device session ≡ true }
+        // Consequences of the step: no session opens or closes, and no lock changes.
+        ensures still_open { self.new.device.volatile.open_now ≡ self.old.device.volatile.open_now }
         ensures still_locked { self.new.device.volatile.locks ≡ self.old.device.volatile.locks }
     {
         self.device.clear(session);

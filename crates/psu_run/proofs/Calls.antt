@@ -8,7 +8,7 @@ use Rattle.psu_items.specs.Image.{Represents, EachIsEither, EachRepresents, IsEi
 use Rattle.psu_items.proofs.Standing.{represents_one}
 use Rattle.psu_nv.specs.Contents.{items_of}
 use Rattle.psu_exec.specs.Device.{Reply, Done, Answer, Error, Expand, Parked, Held, Later, count_held, target}
-use Rattle.psu_exec.specs.Calls.{Entry, Executed, Settled, Took, GaveBack, Opened, Job, Allows}
+use Rattle.psu_exec.specs.Calls.{Entry, Executed, Settled, Took, GaveBack, Opened, Job, Serves}
 use Rattle.psu_exec.specs.World.{World, Running, Event, Call, Happens, Run, DiskAfter, after, without_power}
 use Rattle.psu_exec.specs.declared.exec.Exec.{Exec}
 use Rattle.psu_exec.specs.declared.idle_store.IdleStore.{IdleStore}
@@ -24,9 +24,13 @@ use Rattle.psu_run.specs.Runs.{Mishaps, JobDone, Jobs, Flushes, Acts, Begins, Un
 -- ---- one call of the code
 
 -- a call that leaves the disk unchanged
-pub called : {D A : Type 0} {G : Ghosts D} (old new : Exec D A G) (life : Life) (entry : Entry) → Allows old.device entry new.device → new.idle_store ≡ old.idle_store
+pub called : {D A : Type 0} {G : Ghosts D} (old new : Exec D A G) (life : Life) (entry : Entry) → Serves old.device entry new.device → new.idle_store ≡ old.idle_store
     → ((d : DiskState) → d ≡ disk_at old.idle_store → DiskAfter (world_of life old) entry d) → CallsOnWorld (world_of life old) entry (world_of (lived life old.device entry) new)
 called {D} {A} {G} old new life entry allows idle_store stays = (disk_at new.idle_store, (new.device, refl, allows, stays (disk_at new.idle_store) (ap (λ (z : Option (IdleStore D A G)). disk_at z) idle_store), refl))
+
+-- a call is an event
+pub happens : (w new : World) (entry : Entry) (c : CallsOnWorld w entry new) → Happens w (Call entry c.0) new
+happens w new entry (disk, (s, running, serves, after, is)) = (s, running, inl serves, after, is)
 
 -- ---- lists of calls
 
@@ -203,7 +207,7 @@ run_more [] first w new event r h = (new, subst (λ (z : World). Happens z event
 run_more (e ∷ events) first w new event r h = (r.0, r.1, run_more events r.0 w new event r.2 h)
 
 pub reached_call : (w new : World) (entry : Entry) → CallsOnWorld w entry new → Reached w → Reached new
-reached_call w new entry c r = record { first = r.first; events = r.events ++ Call entry c.0 ∷ []; start = r.start; run = run_more r.events r.first w new (Call entry c.0) r.run c.1 }
+reached_call w new entry c r = record { first = r.first; events = r.events ++ Call entry c.0 ∷ []; start = r.start; run = run_more r.events r.first w new (Call entry c.0) r.run (happens w new entry c) }
 
 pub reached_calls : (entries : List Entry) (w new : World) → CallsAll w entries new → Reached w → Reached new
 reached_calls [] w new c r = subst Reached (sym c) r

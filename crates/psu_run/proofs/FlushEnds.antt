@@ -5,6 +5,7 @@ use Rattle.psu_disk.specs.declared.disk.Disk.{Ghosts}
 use Rattle.psu_items.specs.declared.commit.UnstartedCause.TheVariants as unstarted
 use Rattle.psu_items.specs.Image.{IsEither}
 use Rattle.psu_map.specs.Map.{Item}
+use Rattle.psu_exec.proofs.Ignored.{serves_took}
 use Rattle.psu_exec.specs.Calls.{JobKind, Commit, Reopen, JobData, JobEnd, Stored, Unstarted, Failed, Reopened, Job, Nothing, Took, GaveBack, Allows, HasWork, job_of, job_out, kind_for, stored}
 use Rattle.psu_exec.specs.Device.{State, Flush, is_whole, is_broken, wait_of}
 use Rattle.psu_nv.specs.Contents.{items_of}
@@ -45,7 +46,8 @@ jobs_more first old new life i w d =
 pub flush_ends : {D A : Type 0} {G : Ghosts D} (first old new : Exec D A G) (life : Life) (i : ℕ) → i ≤ 4 → Within (failures_of first) (failures_of old) (λ can. Jobs i can (world_of life first) (world_of life old))
     → Allows old.device (Took Nothing) new.device → new.device ≡ old.device → new.idle_store ≡ old.idle_store
     → Within (failures_of first) (failures_of new) (λ can. Flushes can (world_of life first) (world_of life new))
-flush_ends {D} {A} {G} first old new life i low w took same there =
+flush_ends {D} {A} {G} first old new life i low w given same there =
+    let took = serves_took old.device new.device Nothing given in
     let world : world_of life new ≡ world_of life old = ap (λ (d : State). record (world_of life old) { state = d; disk = disk_at new.idle_store }) same
     ∙ ap (λ (z : Option (IdleStore D A G)). record (world_of life old) { disk = disk_at z }) there in
     within_at _ _ _ (λ can. Flushes can (world_of life first) (world_of life new)) (ap (λ (z : Option (IdleStore D A G)). failures_at z) there)
@@ -116,7 +118,8 @@ after_clean (Reopened limit map) i f taken new kind is fit clean out gave own lo
 
 pub calm_after : {D A : Type 0} {G : Ghosts D} (first : Exec D A G) (i : ℕ) (old taken new : Exec D A G) (j : AnyJob D A G) (short : Bool) → Ghosts.honest G → Allows old.device (Took (Job (job_data j))) taken.device
     → old.idle_store ≡ Some (job_store j) → HasRun taken j new short → short ≡ false → failures_of first ≤ failures_of old → IsCalm first i old → IsCalm first (i + 1) new
-calm_after {D} {A} {G} first i old taken new j short h took there run long later calm =
+calm_after {D} {A} {G} first i old taken new j short h given there run long later calm =
+    let took = serves_took old.device taken.device (Job (job_data j)) given in
     let still : is_short run.finished ≡ false = sym run.short_is ∙ long in
     ⊎_elim
     (λ failed. inl (failed_on _ _ _ (run_lasts old taken new j short there run).later failed))
@@ -142,7 +145,8 @@ calm_after {D} {A} {G} first i old taken new j short h took there run long later
 -- the calls of a job, however it ended
 pub job_executes : {D A : Type 0} {G : Ghosts D} (old taken new : Exec D A G) (j : AnyJob D A G) (life : Life) (short : Bool) → Ghosts.honest G
     → Allows old.device (Took (Job (job_data j))) taken.device → HasRun taken j new short → Executes (world_of life old) [] (world_of life new)
-job_executes old taken new j life short h took run =
+job_executes old taken new j life short h given run =
+    let took = serves_took old.device taken.device (Job (job_data j)) given in
     let mid : World = record (world_of life old) { state = taken.device } in
     executes_join (world_of life old) mid (world_of life new) [] []
     (executes_one (world_of life old) (Took (Job (job_data j))) mid (disk_at old.idle_store, (taken.device, refl, took, refl, refl)))
@@ -151,7 +155,8 @@ job_executes old taken new j life short h took run =
 -- the possible crash images at any moment of a job
 pub job_spans : {D A : Type 0} {G : Ghosts D} (old taken new : Exec D A G) (j : AnyJob D A G) (life : Life) (short : Bool) → Ghosts.honest G
     → Allows old.device (Took (Job (job_data j))) taken.device → old.idle_store ≡ Some (job_store j) → HasRun taken j new short → Spans old new (world_of life old) (world_of life new)
-job_spans {D} {A} {G} old taken new j life short h took there run =
+job_spans {D} {A} {G} old taken new j life short h given there run =
+    let took = serves_took old.device taken.device (Job (job_data j)) given in
     let w = world_of life old in
     let mid : World = record w { state = taken.device } in
     let takes : CallsLead w mid = leads_one w mid (Took (Job (job_data j))) (disk_at old.idle_store, (taken.device, refl, took, refl, refl)) in
@@ -192,7 +197,7 @@ halts_short old new calls lasts = record {
 }
 
 pub out_free : (s taken : State) (d : JobData) → Allows s (Took (Job d)) taken → wait_of s.flush 1 ≡ None → wait_of taken.flush 1 ≡ None
-out_free s taken d took free = ap (λ (z : State). wait_of z.flush 1) took.1 ∙ by s.flush (is_whole s.flush.store) ∙ free where
+out_free s taken d given free = ap (λ (z : State). wait_of z.flush 1) (serves_took s taken (Job d) given).1 ∙ by s.flush (is_whole s.flush.store) ∙ free where
   by : (f : Flush) (b : Bool) → wait_of (if b then record f { out = true; held = Some (record { count = f.unflushed; map = items_of f.contents }) } else record f { out = true }) 1 ≡ wait_of f 1
   by f true = refl
   by f false = refl

@@ -9,6 +9,7 @@ use Rattle.psu_map.specs.Batch.{Edit}
 use Rattle.psu_map.specs.Map.{Item}
 use Rattle.psu_items.specs.declared.broken.BrokenCause.{BrokenCause}
 use Rattle.psu_items.specs.declared.broken.BrokenCause.TheVariants as broken_cause
+use Rattle.psu_exec.proofs.Ignored.{serves_took}
 use Rattle.psu_exec.specs.Calls.{JobData, JobEnd, Stored, Unstarted, Failed, Reopened, Job, Took, IsExpected, IsAccepted, Allows, job_of, wait_less, wait_cut}
 use Rattle.psu_exec.specs.Device.{State, Flush, count_held, is_broken, is_open, target, wait_of}
 use Rattle.psu_exec.specs.Jobs.{finished_of, finished_disk, idle_store_of, idle_disk, job_data, job_disk, job_store, EndStands, RunsTo}
@@ -243,7 +244,8 @@ failed_of (Reopened limit map) b c f e = cc
 pub job_done : {D A : Type 0} {G : Ghosts D} (old taken new : Exec D A G) (j : AnyJob D A G) (life : Life) (short : Bool) → Ghosts.honest G
     → Allows old.device (Took (Job (job_data j))) taken.device → old.idle_store ≡ Some (job_store j) → HasRun taken j new short → short ≡ false
     → Within (failures_of old) (failures_of new) (λ can. JobDone can (world_of life old) (world_of life new))
-job_done {D} {A} {G} old taken new j life short h took there run long =
+job_done {D} {A} {G} old taken new j life short h given there run long =
+    let took = serves_took old.device taken.device (Job (job_data j)) given in
     let calm : is_short run.finished ≡ false = sym run.short_is ∙ long in
     let count = count_at old j there in
     subst (λ (n : ℕ). Within n (failures_of new) (λ can. JobDone can (world_of life old) (world_of life new))) (sym count) (

@@ -3,7 +3,7 @@ use Rattle.std.proofs.Common.{◌≡◌, ◌⊎◌, ℕ, ◌<◌, ◌==◌, ◌&
 use Rattle.std.proofs.lemmas.Bool.Decides.{nat_tests}
 use Rattle.psu_disk.specs.Disk.{HasFailed}
 use Rattle.psu_disk.specs.declared.disk.Disk.{Ghosts}
-use Rattle.psu_exec.specs.Calls.{Executed, Allows}
+use Rattle.psu_exec.specs.Calls.{Executed, Serves}
 use Rattle.psu_exec.specs.Device.{Reply, Error, Parked, Later, State, Flush, MayAnswer, MayMean, TooEarly, Runs, Expands, Means, answer_call, is_full, is_late, is_later as comes_later, is_whole, wait_of, answer_complete, answer_done, answer_meant, here, kept_unless, meant as meaning_of, parks, reads_nonvolatile}
 use Rattle.psu_instrument.specs.Meaning.{Meaning, Refuses, Does, Keeps, Completes}
 use Rattle.psu_instrument.specs.declared.act.Completion.{Completion}
@@ -86,7 +86,7 @@ later_for s request (TooEarly free late) = late
 later_for s request (Runs run (Expands body is call)) = absurd (never_call call.given (sym call.is))
 later_for s request (Runs run (Means none may)) = absurd (never_means s.flush (meaning_of (here s 1) request.reading) may)
 
-late_full : (s new : State) (request : Request) → Allows s (Executed 1 request Later) new → wait_of s.flush 1 ≡ None → is_full s.flush ≡ true
+late_full : (s new : State) (request : Request) → Serves s (Executed 1 request Later) new → wait_of s.flush 1 ≡ None → is_full s.flush ≡ true
 late_full s new request t free = full_tail s.flush (reads_nonvolatile request.reading (is_none s.flush.contents.enables)) free (later_for s request t.1.may)
 
 late_halted : {D A : Type 0} {G : Ghosts D} (old mid new : Exec D A G) (request : Request) (reply : Reply) → Ghosts.honest G → DeviceContinues mid new (Acted request reply) → is_later reply ≡ true

@@ -16,7 +16,7 @@ use Rattle.psu_run.specs.Lines.{Message}
 use Rattle.psu_run.specs.Lives.{CallsAll, EventsLead, IsLeftBy, PowersOn, Reached}
 use Rattle.psu_run.specs.Moments.{CallsLead}
 use Rattle.psu_run.specs.Runs.{Mishaps, Flushes, MessageRuns, NextBegins, Reopens, Runs}
-use Rattle.psu_run.proofs.Calls.{Executes, flush_calls, job_calls, line_made, next_begun}
+use Rattle.psu_run.proofs.Calls.{Executes, flush_calls, happens, job_calls, line_made, next_begun}
 
 -- ---- lists of events
 
@@ -32,7 +32,7 @@ leads_behind w mid new event h p = (event ∷ p.0, (mid, h, p.1))
 
 calls_lead : (entries : List Entry) (w new : World) → CallsAll w entries new → EventsLead w new
 calls_lead [] w new c = ([], c)
-calls_lead (entry ∷ entries) w new (mid, c, more) = leads_behind w mid new (Call entry c.0) c.1 (calls_lead entries mid new more)
+calls_lead (entry ∷ entries) w new (mid, c, more) = leads_behind w mid new (Call entry c.0) (happens w mid entry c) (calls_lead entries mid new more)
 
 made_leads : (w new : World) → CallsLead w new → EventsLead w new
 made_leads w new m = calls_lead m.0 w new m.1
@@ -101,7 +101,7 @@ restart_leads w new p =
     (swept w on.disk (standing_keeps w.disk on.disk on.limit (items_of on.start) p.found p.start.disk) p.size)
     (leads_behind shut on new (Restart on.limit on.start)
     (record { down = tt; sound = p.start.sound; fitting = p.start.fitting; stands = p.start.disk }, is_start on p.start)
-    (Call (Opened (Some 1)) p.opens.0 ∷ [], (new, p.opens.1, refl)))
+    (Call (Opened (Some 1)) p.opens.0 ∷ [], (new, happens on new (Opened (Some 1)) p.opens, refl)))
 
 -- at rest a power loss leaves the bytes that a read returns
 power_leads : (w new : World) → PowersOn w.disk.bytes new → EventsLead w new

@@ -15,7 +15,7 @@ use Rattle.psu_pages.specs.declared.faults.OpenCause.TheVariants as refused
 use Rattle.psu_items.specs.Standing.{MapOn}
 use Rattle.psu_items.proofs.Fitting.{represents_readable, represents_unrefused, represents_within}
 use Rattle.psu_items.proofs.Standing.{represents_one}
-use Rattle.psu_exec.specs.Calls.{Opened, Allows, least_free, opened}
+use Rattle.psu_exec.specs.Calls.{Opened, Allows, Serves, least_free, opened}
 use Rattle.psu_exec.specs.Consistent.{IsConsistent}
 use Rattle.psu_exec.specs.Device.{State, Flush, is_open, power_on, wait_of}
 use Rattle.psu_nv.specs.Contents.{items_of, IsContents, Contents, cost_of, fits}
@@ -38,6 +38,7 @@ use Rattle.psu_run.specs.Lines.{Message}
 use Rattle.psu_run.specs.Lives.{Life, born, disk_at, world_of, PowersOn}
 use Rattle.psu_run.specs.Reasons.{IsAtPower, IsHaltedBy, StopsFor}
 use Rattle.psu_exec.proofs.Changes.{sound_first}
+use Rattle.psu_exec.proofs.Ignored.{serves_opened}
 use Rattle.psu_run.proofs.Calls.{called}
 use Rattle.psu_run.proofs.Within.{failed_before}
 
@@ -48,12 +49,12 @@ one_is n e = cc
 
 -- the session that opens is the first
 pub first_opens : (s new : State) (limit : ℕ) (c : Contents) (session : ℕ) → s ≡ power_on limit c → Allows s (Opened (Some session)) new → session ≡ 1
-first_opens s new limit c session is t = one_is session (subst (λ (z : State). Some session ≡ least_free z) is t.0)
+first_opens s new limit c session is t = one_is session (subst (λ (z : State). Some session ≡ least_free z) is (serves_opened s new (Some session) t).0)
 
-pub opened_one : (s new : State) (session : ℕ) → session ≡ 1 → Allows s (Opened (Some session)) new → Allows s (Opened (Some 1)) new
-opened_one s new session one t = subst (λ (n : ℕ). Allows s (Opened (Some n)) new) one t
+pub opened_one : (s new : State) (session : ℕ) → session ≡ 1 → Allows s (Opened (Some session)) new → Serves s (Opened (Some 1)) new
+opened_one s new session one t = subst (λ (n : ℕ). Serves s (Opened (Some n)) new) one (serves_opened s new (Some session) t)
 
-pub is_started : (s new : State) (limit : ℕ) (c : Contents) → s ≡ power_on limit c → Allows s (Opened (Some 1)) new
+pub is_started : (s new : State) (limit : ℕ) (c : Contents) → s ≡ power_on limit c → Serves s (Opened (Some 1)) new
     → (is_open new 1 ≡ true) × (new.flush.out ≡ false) × (wait_of new.flush 1 ≡ None) × (new.flush.store ≡ Whole) × (new.flush.limit ≡ limit) × (new.flush.contents ≡ c)
 is_started s new limit c is t =
     let there : new ≡ opened (power_on limit c) (Some 1) = t.1 ∙ ap (λ (z : State). opened z (Some 1)) is in (
@@ -67,7 +68,7 @@ is_started s new limit c is t =
 
 pub powers_on : {D A : Type 0} {G : Ghosts D} (image : List ℕ) (store : MapOn D) (on new : Exec D A G) → Represents image store.limit store.items → EachRepresents (Ghosts.state G store.disk) store.limit store.items → length (Ghosts.state G store.disk).bytes ≡ length image
     → on.device ≡ power_on store.limit on.device.flush.contents → items_of on.device.flush.contents ≡ store.items → IsContents on.device.flush.contents → fits store.limit on.device.flush.contents ≡ true → on.idle_store ≡ Some (idle_store.Whole store)
-    → Allows on.device (Opened (Some 1)) new.device → new.idle_store ≡ on.idle_store → PowersOn image (world_of (born new) new)
+    → Serves on.device (Opened (Some 1)) new.device → new.idle_store ≡ on.idle_store → PowersOn image (world_of (born new) new)
 powers_on {D} {A} {G} image store on new stood stands size state found sound fitting there opens same =
     let s = is_started on.device new.device store.limit on.device.flush.contents state opens in
     let limit : on.device.flush.limit ≡ store.limit = ap (λ (z : State). z.flush.limit) state in

@@ -2,7 +2,7 @@
 use Rattle.std.proofs.Common.{◌≡◌, ◌≢◌, ◌⊎◌, ℕ, ◌<◌, ◌≤◌, ◌==◌, Bool, true, false, Option, Some, None, List, [], ◌∷◌, ◌++◌, refl, sym, ap, ◌∙◌, subst, inl, inr, arith, ⊎_elim, append-nil}
 use Rattle.psu_disk.specs.Disk.{HasFailed}
 use Rattle.psu_disk.specs.declared.disk.Disk.{Ghosts}
-use Rattle.psu_exec.specs.Calls.{Executed, Settled, Cleared, Allows, settle_answer}
+use Rattle.psu_exec.specs.Calls.{Executed, Settled, Cleared, Serves, settle_answer}
 use Rattle.psu_exec.specs.Device.{Reply, Done, Answer, Error, Expand, Parked, Held, Later, State, wait_of}
 use Rattle.psu_instrument.specs.declared.act.Completion.{Completion}
 use Rattle.psu_instrument.specs.declared.act.Completion.TheVariants as completion
@@ -83,7 +83,7 @@ halts_more old new some more cause s = record {
 
 -- ---- calls after which the device continues
 
-pub settled_goes : {D A : Type 0} {G : Ghosts D} (old new : Exec D A G) (reply : Reply) → Allows old.device (Settled 1 reply) new.device → new.idle_store ≡ old.idle_store
+pub settled_goes : {D A : Type 0} {G : Ghosts D} (old new : Exec D A G) (reply : Reply) → Serves old.device (Settled 1 reply) new.device → new.idle_store ≡ old.idle_store
     → DeviceContinues old new (λ can w v. CallsOnWorld w (Settled 1 reply) v)
 settled_goes old new reply t there = record {
   runs = λ h life. (
@@ -95,7 +95,7 @@ settled_goes old new reply t there = record {
   lasts = lasts_same old new (settle_store old.device new.device reply t).0 there;
 }
 
-pub cleared_goes : {D A : Type 0} {G : Ghosts D} (old new : Exec D A G) → Allows old.device (Cleared 1) new.device → new.idle_store ≡ old.idle_store → DeviceContinues old new (λ can w v. CallsOnWorld w (Cleared 1) v)
+pub cleared_goes : {D A : Type 0} {G : Ghosts D} (old new : Exec D A G) → Serves old.device (Cleared 1) new.device → new.idle_store ≡ old.idle_store → DeviceContinues old new (λ can w v. CallsOnWorld w (Cleared 1) v)
 cleared_goes old new t there = record {
   runs = λ h life. (
     lived life old.device (Cleared 1),
@@ -120,7 +120,7 @@ meant can (Expand text) h = λ e. cc
 meant can Later h = λ e. cc
 
 -- a unit that is executed, given what was refused for it
-pub executed_goes : {D A : Type 0} {G : Ghosts D} (old new : Exec D A G) (request : Request) (reply : Reply) → Allows old.device (Executed 1 request reply) new.device → new.idle_store ≡ old.idle_store
+pub executed_goes : {D A : Type 0} {G : Ghosts D} (old new : Exec D A G) (request : Request) (reply : Reply) → Serves old.device (Executed 1 request reply) new.device → new.idle_store ≡ old.idle_store
     → DeviceContinues old new (λ can w v. IsMeant can reply × CallsOnWorld w (Executed 1 request reply) v)
 executed_goes old new request reply t there = record {
   runs = λ h life. (
@@ -156,13 +156,13 @@ goes_as old new P R p turn = record {
 
 -- ---- waits
 
-pub wait_ends : {D A : Type 0} {G : Ghosts D} (old mid new : Exec D A G) (reply : Reply) → DeviceContinues old mid Flushes → Allows mid.device (Settled 1 reply) new.device → new.idle_store ≡ mid.idle_store
+pub wait_ends : {D A : Type 0} {G : Ghosts D} (old mid new : Exec D A G) (reply : Reply) → DeviceContinues old mid Flushes → Serves mid.device (Settled 1 reply) new.device → new.idle_store ≡ mid.idle_store
     → DeviceContinues old new (WaitEnds reply)
 wait_ends old mid new reply f t there =
     goes_then old mid new Flushes (λ can w v. CallsOnWorld w (Settled 1 reply) v) (WaitEnds reply) f (settled_goes mid new reply t there) (λ can w u v x y. (u, x, y))
 
 -- a flush, and a settle
-pub flush_settles : {D A : Type 0} {G : Ghosts D} (old mid new : Exec D A G) (reply : Reply) → DeviceContinues old mid Flushes → Allows mid.device (Settled 1 reply) new.device → new.idle_store ≡ mid.idle_store
+pub flush_settles : {D A : Type 0} {G : Ghosts D} (old mid new : Exec D A G) (reply : Reply) → DeviceContinues old mid Flushes → Serves mid.device (Settled 1 reply) new.device → new.idle_store ≡ mid.idle_store
     → HasExecuted old new []
 flush_settles old mid new reply f t there =
     has_executed old new [] (WaitEnds reply) (wait_ends old mid new reply f t there)
@@ -179,10 +179,10 @@ is_waiting (Some (Until c n)) e = waiting_if c (n == 0) e where
   waiting_if completion.Event true e = cc
   waiting_if c false e = refl
 
-still_parked : (s new : State) (reply : Reply) → Allows s (Settled 1 reply) new → is_final reply ≡ false → reply ≡ Parked
+still_parked : (s new : State) (reply : Reply) → Serves s (Settled 1 reply) new → is_final reply ≡ false → reply ≡ Parked
 still_parked s new reply (opened, may, is) final = may ∙ is_waiting (wait_of s.flush 1) (ap is_final (sym may) ∙ final)
 
-pub waiting_halted : {D A : Type 0} {G : Ghosts D} (old mid new : Exec D A G) (reply : Reply) → Allows mid.device (Settled 1 reply) new.device → new.idle_store ≡ mid.idle_store
+pub waiting_halted : {D A : Type 0} {G : Ghosts D} (old mid new : Exec D A G) (reply : Reply) → Serves mid.device (Settled 1 reply) new.device → new.idle_store ≡ mid.idle_store
     → HasFailed (failures_of old) (failures_of mid) ⊎ (mid.device.flush.store ≡ Worn) ⊎ (mid.device.flush.unflushed ≡ 0) → is_final reply ≡ false → (reply ≡ Parked → 0 < mid.device.flush.unflushed)
     → IsHaltedBy old new Device
 waiting_halted old mid new reply t there clean final parked =
@@ -193,7 +193,7 @@ waiting_halted old mid new reply t there clean final parked =
     (λ rest. ⊎_elim (λ worn. inr (kept.0 ∙ worn, omega (arith, some, left))) (λ none. absurd (omega (arith, some, none))) rest) clean
 
 -- the session no longer waits
-pub halts_cleared : {D A : Type 0} {G : Ghosts D} (old mid new : Exec D A G) (cause : RunCause) → DeviceStops old mid [] cause → Allows mid.device (Cleared 1) new.device → new.idle_store ≡ mid.idle_store
+pub halts_cleared : {D A : Type 0} {G : Ghosts D} (old mid new : Exec D A G) (cause : RunCause) → DeviceStops old mid [] cause → Serves mid.device (Cleared 1) new.device → new.idle_store ≡ mid.idle_store
     → DeviceStops old new [] cause
 halts_cleared old mid new cause s t there =
     let c = cleared_goes mid new t there in record {
@@ -227,7 +227,7 @@ acts_at can (Expand text) w v request shut free (m, c) = inr (refl, inl (m, c))
 acts_at can Parked w v request shut free (m, c) = cc
 acts_at can Held w v request shut free (m, c) = absurd (free refl)
 
-pub acted_now : {D A : Type 0} {G : Ghosts D} (old new : Exec D A G) (request : Request) (reply : Reply) → Allows old.device (Executed 1 request reply) new.device → new.idle_store ≡ old.idle_store
+pub acted_now : {D A : Type 0} {G : Ghosts D} (old new : Exec D A G) (request : Request) (reply : Reply) → Serves old.device (Executed 1 request reply) new.device → new.idle_store ≡ old.idle_store
     → is_parked reply ≡ false → reply ≢ Held → DeviceContinues old new (Acted request reply)
 acted_now old new request reply t there shut free =
     goes_as old new (λ can w v. IsMeant can reply × CallsOnWorld w (Executed 1 request reply) v) (Acted request reply) (executed_goes old new request reply t there)
@@ -242,13 +242,13 @@ parked_call w v request Held e c = cc
 parked_call w v request Later e c = cc
 parked_call w v request (Expand text) e c = cc
 
-pub acted_waited : {D A : Type 0} {G : Ghosts D} (old mid new : Exec D A G) (request : Request) (first reply : Reply) → Allows old.device (Executed 1 request first) mid.device → mid.idle_store ≡ old.idle_store
+pub acted_waited : {D A : Type 0} {G : Ghosts D} (old mid new : Exec D A G) (request : Request) (first reply : Reply) → Serves old.device (Executed 1 request first) mid.device → mid.idle_store ≡ old.idle_store
     → is_parked first ≡ true → DeviceContinues mid new (WaitEnds reply) → is_final reply ≡ true → DeviceContinues old new (Acted request reply)
 acted_waited old mid new request first reply t there parked ends final =
     goes_then old mid new (λ can w v. IsMeant can first × CallsOnWorld w (Executed 1 request first) v) (WaitEnds reply) (Acted request reply) (executed_goes old mid request first t there) ends
     (λ can w u v x y. inr (final, inr (u, y.0, parked_call w u request first parked x.1, y.1, y.2)))
 
-pub parked_halts : {D A : Type 0} {G : Ghosts D} (old mid new : Exec D A G) (request : Request) (first : Reply) (cause : RunCause) → Allows old.device (Executed 1 request first) mid.device → mid.idle_store ≡ old.idle_store
+pub parked_halts : {D A : Type 0} {G : Ghosts D} (old mid new : Exec D A G) (request : Request) (first : Reply) (cause : RunCause) → Serves old.device (Executed 1 request first) mid.device → mid.idle_store ≡ old.idle_store
     → is_parked first ≡ true → DeviceStops mid new [] cause → DeviceStops old new (request ∷ []) cause
 parked_halts old mid new request first cause t there parked s =
     subst (λ (z : List Request). DeviceStops old new z cause) (append-nil (request ∷ [])) (halts_after old mid new (request ∷ []) [] cause

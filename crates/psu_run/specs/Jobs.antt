@@ -5,7 +5,7 @@ use Rattle.psu_disk.specs.Disk.{HasFailed}
 use Rattle.psu_disk.specs.declared.disk.Disk.{Ghosts}
 use Rattle.psu_items.specs.Image.{IsEither}
 use Rattle.psu_exec.specs.Device.{target}
-use Rattle.psu_exec.specs.Calls.{JobEnd, Unstarted, Failed, GaveBack, Allows}
+use Rattle.psu_exec.specs.Calls.{JobEnd, Unstarted, Failed, GaveBack, Serves}
 use Rattle.psu_exec.specs.Jobs.{job_data, job_disk}
 use Rattle.psu_exec.specs.World.{IsTrueOf}
 use Rattle.psu_exec.specs.declared.condition.Condition.{Condition}
@@ -47,7 +47,7 @@ IsWornAtLast exec = WearsOutLast exec.device.flush.store exec.idle_store
 pub record HasRun {D A : Type 0} {G : Ghosts D} (old : Exec D A G) (job : Job D A G) (new : Exec D A G) (short : Bool) : Type 0 where
   pub finished : JobEnd
   pub over : List ℕ
-  pub give : Allows old.device (GaveBack finished (Some over)) new.device
+  pub give : Serves old.device (GaveBack finished (Some over)) new.device
   pub short_is : short ≡ is_short finished
   pub own : EndsJob (job_data job).kind finished
   pub stands : Ghosts.honest G → IsTrueOf (target old.device.flush) finished (disk_at new.idle_store)

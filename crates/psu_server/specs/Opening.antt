@@ -11,7 +11,7 @@ use Rattle.psu_turn.specs.Seats.{Sight, SeatCalls}
 use Rattle.psu_exec.specs.Device.{State}
 use Rattle.psu_exec.specs.Calls.{Entry}
 use Rattle.psu_exec.specs.Calls.Entry.{Opened, Closed}
-use Rattle.psu_bench.specs.Calls.{AdmitsOn}
+use Rattle.psu_bench.specs.Calls.{AllowsOn}
 
 -- The bytes begin a stream whose first message is whole, and requests this.
 pub record IsFirst (first : First) (bytes : List ℕ) : Type 0 where
@@ -26,9 +26,9 @@ initialize_response number = header_bytes (header_of InitializeResponse 0 (16777
 
 -- The device opened a session under this number: the entry of the call in the seat's history has it as its reply.
 abbrev pub IsOpened : Type 0 → Sight State Entry → ℕ → Sight State Entry → Type 0
-IsOpened honest old number new = SeatCalls (AdmitsOn honest) old (Opened (Some number)) new
+IsOpened honest old number new = SeatCalls (AllowsOn honest) old (Opened (Some number)) new
 
 -- It opened one, and closed it again.
 abbrev pub IsClosedAgain : Type 0 → Sight State Entry → Sight State Entry → Type 0
 IsClosedAgain honest old new = (number : ℕ) × (granted : List ℕ) × (mid : Sight State Entry)
-    × IsOpened honest old number mid × SeatCalls (AdmitsOn honest) mid (Closed number granted) new
+    × IsOpened honest old number mid × SeatCalls (AllowsOn honest) mid (Closed number granted) new

@@ -2,7 +2,7 @@
 use crate::connection::Accepted;
 use crate::serve_fault::ServeFault;
 use crate::silent_connections::SilentConnections;
-use psu_bench::{Caller, Gate, power_on};
+use psu_bench::{Caller, Gate, ServedDisk, power_on};
 use psu_disk::{Disk, FileDisk, OsFiles};
 use psu_session_io::Link;
 use psu_threads::{Flusher, Server, write_lines};
@@ -21,13 +21,16 @@ const ACCEPT_PAUSE: u64 = 20;
 
 // What accepts connections.
 #[derive(Drop)]
-struct Acceptor<D: Disk, G: Gate> {
+struct Acceptor<D: ServedDisk> {
     server: Arc<Server>,
     silent: Arc<Mutex<SilentConnections>>,
-    caller: Caller<D, G>,
+    caller: Caller<D>,
 }
 
-impl<D: Disk + Drop + Send + 'static, G: Gate + Drop + Send + Sync + 'static> Acceptor<D, G> {
+impl<D: ServedDisk + Send + 'static> Acceptor<D>
+where
+    D::Gate: Send + Sync + 'static,
+{
     // Accepts the next connection. Where none can be accepted, it sleeps for a moment.
     fn accept_next<R>(&mut self, rt: R, listener: &TcpListener)
     where
@@ -43,7 +46,7 @@ impl<D: Disk + Drop + Send + 'static, G: Gate + Drop + Send + Sync + 'static> Ac
     }
 
     // Returns a connection over a stream, which counts as silent until its first message.
-    fn connection<R: Wait>(&mut self, rt: &R, stream: TcpStream) -> io::Result<Accepted<D, G>> {
+    fn connection<R: Wait>(&mut self, rt: &R, stream: TcpStream) -> io::Result<Accepted<D>> {
         stream.set_nodelay(true)?;
         let link = Arc::new(self.server.alloc, Link::new(stream))?;
         let server = Arc::try_clone(&self.server)?;
@@ -145,11 +148,11 @@ where
 }
 
 // Returns the acceptor of a server that has started.
-fn acceptor_of<R: Clock, D: Disk + Drop, G: Gate + Drop>(
+fn acceptor_of<R: Clock, D: ServedDisk>(
     rt: &R,
     alloc: Global,
-    caller: Caller<D, G>,
-) -> io::Result<Acceptor<D, G>> {
+    caller: Caller<D>,
+) -> io::Result<Acceptor<D>> {
     let server = Arc::new(alloc, Server::new(alloc, Instant::now(rt)?))?;
     let silent = Arc::new(alloc, Mutex::new(SilentConnections::new(alloc)))?;
     Ok(Acceptor {
@@ -160,17 +163,17 @@ fn acceptor_of<R: Clock, D: Disk + Drop, G: Gate + Drop>(
 }
 
 // Accepts connections for ever.
-fn accept_all<R, D, G, E>(
+fn accept_all<R, D, E>(
     rt: R,
     alloc: Global,
     listener: TcpListener,
-    caller: Caller<D, G>,
+    caller: Caller<D>,
     errors: E,
 ) -> io::Result<()>
 where
     R: Threads + Wait + Clock + Print + Copy + Send + 'static,
-    D: Disk + Drop + Send + 'static,
-    G: Gate + Drop + Send + Sync + 'static,
+    D: ServedDisk + Send + 'static,
+    D::Gate: Send + Sync + 'static,
     E: Eprint + Drop + Send + 'static,
 {
     let address = listener.local_addr()?;

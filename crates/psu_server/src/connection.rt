@@ -1,8 +1,7 @@
 //! A connection, from its first byte to its end.
 use crate::opening::{Opening, close, first_message, open};
 use crate::silent_connections::SilentConnections;
-use psu_bench::{Caller, Gate};
-use psu_disk::Disk;
+use psu_bench::{Caller, ServedDisk};
 use psu_exec::Session;
 use psu_hislip::{FatalCode, First};
 use psu_session_io::{Connection, FirstReply, Link, ServedSession};
@@ -15,15 +14,15 @@ use std::{io, thread};
 
 /// A connection that was accepted.
 #[derive(Drop)]
-pub(crate) struct Accepted<D: Disk, G: Gate> {
+pub(crate) struct Accepted<D: ServedDisk> {
     pub server: Arc<Server>,
     pub silent: Arc<Mutex<SilentConnections>>,
     pub number: u64,
     pub link: Arc<Link>,
-    pub caller: Caller<D, G>,
+    pub caller: Caller<D>,
 }
 
-impl<D: Disk + Drop, G: Gate + Drop> Accepted<D, G> {
+impl<D: ServedDisk> Accepted<D> {
     // Refuses what the connection has sent first.
     fn refuse(&self, code: FatalCode) -> io::Result<()> {
         self.link.answer(FirstReply::refused(code))
@@ -80,7 +79,10 @@ impl<D: Disk + Drop, G: Gate + Drop> Accepted<D, G> {
     }
 }
 
-impl<D: Disk + Drop + Send + 'static, G: Gate + Drop + Send + Sync + 'static> Accepted<D, G> {
+impl<D: ServedDisk + Send + 'static> Accepted<D>
+where
+    D::Gate: Send + Sync + 'static,
+{
     // Starts a thread that serves a session beside its readers.
     fn start_beside<R>(
         &mut self,

@@ -3,14 +3,13 @@ ghost use Rattle.std.specs.Prelude.{◌≡◌, ℕ, List, [], ◌∷◌, ◌++�
 ghost use Rattle.std.specs.Arc.{arc_value};
 ghost use Rattle.psu_turn.specs.Seats.{SeatCalls};
 ghost use Rattle.psu_exec.specs.Calls.Entry.{Closed, Opened};
-ghost use Rattle.psu_bench.specs.Calls.{AdmitsOn};
+ghost use Rattle.psu_bench.specs.Calls.{AllowsOn};
 ghost use Rattle.psu_hislip.specs.Channel.{Fed};
 ghost use Rattle.psu_session.specs.State.{Start, fresh};
 ghost use Rattle.psu_server.specs.Opening.{IsClosedAgain, IsFirst, IsOpened, initialize_response};
 
 use psu_bench::operations::OpenSession;
-use psu_bench::{Caller, Gate, Others};
-use psu_disk::Disk;
+use psu_bench::{Caller, Others, ServedDisk};
 use psu_exec::Session;
 use psu_hislip::{Channel, First};
 use psu_session::HislipSession;
@@ -161,16 +160,16 @@ fn opened(
 /// Opens a session over its synchronous connection, whose first message has these bytes, and returns it with its
 /// response; `None` where there are too many sessions. Its number is the one that the device has given it, and is free
 /// again where memory for it is refused.
-pub(crate) fn open<R: Wait, D: Disk + Drop, G: Gate + Drop>(
+pub(crate) fn open<R: Wait, D: ServedDisk>(
     rt: &R,
     server: &Server,
-    caller: &mut Caller<D, G>,
+    caller: &mut Caller<D>,
     link: &Arc<Link>,
     message: &[u8],
 ) -> io::Result<Option<(FirstReply, Arc<ServedSession>)>>
     ensures number { IfOk result (λ some. IfSome some (λ opened. IsOpened D.honest caller.old.seat (arc_value opened.1).number caller.new.seat)) }
     ensures response { IfOk result (λ some. IfSome some (λ opened. opened.0.bytes ≡ initialize_response (arc_value opened.1).number)) }
-    ensures crowded { IfOk result (λ some. IsNone some → SeatCalls (AdmitsOn D.honest) caller.old.seat (Opened None) caller.new.seat) }
+    ensures crowded { IfOk result (λ some. IsNone some → SeatCalls (AllowsOn D.honest) caller.old.seat (Opened None) caller.new.seat) }
     ensures closed { OnErr result (IsClosedAgain D.honest caller.old.seat caller.new.seat) }
 {
     let others = Reporter { rt, server };
@@ -194,13 +193,13 @@ pub(crate) fn open<R: Wait, D: Disk + Drop, G: Gate + Drop>(
 }
 
 /// Closes a session and frees its number.
-pub(crate) fn close<R: Wait, D: Disk + Drop, G: Gate + Drop>(
+pub(crate) fn close<R: Wait, D: ServedDisk>(
     rt: &R,
     server: &Server,
-    caller: &mut Caller<D, G>,
+    caller: &mut Caller<D>,
     number: Session,
 )
-    ensures { (granted : List ℕ) × SeatCalls (AdmitsOn D.honest) caller.old.seat (Closed number granted) caller.new.seat }
+    ensures { (granted : List ℕ) × SeatCalls (AllowsOn D.honest) caller.old.seat (Closed number granted) caller.new.seat }
 {
     let others = Reporter { rt, server };
     let mut registry = others.lock_registry();

@@ -29,7 +29,7 @@ fn deliver<D: Device>(device: &mut D, is_delivered: bool)
     ensures { Runs D.does device.old (calls (delivers is_delivered)) device.new }
 {
     if is_delivered {
-        device.deliver();
+        device.mark_delivered();
     }
 }
 
@@ -168,7 +168,7 @@ impl Parts {
             Action::TooMuch(origin) => self.order(origin, Input::Fault(ScpiError::TooMuchData)),
             Action::Trigger(origin) => self.order(origin, Input::Fault(ScpiError::TriggerIgnored)),
             Action::Delivered => {
-                device.deliver();
+                device.mark_delivered();
                 Ok(())
             }
             Action::Status(is_delivered) => {

@@ -20,11 +20,11 @@ pub trait Device {
         ensures { does self.old (Settled (outcome_of result)) self.new };
 
     /// A response is sent.
-    fn sent(&mut self)
+    fn mark_sent(&mut self)
         ensures { does self.old Sent self.new };
 
     /// The client has read the last response whole.
-    fn deliver(&mut self)
+    fn mark_delivered(&mut self)
         ensures { does self.old Delivered self.new };
 
     /// Returns the status byte for a status query.

@@ -74,7 +74,7 @@ impl<'a, 'b, 'c, D: Device> Executor<Global> for Execution<'a, 'b, 'c, D> {
         } else {
             self.output.extend_from_slice(frames.as_slice())?;
         }
-        self.device.sent();
+        self.device.mark_sent();
         Ok(())
     }
 

@@ -1,7 +1,9 @@
 -- A session after the end of a connection: what it was sent before is executed, and its responses are discarded.
 use Rattle.std.specs.Prelude.{◌≡◌, ◌⊎◌, List, [], ⊤}
+use Rattle.psu_hislip.specs.declared.side.Side.{Side}
 use Rattle.psu_session.specs.Events.{Call, Event, calls}
 use Rattle.psu_session.specs.Proceeding.{PassesTo}
+use Rattle.psu_session.specs.State.{output}
 use Rattle.psu_session.specs.Serving.{PerformsStep}
 use Rattle.psu_session.specs.Step.{Steps}
 use Rattle.psu_session.specs.Stopping.{StopsNext}
@@ -20,19 +22,26 @@ IsEnding Open = ⊥
 IsEnding (Ending left) = ⊤
 IsEnding (Over cause) = ⊥
 
--- Output is discarded, by steps of the session without a call of the device. Memory may be refused for the next reply.
+-- Output may be discarded, and none is added, by steps of the session without a call of the device. Memory may be refused
+-- for the next reply.
 pub record Discards (s t : Shared) : Type 0 where
   pub done : List Event
   pub steps : Steps s.state done t.state
   pub uncalled : calls done ≡ []
   pub phase : (t.phase ≡ s.phase) ⊎ (t.phase ≡ Over Memory)
+  pub adds_none : (side : Side) → output side s.state ≡ [] → output side t.state ≡ []
   pub rest : t ≡ with_value s t.phase t.state
+
+-- Nothing is to be sent on a connection, unless memory was refused.
+abbrev pub IsDiscarded : Side → Shared → Type 0
+IsDiscarded side s = (s.phase ≡ Over Memory) ⊎ (output side s.state ≡ [])
 
 -- The output of both connections is discarded, and then what is next is executed, with this result. The phase counts the
 -- units that it has tried.
 pub record DrainsOnce {X : Type 0} (does : X → Call → X → Type 0) (proceeded : Proceeded) (s : Shared) (x : X) (t : Shared) (y : X) : Type 0 where
   pub mid : Shared
   pub discards : Discards s mid
+  pub none : (side : Side) → IsDiscarded side mid
   pub proceeds : PerformsStep does (PassesTo mid.phase proceeded t.phase) mid.state x t.state y
   pub rest : t ≡ with_value mid t.phase t.state
 

@@ -1,8 +1,11 @@
 //! A session after the end of a connection: what it was sent before is received and executed.
-ghost use Rattle.std.specs.Prelude.{◌≡◌, ◌↔◌, IsTrue, IfOk, OnErr};
+ghost use Rattle.std.specs.Prelude.{◌≡◌, ◌↔◌, [], false, IsTrue, IfOk, OnErr};
 ghost use Rattle.psu_session.specs.Holding.{IsFull};
 ghost use Rattle.psu_session.specs.declared.phase.Phase.TheVariants.{Open};
-ghost use Rattle.psu_session_io.specs.Ending.{Discards, Drains, IsEnding};
+ghost use Rattle.psu_hislip.specs.declared.side.Side.{Side as SideData};
+ghost use Rattle.psu_session.specs.Phases.{phase_ended};
+ghost use Rattle.psu_session.specs.State.{output, writes};
+ghost use Rattle.psu_session_io.specs.Ending.{Discards, Drains, IsDiscarded, IsEnding};
 ghost use Rattle.psu_session_io.specs.Sharing.{EndsReceiving, Receives};
 
 use crate::linear::{BytesRead, Closing, Received};
@@ -29,21 +32,25 @@ impl SharedSession {
 
     // Notes that nothing is written on a connection any more.
     fn end_last_write(&mut self, side: Side)
-        ensures { Discards self.old self.new }
+        ensures step { Discards self.old self.new }
+        ensures ended { phase_ended self.old.phase ≡ false → writes side self.new.state ≡ false }
+        ensures phase { self.new.phase ≡ self.old.phase }
     {
         self.session.written(side);
     }
 
     // Takes the output of a connection, and drops it.
     fn drop_output(&mut self, side: Side)
-        ensures { Discards self.old self.new }
+        ensures step { Discards self.old self.new }
+        ensures dropped { phase_ended self.old.phase ≡ false → writes side self.old.state ≡ false → output side self.new.state ≡ [] }
     {
         let _dropped = self.session.take_output(side);
     }
 
     // Discards the output of both connections.
     fn discard(&mut self)
-        ensures { Discards self.old self.new }
+        ensures step { Discards self.old self.new }
+        ensures none { IsEnding self.old.phase → (side : SideData) → IsDiscarded side self.new }
     {
         self.end_last_write(Side::Sync);
         self.drop_output(Side::Sync);

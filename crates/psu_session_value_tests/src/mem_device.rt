@@ -11,7 +11,7 @@ pub(crate) type Power = Exec<MemDisk<Global>, Global>;
 #[derive(Drop)]
 pub(crate) struct MemDevice<'a> {
     pub(crate) exec: &'a mut Power,
-    /// The session that calls it. It is open; otherwise a call has no effect.
+    /// The session that calls it.
     pub(crate) session: Session,
     /// The sessions that were granted a lock when one was released.
     pub(crate) granted: Sessions,
@@ -21,73 +21,44 @@ impl<'a> Device for MemDevice<'a> {
     ghost does = { λ _ _ _. Unit {0} };
 
     fn execute(&mut self, request: &Request<'_>) -> Outcome<Global> {
-        if self.exec.is_open(self.session) {
-            self.exec.execute(self.session, request)
-        } else {
-            Outcome::Later
-        }
+        self.exec.execute(self.session, request)
     }
 
     fn settle(&mut self) -> Outcome<Global> {
-        if self.exec.is_open(self.session) {
-            self.exec.settle(self.session)
-        } else {
-            Outcome::Later
-        }
+        self.exec.settle(self.session)
     }
 
-    fn sent(&mut self) {
-        if self.exec.is_open(self.session) {
-            self.exec.sent(self.session);
-        }
+    fn mark_sent(&mut self) {
+        self.exec.mark_sent(self.session);
     }
 
-    fn deliver(&mut self) {
-        if self.exec.is_open(self.session) {
-            self.exec.delivered(self.session);
-        }
+    fn mark_delivered(&mut self) {
+        self.exec.mark_delivered(self.session);
     }
 
     fn query(&mut self) -> u8 {
-        if self.exec.is_open(self.session) {
-            self.exec.status(self.session)
-        } else {
-            0
-        }
+        self.exec.query(self.session)
     }
 
     fn fetch(&mut self) -> Option<u8> {
-        if self.exec.is_open(self.session) {
-            self.exec.requests(self.session)
-        } else {
-            None
-        }
+        self.exec.fetch(self.session)
     }
 
     fn lock(&mut self, kind: Kind, timeout: u32) -> Result<Grant, LockRefusal> {
-        if self.exec.is_open(self.session) {
-            self.exec.lock(self.session, kind, 0, timeout)
-        } else {
-            Ok(Grant::Failed)
-        }
+        self.exec.lock(self.session, kind, 0, timeout)
     }
 
     fn release(&mut self) -> Result<Freed, LockRefusal> {
-        if !self.exec.is_open(self.session) {
-            return Err(LockRefusal::NotHeld);
-        }
         let (freed, granted) = self.exec.release(self.session)?;
         self.granted = granted;
         Ok(freed)
     }
 
     fn inform(&mut self) -> Info {
-        self.exec.info()
+        self.exec.inform()
     }
 
     fn clear(&mut self) {
-        if self.exec.is_open(self.session) {
-            self.exec.clear(self.session);
-        }
+        self.exec.clear(self.session);
     }
 }

@@ -34,7 +34,7 @@ reply_is session (messages.Settled reply) entries (first, rest, are, is, none) l
     (sym (ap (λ (z : List Entry). flat_map responses_in z) (are ∙ ap (λ (z : List Entry). first ++ z) none ∙ append-nil first) ∙ notified (Entry.Settled session reply) (answer_in reply) first refl is))
 reply_is session (messages.Sent text last) entries (first, rest, are, is, none) later =
     ap (λ (z : List (List ℕ)). z ++ answers later)
-    (sym (ap (λ (z : List Entry). flat_map responses_in z) (are ∙ ap (λ (z : List Entry). first ++ z) none ∙ append-nil first) ∙ notified (Entry.Sent session) [] first refl is))
+    (sym (ap (λ (z : List Entry). flat_map responses_in z) (are ∙ ap (λ (z : List Entry). first ++ z) none ∙ append-nil first) ∙ ap (λ (z : List Entry). flat_map responses_in z) is.2))
 
 module _ (number : ℕ → ℕ) where
   -- the responses of effects are those in the replies of their entries

@@ -3,7 +3,7 @@ use Rattle.std.proofs.Common.{◌≡◌, ℕ, List, [], ◌∷◌, ◌++◌, ap,
 use Rattle.psu_turn.specs.Seats.{Sight}
 use Rattle.psu_exec.specs.Device.{State}
 use Rattle.psu_exec.specs.Calls.{Entry}
-use Rattle.psu_bench.specs.Calls.{AdmitsOn}
+use Rattle.psu_bench.specs.Calls.{AllowsOn}
 use Rattle.psu_session.specs.Events.{Call, Executed, Settled, Sent, Delivered, Queried, Fetched, Locked, Released, Informed, Cleared}
 use Rattle.psu_session.specs.Serving.{Runs}
 use Rattle.psu_threads.specs.Added.{Adds}
@@ -12,7 +12,7 @@ use Rattle.psu_bench.specs.Callers.{MakesCall, freed_to}
 use Rattle.psu_threads.proofs.Adding.{adds_both, adds_none, adds_one}
 
 module _ {honest : Type 0} where
-  made : (old new : Sight State Entry) (entry : Entry) → MakesCall honest old entry new → (entries : List Entry) × MayNotify entry entries × Adds (AdmitsOn honest) old entries new
+  made : (old new : Sight State Entry) (entry : Entry) → MakesCall honest old entry new → (entries : List Entry) × MayNotify entry entries × Adds (AllowsOn honest) old entries new
   made old new entry (inl call) = (entry ∷ [], inl refl, adds_one old new entry call)
   made old new entry (inr (mid, requesting, work, call, notified)) = (
     entry ∷ Entry.Notified requesting work ∷ [],
@@ -20,10 +20,10 @@ module _ {honest : Type 0} where
     adds_both old mid new (entry ∷ []) (Entry.Notified requesting work ∷ []) (adds_one old mid entry call) (adds_one mid new (Entry.Notified requesting work) notified),
   )
 
-  called : (session : ℕ) (old new : Sight State Entry) (call : Call) → IsCalled honest session old call new → (entries : List Entry) × AreEntries session call entries × Adds (AdmitsOn honest) old entries new
+  called : (session : ℕ) (old new : Sight State Entry) (call : Call) → IsCalled honest session old call new → (entries : List Entry) × AreEntries session call entries × Adds (AllowsOn honest) old entries new
   called session old new (Executed request reply) is = made old new (Entry.Executed session request reply) is
   called session old new (Settled reply) is = made old new (Entry.Settled session reply) is
-  called session old new Sent is = made old new (Entry.Sent session) is
+  called session old new Sent (requesting, work, is) = (Entry.Sent session requesting work ∷ [], (requesting, work, refl), adds_one old new (Entry.Sent session requesting work) is)
   called session old new Delivered is = (Entry.Delivered session ∷ [], refl, adds_one old new (Entry.Delivered session) is)
   called session old new (Queried byte) is = (Entry.Queried session byte ∷ [], refl, adds_one old new (Entry.Queried session byte) is)
   called session old new (Fetched request) is = (Entry.Fetched session request ∷ [], refl, adds_one old new (Entry.Fetched session request) is)

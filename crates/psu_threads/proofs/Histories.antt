@@ -5,7 +5,7 @@ use Rattle.std.proofs.lemmas.List.Elements.{All-from_recursion, recursion_from_A
 use Rattle.psu_hislip.specs.declared.side.Side.TheVariants.{Sync, Async}
 use Rattle.psu_turn.specs.History.{calls_by}
 use Rattle.psu_turn.specs.Seats.{Joins, Sight}
-use Rattle.psu_bench.specs.Calls.{AdmitsOn}
+use Rattle.psu_bench.specs.Calls.{AllowsOn}
 use Rattle.psu_exec.specs.Calls.{Entry}
 use Rattle.psu_exec.specs.Device as device
 use Rattle.psu_session.specs.Answered as exchange
@@ -32,8 +32,8 @@ orders_of [] = refl
 orders_of (r ∷ turns) = ap (λ (z : List Order). r.turn.order ∷ z) (orders_of turns)
 
 -- seats that are joined
-joined : (honest : Type 0) (old_one new_one old_other new_other both : Sight device.State Entry) (one other : List Entry) → Adds (AdmitsOn honest) old_one one new_one → Adds (AdmitsOn honest) old_other other new_other
-    → Joins (AdmitsOn honest) new_one new_other both → Shows honest both new_one (old_one.mine ++ one) × Shows honest both new_other (old_other.mine ++ other)
+joined : (honest : Type 0) (old_one new_one old_other new_other both : Sight device.State Entry) (one other : List Entry) → Adds (AllowsOn honest) old_one one new_one → Adds (AllowsOn honest) old_other other new_other
+    → Joins (AllowsOn honest) new_one new_other both → Shows honest both new_one (old_one.mine ++ one) × Shows honest both new_other (old_other.mine ++ other)
 joined honest old_one new_one old_other new_other both one other adds_one adds_other j = (
   record {
     legal = j.sees.legal;

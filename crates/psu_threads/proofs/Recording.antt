@@ -8,7 +8,7 @@ use Rattle.std.proofs.lemmas.List.Elements.{All-append, All-cons, All-nil}
 use Rattle.psu_turn.specs.Seats.{Sight}
 use Rattle.psu_exec.specs.Device as device
 use Rattle.psu_exec.specs.Calls.{Entry}
-use Rattle.psu_bench.specs.Calls.{AdmitsOn}
+use Rattle.psu_bench.specs.Calls.{AllowsOn}
 use Rattle.psu_session.specs.Events.{Call, Event, calls, calls_in}
 use Rattle.psu_session.specs.Serving.{Runs}
 use Rattle.psu_session.specs.State.{Start, SessionState}
@@ -40,7 +40,7 @@ module _ (honest : Type 0) (number : ℕ → ℕ) where
     events : List Recorded
     are : map (λ r. r.made) events ≡ made_by thread done
     each : All (HasEntries number) events
-    adds : Adds (AdmitsOn honest) old (all_entries events) new
+    adds : Adds (AllowsOn honest) old (all_entries events) new
     mine : entries_by thread events ≡ all_entries events
     others : (other : ℕ) → thread ≢ other → entries_by other events ≡ []
 
@@ -71,7 +71,7 @@ module _ {X : Type 0} {does : X → Call → X → Type 0} (honest : Type 0) (se
     pub events : List Recorded
     pub are : map (λ r. r.made) events ≡ made
     pub each : All (HasEntries (λ thread. start.session)) events
-    pub adds : (thread : ℕ) → Adds (AdmitsOn honest) (seat (first thread)) (entries_by thread events) (seat (last thread))
+    pub adds : (thread : ℕ) → Adds (AllowsOn honest) (seat (first thread)) (entries_by thread events) (seat (last thread))
     pub same : (thread : ℕ) → session (last thread) ≡ start.session
 
   pub of_all : {start : Start} {first last : ℕ → X} {made : List Made} {s : SessionState} → IsMadeOn does session start first made s last → OfAll start first last made
@@ -91,19 +91,19 @@ module _ {X : Type 0} {does : X → Call → X → Type 0} (honest : Type 0) (se
       (subst (λ (n : ℕ). Runs (IsCalled honest n) (seat (now thread)) (calls done) (seat (next thread))) (old.same thread) on_seat) in
       let both : (k : ℕ) → entries_by k (old.events ++ new.events) ≡ entries_by k old.events ++ entries_by k new.events
       = λ k. flat_map-append (λ (r : Recorded). if r.made.thread == k then r.entries else []) old.events new.events in
-      let by_thread : Adds (AdmitsOn honest) (seat (first thread)) (entries_by thread (old.events ++ new.events)) (seat (next thread))
-      = subst (λ (z : List Entry). Adds (AdmitsOn honest) (seat (first thread)) z (seat (next thread))) (sym (both thread ∙ ap (λ (z : List Entry). entries_by thread old.events ++ z) new.mine))
+      let by_thread : Adds (AllowsOn honest) (seat (first thread)) (entries_by thread (old.events ++ new.events)) (seat (next thread))
+      = subst (λ (z : List Entry). Adds (AllowsOn honest) (seat (first thread)) z (seat (next thread))) (sym (both thread ∙ ap (λ (z : List Entry). entries_by thread old.events ++ z) new.mine))
       (adds_both (seat (first thread)) (seat (now thread)) (seat (next thread)) (entries_by thread old.events) (all_entries new.events) (old.adds thread) new.adds) in
-      let by_other : (k : ℕ) → k ≢ thread → Adds (AdmitsOn honest) (seat (first k)) (entries_by k (old.events ++ new.events)) (seat (next k))
-      = λ k apart. subst (λ (z : List Entry). Adds (AdmitsOn honest) (seat (first k)) z (seat (next k)))
+      let by_other : (k : ℕ) → k ≢ thread → Adds (AllowsOn honest) (seat (first k)) (entries_by k (old.events ++ new.events)) (seat (next k))
+      = λ k apart. subst (λ (z : List Entry). Adds (AllowsOn honest) (seat (first k)) z (seat (next k)))
       (sym (both k ∙ ap (λ (z : List Entry). entries_by k old.events ++ z) (new.others k (λ same. apart (sym same))) ∙ append-nil (entries_by k old.events)))
-      (subst (λ (z : X). Adds (AdmitsOn honest) (seat (first k)) (entries_by k old.events) (seat z)) (sym (others k apart)) (old.adds k)) in
+      (subst (λ (z : X). Adds (AllowsOn honest) (seat (first k)) (entries_by k old.events) (seat z)) (sym (others k apart)) (old.adds k)) in
       record {
         events = old.events ++ new.events;
         are = map-append (λ (r : Recorded). r.made) old.events new.events ∙ ap (λ (z : List Made). z ++ map (λ r. r.made) new.events) old.are ∙ ap (λ (z : List Made). made ++ z) new.are;
         each = All-append (HasEntries number) old.events new.events old.each new.each;
         adds = λ k. dite (ℕ_discrete k thread)
-            (λ same. subst (λ (j : ℕ). Adds (AdmitsOn honest) (seat (first j)) (entries_by j (old.events ++ new.events)) (seat (next j))) (sym same) by_thread)
+            (λ same. subst (λ (j : ℕ). Adds (AllowsOn honest) (seat (first j)) (entries_by j (old.events ++ new.events)) (seat (next j))) (sym same) by_thread)
             (λ apart. by_other k apart);
         same = λ k. dite (ℕ_discrete k thread)
             (λ same. subst (λ (j : ℕ). session (next j) ≡ start.session) (sym same) (same_session (now thread) (calls done) (next thread) runs ∙ old.same thread))

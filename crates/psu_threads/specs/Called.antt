@@ -3,7 +3,7 @@ use Rattle.std.specs.Prelude.{◌≡◌, ◌⊎◌, ℕ, Bool, List, [], ◌∷�
 use Rattle.psu_turn.specs.Seats.{Sight, SeatCalls}
 use Rattle.psu_exec.specs.Device.{State}
 use Rattle.psu_exec.specs.Calls.{Entry}
-use Rattle.psu_bench.specs.Calls.{AdmitsOn}
+use Rattle.psu_bench.specs.Calls.{AllowsOn}
 use Rattle.psu_session.specs.Events.{Call, Executed, Settled, Sent, Delivered, Queried, Fetched, Locked, Released, Informed, Cleared}
 use Rattle.psu_threads.specs.Added.{Adds}
 use Rattle.psu_bench.specs.Callers.{MakesCall, freed_to}
@@ -12,14 +12,14 @@ use Rattle.psu_bench.specs.Callers.{MakesCall, freed_to}
 abbrev pub IsCalled : Type 0 → ℕ → Sight State Entry → Call → Sight State Entry → Type 0
 IsCalled honest session old (Executed request reply) new = MakesCall honest old (Entry.Executed session request reply) new
 IsCalled honest session old (Settled reply) new = MakesCall honest old (Entry.Settled session reply) new
-IsCalled honest session old Sent new = MakesCall honest old (Entry.Sent session) new
-IsCalled honest session old Delivered new = SeatCalls (AdmitsOn honest) old (Entry.Delivered session) new
-IsCalled honest session old (Queried byte) new = SeatCalls (AdmitsOn honest) old (Entry.Queried session byte) new
-IsCalled honest session old (Fetched request) new = SeatCalls (AdmitsOn honest) old (Entry.Fetched session request) new
-IsCalled honest session old (Locked kind timeout reply) new = (now : ℕ) × SeatCalls (AdmitsOn honest) old (Entry.Locked session kind now timeout reply) new
-IsCalled honest session old (Released reply) new = (granted : List ℕ) × SeatCalls (AdmitsOn honest) old (Entry.Released session (freed_to granted reply)) new
-IsCalled honest session old (Informed info) new = SeatCalls (AdmitsOn honest) old (Entry.Informed info) new
-IsCalled honest session old Cleared new = SeatCalls (AdmitsOn honest) old (Entry.Cleared session) new
+IsCalled honest session old Sent new = (requesting : List ℕ) × (work : Bool) × SeatCalls (AllowsOn honest) old (Entry.Sent session requesting work) new
+IsCalled honest session old Delivered new = SeatCalls (AllowsOn honest) old (Entry.Delivered session) new
+IsCalled honest session old (Queried byte) new = SeatCalls (AllowsOn honest) old (Entry.Queried session byte) new
+IsCalled honest session old (Fetched request) new = SeatCalls (AllowsOn honest) old (Entry.Fetched session request) new
+IsCalled honest session old (Locked kind timeout reply) new = (now : ℕ) × SeatCalls (AllowsOn honest) old (Entry.Locked session kind now timeout reply) new
+IsCalled honest session old (Released reply) new = (granted : List ℕ) × SeatCalls (AllowsOn honest) old (Entry.Released session (freed_to granted reply)) new
+IsCalled honest session old (Informed info) new = SeatCalls (AllowsOn honest) old (Entry.Informed info) new
+IsCalled honest session old Cleared new = SeatCalls (AllowsOn honest) old (Entry.Cleared session) new
 
 -- ---- calls, one after another
 
@@ -31,7 +31,7 @@ MayNotify entry entries = (entries ≡ entry ∷ []) ⊎ ((requesting : List ℕ
 abbrev pub AreEntries : ℕ → Call → List Entry → Type 0
 AreEntries session (Executed request reply) entries = MayNotify (Entry.Executed session request reply) entries
 AreEntries session (Settled reply) entries = MayNotify (Entry.Settled session reply) entries
-AreEntries session Sent entries = MayNotify (Entry.Sent session) entries
+AreEntries session Sent entries = (requesting : List ℕ) × (work : Bool) × (entries ≡ Entry.Sent session requesting work ∷ [])
 AreEntries session Delivered entries = entries ≡ Entry.Delivered session ∷ []
 AreEntries session (Queried byte) entries = entries ≡ Entry.Queried session byte ∷ []
 AreEntries session (Fetched request) entries = entries ≡ Entry.Fetched session request ∷ []
@@ -49,4 +49,4 @@ AreAllEntries session (call ∷ calls) entries = (first : List Entry) × (later 
 pub record AreCalls (honest : Type 0) (session : ℕ) (old : Sight State Entry) (calls : List Call) (new : Sight State Entry) : Type 0 where
   pub entries : List Entry
   pub are : AreAllEntries session calls entries
-  pub adds : Adds (AdmitsOn honest) old entries new
+  pub adds : Adds (AllowsOn honest) old entries new

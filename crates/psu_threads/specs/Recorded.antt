@@ -14,7 +14,7 @@ use Rattle.psu_messages.specs.Executions.{IsOver}
 use Rattle.psu_messages.specs.Messages.{IsMessage}
 use Rattle.psu_turn.specs.History.{StartsWith, calls_by}
 use Rattle.psu_turn.specs.Seats.{IsLegalFrom, Joins, Sight}
-use Rattle.psu_bench.specs.Calls.{AdmitsOn}
+use Rattle.psu_bench.specs.Calls.{AllowsOn}
 use Rattle.psu_session.specs.Answered.{TakesAtMost, Weaves, pieces}
 use Rattle.psu_session.specs.Events.{Call, Event, BytesReceived, LockGranted, ServiceRequested, LockReleased, Came, DeviceCalled, Put, Did, Took, Wrote, calls_in, exchange_history, taken}
 use Rattle.psu_session.specs.Exchange.{Done, Order, Turn, effects, frames, orders}
@@ -91,7 +91,7 @@ effects_of events = flat_map (λ r. if_effect r.made.event r) events
 
 -- a legal history begins with what the seat has seen, and has exactly these calls under its number
 pub record Shows (honest : Type 0) (history : Sight device.State Entry) (seat : Sight device.State Entry) (mine : List Entry) : Type 0 where
-  pub legal : IsLegalFrom (AdmitsOn honest) history.opening history.seen
+  pub legal : IsLegalFrom (AllowsOn honest) history.opening history.seen
   pub begins : StartsWith history.seen seat.seen
   pub own : calls_by seat.number history.seen ≡ mine
 
@@ -105,9 +105,9 @@ pub record IsRecorded (honest : Type 0) (old new : ℕ → Sight device.State En
   pub each : All (λ r. AreAllEntries start.session (calls_in r.made.event) r.entries) events
   -- under the seat of each thread the one legal history that the seat has seen then has these, in their order, after
   -- what the seat had called before, and no others
-  pub adds : (thread : ℕ) → Adds (AdmitsOn honest) (old thread) (entries_by thread events) (new thread)
+  pub adds : (thread : ℕ) → Adds (AllowsOn honest) (old thread) (entries_by thread events) (new thread)
   -- so has, for both, the one legal history that two seats have seen once they are joined
-  pub joined : (one other : ℕ) (both : Sight device.State Entry) → Joins (AdmitsOn honest) (new one) (new other) both
+  pub joined : (one other : ℕ) (both : Sight device.State Entry) → Joins (AllowsOn honest) (new one) (new other) both
       → Shows honest both (new one) ((old one).mine ++ entries_by one events) × Shows honest both (new other) ((old other).mine ++ entries_by other events)
   -- transmissions are executed in the order of their arrival, and each effect is one of them
   pub turns : List RecordedTurn

@@ -9,7 +9,7 @@ ghost use Rattle.psu_bench.specs.Seconds.{left_of_second};
 use crate::reporter::Reporter;
 use crate::server::Server;
 use psu_bench::operations::{NextDeadline, Take};
-use psu_bench::{Caller, Gate, Others, Reopenings, ReportedCondition};
+use psu_bench::{Caller, Others, Reopenings, ReportedCondition, ServedDisk};
 use psu_disk::Disk;
 use psu_exec::{End, Finished, Job, NoJob};
 use std::alloc::Global;
@@ -57,20 +57,20 @@ impl Round {
 
 /// The flusher.
 #[derive(Drop)]
-pub struct Flusher<'a, D: Disk, G: Gate> {
+pub struct Flusher<'a, D: ServedDisk> {
     server: &'a Server,
-    caller: Caller<D, G>,
+    caller: Caller<D>,
     // The condition that the store has shown last; that it works where it has shown none.
     condition: ReportedCondition,
     // When a store that broke is opened again.
     reopenings: Reopenings,
 }
 
-impl<'a, D: Disk + Drop, G: Gate + Drop> Flusher<'a, D, G> {
+impl<'a, D: ServedDisk> Flusher<'a, D> {
     ghost use Rattle.psu_exec.specs.Jobs.{finished_of};
 
     /// Returns the flusher of a server that has just powered on.
-    pub fn new(server: &'a Server, caller: Caller<D, G>) -> Flusher<'a, D, G>
+    pub fn new(server: &'a Server, caller: Caller<D>) -> Flusher<'a, D>
         ensures { result.caller ≡ caller }
     {
         Flusher {

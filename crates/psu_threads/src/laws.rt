@@ -6,8 +6,7 @@ ghost use Rattle.psu_threads.specs.Called.{AreCalls};
 ghost use Rattle.psu_threads.specs.Recorded.{EachResponseIsOfTheHistory, OneResponseIsSent};
 
 use crate::SharedDevice;
-use psu_bench::Gate;
-use psu_disk::Disk;
+use psu_bench::ServedDisk;
 use psu_session::{Device, from_bytes_to_bytes, histories_are_exchanges};
 use std::rt::Clock;
 use std::snapshot::Snapshot;
@@ -16,11 +15,11 @@ use std::sync::Wait;
 /// The calls that lead from one state of the shared device to another, as the contracts of a session name them, are in
 /// the one legal history: under the number of the thread's seat it has exactly these calls of the session after those
 /// that the seat had made, in their order and with their replies.
-pub fn calls_are_in_the_history<'s, 'c, 'r, R: Wait + Clock, D: Disk + Drop, G: Gate + Drop>(
-    old: &Snapshot<SharedDevice<'s, 'c, 'r, R, D, G>>,
-    new: &SharedDevice<'s, 'c, 'r, R, D, G>,
+pub fn calls_are_in_the_history<'s, 'c, 'r, R: Wait + Clock, D: ServedDisk>(
+    old: &Snapshot<SharedDevice<'s, 'c, 'r, R, D>>,
+    new: &SharedDevice<'s, 'c, 'r, R, D>,
 )
-    ensures { (calls : List Call) → Runs ⟦<SharedDevice<'s, 'c, 'r, R, D, G> as Device>⟧.does old.now.value calls new.now
+    ensures { (calls : List Call) → Runs ⟦<SharedDevice<'s, 'c, 'r, R, D> as Device>⟧.does old.now.value calls new.now
         → AreCalls D.honest old.now.value.session old.now.value.caller.now.seat calls new.now.caller.now.seat }
 {
     let _ = old;
@@ -41,15 +40,8 @@ pub fn calls_are_in_the_history<'s, 'c, 'r, R: Wait + Clock, D: Disk + Drop, G: 
 ///
 /// Each seat has seen a history of its own, as far as the thread has called. Any two seats of a bench may be joined
 /// (`Bench::join`): they have then seen one legal history, which has the calls of both.
-pub fn each_response_is_of_the_history<
-    's,
-    'c,
-    'r,
-    R: Wait + Clock + 'r,
-    D: Disk + Drop + 'c,
-    G: Gate + Drop + 'c,
->()
-    ensures each { EachResponseIsOfTheHistory D.honest ⟦<SharedDevice<'s, 'c, 'r, R, D, G> as Device>⟧.does (λ x. x.session) (λ x. x.caller.now.seat) }
+pub fn each_response_is_of_the_history<'s, 'c, 'r, R: Wait + Clock + 'r, D: ServedDisk + 'c>()
+    ensures each { EachResponseIsOfTheHistory D.honest ⟦<SharedDevice<'s, 'c, 'r, R, D> as Device>⟧.does (λ x. x.session) (λ x. x.caller.now.seat) }
     ensures one { OneResponseIsSent }
 {
     histories_are_exchanges();

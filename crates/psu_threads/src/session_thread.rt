@@ -6,8 +6,7 @@ use crate::responding::{AsyncReader, Notifier};
 use crate::server::Server;
 use crate::serving::Serving;
 use crate::shared_device::{OfSession, SharedDevice};
-use psu_bench::{Caller, Gate};
-use psu_disk::Disk;
+use psu_bench::{Caller, ServedDisk};
 use psu_messages::READ_SIZE;
 use psu_session_io::{Asynchronous, Connection, Link, ServedSession, StepDevice, Synchronous, run};
 use std::alloc::Global;
@@ -124,11 +123,11 @@ impl<'s, 'v, D: StepDevice + OfSession + Drop> SessionThread<'s, 'v, D> {
 }
 
 /// Serves a session in this thread until the session is over. An error where memory for it is refused.
-pub fn serve_session<R: Wait + Clock, D: Disk + Drop, G: Gate + Drop>(
+pub fn serve_session<R: Wait + Clock, D: ServedDisk>(
     rt: &R,
     server: &Server,
     served: &ServedSession,
-    caller: &mut Caller<D, G>,
+    caller: &mut Caller<D>,
     role: Role,
 ) -> io::Result<()> {
     let device = SharedDevice::new(rt, server, served.number, caller);

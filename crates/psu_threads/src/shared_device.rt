@@ -4,9 +4,8 @@ ghost use Rattle.psu_threads.specs.Called.{IsCalled};
 
 use crate::reporter::Reporter;
 use crate::server::Server;
-use psu_bench::operations::{Clear, Deliver, Fetch, Inform, Query};
-use psu_bench::{Caller, Gate, Others, Visit};
-use psu_disk::Disk;
+use psu_bench::operations::{Clear, Fetch, Inform, MarkDelivered, Query};
+use psu_bench::{Caller, Caused, Others, ServedDisk, Visit};
 use psu_exec::{Freed, Grant, Info, Kind, LockRefusal, Outcome, Request, Session};
 use psu_session::Device;
 use psu_session_io::StepDevice;
@@ -17,22 +16,22 @@ use std::sync::Wait;
 /// The shared device as the device of a session, in a thread that executes it. Each call of the session is a call of
 /// the device under the seat of the thread's caller, and what it causes is reported to the other threads.
 #[derive(Drop)]
-pub struct SharedDevice<'s, 'c, 'r, R: Wait, D: Disk, G: Gate> {
+pub struct SharedDevice<'s, 'c, 'r, R: Wait, D: ServedDisk> {
     pub rt: &'r R,
     pub server: &'s Server,
     pub session: Session,
-    pub caller: &'c mut Caller<D, G>,
+    pub caller: &'c mut Caller<D>,
     visit: Visit<'s>,
 }
 
-impl<'s, 'c, 'r, R: Wait, D: Disk, G: Gate> SharedDevice<'s, 'c, 'r, R, D, G> {
+impl<'s, 'c, 'r, R: Wait, D: ServedDisk> SharedDevice<'s, 'c, 'r, R, D> {
     /// Returns the device of a session for a thread of it.
     pub fn new(
         rt: &'r R,
         server: &'s Server,
         session: Session,
-        caller: &'c mut Caller<D, G>,
-    ) -> SharedDevice<'s, 'c, 'r, R, D, G>
+        caller: &'c mut Caller<D>,
+    ) -> SharedDevice<'s, 'c, 'r, R, D>
         ensures session { result.session ≡ session }
         ensures caller { result.caller ≡ caller.entry }
     {
@@ -56,10 +55,18 @@ impl<'s, 'c, 'r, R: Wait, D: Disk, G: Gate> SharedDevice<'s, 'c, 'r, R, D, G> {
             server: self.server,
         }
     }
+
+    // Reports to the other threads what a call may have caused.
+    fn report(&mut self, caused: Option<Caused>)
+        ensures { self.new ≡ self.old }
+    {
+        if let Some(caused) = caused {
+            caused.report(&mut self.others());
+        }
+    }
 }
 
-impl<'s, 'c, 'r, R: Wait + Clock, D: Disk + Drop, G: Gate + Drop> Device
-    for SharedDevice<'s, 'c, 'r, R, D, G> {
+impl<'s, 'c, 'r, R: Wait + Clock, D: ServedDisk> Device for SharedDevice<'s, 'c, 'r, R, D> {
     ghost does = { λ x call y. (y.caller.ghost_name ≡ x.caller.ghost_name) × (y.session ≡ x.session)
         × IsCalled D.honest x.session x.caller.now.seat call y.caller.now.seat };
 
@@ -67,26 +74,26 @@ impl<'s, 'c, 'r, R: Wait + Clock, D: Disk + Drop, G: Gate + Drop> Device
         let (outcome, caused) = self
             .caller
             .execute(self.rt, &mut self.visit, self.session, request);
-        if let Some(caused) = caused {
-            caused.report(&mut self.others());
-        }
+        self.report(caused);
         outcome
     }
 
     fn settle(&mut self) -> Outcome<Global> {
         let (outcome, caused) = self.caller.settle(self.rt, &mut self.visit, self.session);
-        caused.report(&mut self.others());
+        self.report(caused);
         outcome
     }
 
-    fn sent(&mut self) {
-        let caused = self.caller.sent(self.rt, &mut self.visit, self.session);
+    fn mark_sent(&mut self) {
+        let caused = self
+            .caller
+            .mark_sent(self.rt, &mut self.visit, self.session);
         caused.report(&mut self.others());
     }
 
-    fn deliver(&mut self) {
+    fn mark_delivered(&mut self) {
         self.caller
-            .call(self.rt, &mut self.visit, Deliver(self.session));
+            .call(self.rt, &mut self.visit, MarkDelivered(self.session));
     }
 
     fn query(&mut self) -> u8 {
@@ -143,12 +150,11 @@ pub trait OfSession {
     ghost session: { Self → ℕ };
 }
 
-impl<'s, 'c, 'r, R: Wait, D: Disk, G: Gate> OfSession for SharedDevice<'s, 'c, 'r, R, D, G> {
+impl<'s, 'c, 'r, R: Wait, D: ServedDisk> OfSession for SharedDevice<'s, 'c, 'r, R, D> {
     ghost session = { λ d. d.session };
 }
 
-impl<'s, 'c, 'r, R: Wait + Clock, D: Disk + Drop, G: Gate + Drop> StepDevice
-    for SharedDevice<'s, 'c, 'r, R, D, G> {
+impl<'s, 'c, 'r, R: Wait + Clock, D: ServedDisk> StepDevice for SharedDevice<'s, 'c, 'r, R, D> {
     fn end_step(&mut self) {
         self.visit.leave();
     }

@@ -1,6 +1,6 @@
 //! Locks between sessions.
-ghost use Rattle.std.specs.Prelude.{◌≡◌, IfSome, true};
-ghost use Rattle.psu_exec.specs.Device.{is_denied, is_open};
+ghost use Rattle.std.specs.Prelude.{◌≡◌, IfSome};
+ghost use Rattle.psu_exec.specs.Device.{is_denied};
 ghost use Rattle.psu_exec.specs.Calls.{Allows};
 ghost use Rattle.psu_exec.specs.Calls.Entry.{Locked, Released, Ticked, Informed, Due};
 ghost use Rattle.psu_locks.specs.Table.{FailsFirst, IsSettled};
@@ -16,7 +16,7 @@ impl<A: Allocator + Copy> Device<A> {
         !self.locks.may_command(session)
     }
 
-    /// Requests a lock for an open session.
+    /// Requests a lock for a session. The request fails if the session isn't open.
     pub(crate) fn lock(
         &mut self,
         session: Session,
@@ -24,17 +24,21 @@ impl<A: Allocator + Copy> Device<A> {
         now: u64,
         timeout: u32,
     ) -> Result<Grant, LockRefusal>
-        requires { is_open self.old session ≡ true }
         ensures { Allows self.old (Locked session kind now timeout result) self.new }
     {
+        if !self.is_open(session) {
+            return Ok(Grant::Failed);
+        }
         self.locks.request(session, kind, now, timeout)
     }
 
-    /// Releases a lock of an open session.
+    /// Releases a lock of a session. One that isn't open holds none.
     pub(crate) fn release(&mut self, session: Session) -> Result<(Freed, Sessions), LockRefusal>
-        requires { is_open self.old session ≡ true }
         ensures { Allows self.old (Released session result) self.new }
     {
+        if !self.is_open(session) {
+            return Err(LockRefusal::NotHeld);
+        }
         self.locks.release(session)
     }
 
@@ -46,7 +50,7 @@ impl<A: Allocator + Copy> Device<A> {
     }
 
     /// Returns whether the exclusive lock is held, and how many sessions hold a lock.
-    pub(crate) fn info(&self) -> Info
+    pub(crate) fn inform(&self) -> Info
         ensures { Allows self.now (Informed result) self.now }
     {
         self.locks.info()

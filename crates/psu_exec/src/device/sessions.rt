@@ -1,7 +1,7 @@
 //! Sessions and their service states.
-ghost use Rattle.std.specs.Prelude.{◌≡◌, true, Some, None, IfOk, OnErr};
-ghost use Rattle.psu_exec.specs.Device.{is_open, service_state_of};
-ghost use Rattle.psu_exec.specs.Calls.{Allows, has_work, unparked, with_answer, with_service_state, with_session};
+ghost use Rattle.std.specs.Prelude.{◌≡◌, Some, None, IfOk, OnErr};
+ghost use Rattle.psu_exec.specs.Device.{service_state_of};
+ghost use Rattle.psu_exec.specs.Calls.{Allows, TakesNotifications, has_work, unparked, with_answer, with_service_state, with_session};
 ghost use Rattle.psu_exec.specs.Calls.Entry.{Opened, Closed, Cleared, Sent, Delivered, Queried, Fetched, Notified};
 ghost use Rattle.psu_exec.specs.ServiceStates.{rqs_updated, opened_service_state, with_available};
 ghost use Rattle.psu_status.specs.Status.{enabled};
@@ -27,23 +27,26 @@ impl<A: Allocator + Copy> Device<A> {
         }
     }
 
-    /// Closes an open session: drops its wait, its service state, its locks and its lock request. Returns the
+    /// Closes a session, if it is open: drops its wait, its service state, its locks and its lock request. Returns the
     /// sessions whose lock requests were then granted, in order of arrival.
     pub(crate) fn close_session(&mut self, session: Session) -> Sessions
-        requires { is_open self.old session ≡ true }
         ensures { Allows self.old (Closed session result) self.new }
     {
+        if !self.is_open(session) {
+            return Sessions::new();
+        }
         let granted = self.locks.drop_session(session);
         self.set_session(session, false, initial_service_state());
         granted
     }
 
-    /// Drops the wait of an open session.
+    /// Drops the wait of a session, if it is open.
     pub(crate) fn clear(&mut self, session: Session)
-        requires { is_open self.old session ≡ true }
         ensures { Allows self.old (Cleared session) self.new }
     {
-        self.unpark(session);
+        if self.is_open(session) {
+            self.unpark(session);
+        }
     }
 
     // The service state of a session that opens.
@@ -69,20 +72,27 @@ impl<A: Allocator + Copy> Device<A> {
         self.waits[session.place()] = None;
     }
 
-    /// Records that a response was sent to an open session.
-    pub(crate) fn sent(&mut self, session: Session)
-        requires { is_open self.old session ≡ true }
-        ensures { Allows self.old (Sent session) self.new }
+    /// Records that a response was sent to a session, if it is open, and takes the notifications after that.
+    pub(crate) fn mark_sent(&mut self, session: Session) -> Notifications
+        ensures { Allows self.old (Sent session result.requesting result.has_work) self.new }
     {
+        if !self.is_open(session) {
+            return Notifications {
+                requesting: Sessions::new(),
+                has_work: false,
+            };
+        }
         self.set_available(session, true);
+        self.notifications()
     }
 
-    /// Records that what was sent to an open session is delivered.
-    pub(crate) fn delivered(&mut self, session: Session)
-        requires { is_open self.old session ≡ true }
+    /// Records that what was sent to a session is delivered, if it is open.
+    pub(crate) fn mark_delivered(&mut self, session: Session)
         ensures { Allows self.old (Delivered session) self.new }
     {
-        self.set_available(session, false);
+        if self.is_open(session) {
+            self.set_available(session, false);
+        }
     }
 
     // Sets whether a response was sent to a session that it has not read (MAV), and updates its RQS.
@@ -123,11 +133,13 @@ impl<A: Allocator + Copy> Device<A> {
         self.service_states[session.place()] = service_state;
     }
 
-    /// Returns the status byte of an open session with its RQS in bit 6, which is then cleared.
-    pub(crate) fn status(&mut self, session: Session) -> u8
-        requires { is_open self.old session ≡ true }
+    /// Returns the status byte of a session with its RQS in bit 6, which is then cleared; 0 if the session isn't open.
+    pub(crate) fn query(&mut self, session: Session) -> u8
         ensures { Allows self.old (Queried session result) self.new }
     {
+        if !self.is_open(session) {
+            return 0;
+        }
         let service_state = self.service_state(session);
         let byte = self
             .instrument
@@ -142,12 +154,14 @@ impl<A: Allocator + Copy> Device<A> {
         byte
     }
 
-    /// Fetches the service request of an open session that is not fetched, if there is one: the status byte with bit
-    /// 6 set.
-    pub(crate) fn requests(&mut self, session: Session) -> Option<u8>
-        requires { is_open self.old session ≡ true }
+    /// Fetches the service request of a session that is not fetched, if there is one: the status byte with bit 6 set.
+    /// None if the session isn't open.
+    pub(crate) fn fetch(&mut self, session: Session) -> Option<u8>
         ensures { Allows self.old (Fetched session result) self.new }
     {
+        if !self.is_open(session) {
+            return None;
+        }
         let service_state = self.service_state(session);
         let byte = if service_state.unfetched {
             Some(self.instrument.polled(service_state.available, true))
@@ -168,6 +182,13 @@ impl<A: Allocator + Copy> Device<A> {
     /// job.
     pub(crate) fn take_notifications(&mut self) -> Notifications
         ensures { Allows self.old (Notified result.requesting result.has_work) self.new }
+    {
+        self.notifications()
+    }
+
+    // Takes the notifications.
+    fn notifications(&mut self) -> Notifications
+        ensures { TakesNotifications self.old result.requesting result.has_work self.new }
     {
         let requesting = unreported(&self.open_now, &self.service_states);
         report_all(&mut self.service_states);

@@ -8,7 +8,7 @@ use Rattle.psu_run.proofs.acting.wait_end.Goals as goal
 
 pub returns-then-not-is_final-clause-device_stops : goal.returns-then-not-is_final-clause-device_stops
 returns-then-not-is_final-clause-device_stops g c =
-    let step = settled_one c.flush.new.exec.device c.settle-outcome.new.self.device (outcome_of c.settle-outcome.result) c.args.session c.requires.first c.settle-outcome.ensures.step in
+    let step = settled_one c.flush.new.exec.device c.settle-outcome.new.self.device (outcome_of c.settle-outcome.result) c.args.session c.requires.first (c.flush.ensures.open ∙ c.requires.open) c.settle-outcome.ensures.step in
     halts_here c.args.exec.now c.settle-outcome.new.self [] [] Device
     (flush_settles c.args.exec.now c.flush.new.exec c.settle-outcome.new.self (outcome_of c.settle-outcome.result) c.in_ok-flush.ensures.flushes step c.settle-outcome.ensures.idle_store)
     (λ h. waiting_halted c.args.exec.now c.flush.new.exec c.settle-outcome.new.self (outcome_of c.settle-outcome.result) step c.settle-outcome.ensures.idle_store
@@ -16,10 +16,10 @@ returns-then-not-is_final-clause-device_stops g c =
 
 pub returns-clause-ends : goal.returns-clause-ends
 returns-clause-ends g c =
-    let step = settled_one c.flush.new.exec.device c.settle-outcome.new.self.device (outcome_of c.settle-outcome.result) c.args.session c.requires.first c.settle-outcome.ensures.step in
+    let step = settled_one c.flush.new.exec.device c.settle-outcome.new.self.device (outcome_of c.settle-outcome.result) c.args.session c.requires.first (c.flush.ensures.open ∙ c.requires.open) c.settle-outcome.ensures.step in
     wait_ends c.args.exec.now c.flush.new.exec c.settle-outcome.new.self (outcome_of c.settle-outcome.result) c.in_ok-flush.ensures.flushes step c.settle-outcome.ensures.idle_store
 
 pub returns-clause-free : goal.returns-clause-free
 returns-clause-free g c =
-    let step = settled_one c.flush.new.exec.device c.settle-outcome.new.self.device (outcome_of c.settle-outcome.result) c.args.session c.requires.first c.settle-outcome.ensures.step in
+    let step = settled_one c.flush.new.exec.device c.settle-outcome.new.self.device (outcome_of c.settle-outcome.result) c.args.session c.requires.first (c.flush.ensures.open ∙ c.requires.open) c.settle-outcome.ensures.step in
     settle_free c.flush.new.exec.device c.settle-outcome.new.self.device (outcome_of c.settle-outcome.result) step (sym c.is_final.ensures ∙ c.if-not-is_final.false)

@@ -1,6 +1,8 @@
 use Rattle.std.proofs.Common.{◌≡◌, arith, refl, sym, ap, ◌∙◌, inl, inr, subst, ⊎_elim, []}
 use Rattle.psu_exec.specs.Device.{State, is_open}
+use Rattle.psu_exec.specs.Calls.{Job}
 use Rattle.psu_exec.specs.Jobs.{job_data}
+use Rattle.psu_exec.proofs.Ignored.{serves_took}
 use Rattle.psu_run.specs.Lives.{world_of}
 use Rattle.psu_run.specs.Runs.{Jobs}
 use Rattle.psu_run.proofs.Calls.{Executes, executes_join}
@@ -35,6 +37,11 @@ returns-then-run_job-clause-device_stops g c =
     ))
     (lasts_then c.args.exec.now c.loop.exec c.run_job.new.exec c.loop.invariant.lasts (run_lasts c.loop.exec c.take.new.self c.run_job.new.exec c.in-Ok.job c.run_job.result c.in-Ok.ensures.job c.run_job.ensures.run))
 
+pub returns-then-run_job-clause-free : goal.returns-then-run_job-clause-free
+returns-then-run_job-clause-free g c = λ e.
+    let run = c.run_job.ensures.run in
+    gave_free run.finished _ _ run.over run.give (out_free c.loop.exec.device c.take.new.self.device (job_data c.in-Ok.job) c.in-Ok.ensures.step (c.loop.invariant.free e))
+
 pub returns-in-Err-Nothing-clause-flushes : goal.returns-in-Err-Nothing-clause-flushes
 returns-in-Err-Nothing-clause-flushes g c = record {
   runs = λ h life. (
@@ -64,8 +71,8 @@ loop-preserved g c =
     let long = c.if-run_job.false in
     let idle = gave_back_idle run.finished _ _ run.over run.give in record {
       idle = idle;
-      same_open = gave_open run.finished _ _ run.over run.give ∙ ap (λ (s : State). is_open s 1) c.in-Ok.ensures.step.1 ∙ c.loop.invariant.same_open;
-      same_locks = gave_locks run.finished _ _ run.over run.give ∙ ap (λ (s : State). s.volatile.locks) c.in-Ok.ensures.step.1 ∙ c.loop.invariant.same_locks;
+      same_open = gave_open run.finished _ _ run.over run.give ∙ ap (λ (s : State). is_open s 1) (serves_took c.loop.exec.device c.take.new.self.device (Job (job_data c.in-Ok.job)) c.in-Ok.ensures.step).1 ∙ c.loop.invariant.same_open;
+      same_locks = gave_locks run.finished _ _ run.over run.give ∙ ap (λ (s : State). s.volatile.locks) (serves_took c.loop.exec.device c.take.new.self.device (Job (job_data c.in-Ok.job)) c.in-Ok.ensures.step).1 ∙ c.loop.invariant.same_locks;
       free = λ e. gave_free run.finished _ _ run.over run.give (out_free c.loop.exec.device c.take.new.self.device (job_data c.in-Ok.job) c.in-Ok.ensures.step (c.loop.invariant.free e));
       count = omega (arith, c.loop-test.true);
       jobs = λ h life. jobs_more c.args.exec.now c.loop.exec c.run_job.new.exec life c.loop.counter (c.loop.invariant.jobs h life)

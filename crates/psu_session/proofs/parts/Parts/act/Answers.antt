@@ -16,7 +16,7 @@ pub returns-in-Delivered-clause-done : goal.returns-in-Delivered-clause-done
 returns-in-Delivered-clause-done g c = record {
   done = DeviceCalled Delivered ∷ [];
   are = rw c.in-Delivered.is refl;
-  runs = (c.deliver.new.self, c.deliver.ensures, refl);
+  runs = (c.mark_delivered.new.self, c.mark_delivered.ensures, refl);
   then = rw c.in-Delivered.is (sym (none_added (state_of c.args.self.now)));
 }
 
