@@ -23,7 +23,7 @@ const UNTRUE: &str = "1: *PSC? -> 1
 1 sends
 1 settles 1
 2 settles done
-2 sent
+2 sent 2
 1 srq 68
 1 polls 4
 work 1
