@@ -8,8 +8,9 @@ ghost use Rattle.psu_instrument.specs.Meaning.{ActsAs, situation};
 use crate::Act;
 use crate::macros::text_of;
 use psu_lex::{Bytes, ScpiError, definite, is_name};
-use psu_map::{PAGE_SIZE, Pair};
+use psu_map::Pair;
 use psu_nv::{Contents, FileBytes, FileKind, NvCommand, Register};
+use psu_pages::PAGE_SIZE;
 use psu_tree::{OnFile, OnNames, Text, Transfer};
 use std::alloc::{AllocError, Allocator};
 
@@ -151,9 +152,9 @@ pub(crate) fn catalog_text<A: Allocator + Copy>(
     let cost = contents.cost();
     let left = (limit as u128).saturating_sub(cost);
     let mut text = Bytes::new(alloc);
-    text.put_number(PAGE_SIZE * cost)?;
+    text.put_number(PAGE_SIZE as u128 * cost)?;
     text.put(b",")?;
-    text.put_number(PAGE_SIZE * left)?;
+    text.put_number(PAGE_SIZE as u128 * left)?;
     put_entries(&mut text, contents.names())?;
     Ok(text)
 }

@@ -8,11 +8,9 @@ ghost use Rattle.psu_map.specs.Place.{IsAt, IsGap};
 use crate::same::same;
 use crate::search::{search, value_near, value_of};
 use crate::{Batch, Edit, Pair, Value};
+use psu_pages::PAGE_SIZE;
 use std::alloc::{AllocError, Allocator};
 use std::marker::Model;
-
-/// The size of a page, in bytes. Contracts state it as a number.
-pub const PAGE_SIZE: u128 = 512;
 
 /// An ordered map from the bytes of a key to the bytes of a value. Contracts see the list of its
 /// items, in the byte order of their keys.
@@ -118,9 +116,10 @@ impl<A: Allocator + Copy> Items<A> {
         ensures value { result ≡ cost self.now }
         ensures most { result < 2 ^ 124 }
     {
+        let page = PAGE_SIZE as u128;
         let mut pages = 0;
         for pair in &self.pairs {
-            pages += 1 + (pair.value().len() as u128 + (PAGE_SIZE - 1)) / PAGE_SIZE;
+            pages += 1 + (pair.value().len() as u128 + (page - 1)) / page;
         }
         pages
     }

@@ -15,7 +15,7 @@ mod target;
 pub use batch::Batch;
 pub use edit::Edit;
 pub use entry::Entry;
-pub use items::{Items, PAGE_SIZE};
+pub use items::Items;
 pub use pair::{Pair, Value};
 pub use plan::Plan;
 pub use target::Target;

@@ -4,7 +4,7 @@ ghost use Rattle.psu_map.specs.Map.{cost};
 ghost use Rattle.psu_nv.specs.Contents.{enables_items, user_items};
 ghost use Rattle.psu_nv.specs.Costs.{page_count};
 
-use psu_map::PAGE_SIZE;
+use psu_pages::PAGE_SIZE;
 use psu_status::Enables;
 
 // The pages of each part.
@@ -36,7 +36,8 @@ pub(crate) fn page_count(size: u128) -> u128
     ensures value { result ≡ page_count size }
     ensures most { result < 2 ^ 121 }
 {
-    1 + (size + (PAGE_SIZE - 1)) / PAGE_SIZE
+    let page = PAGE_SIZE as u128;
+    1 + (size + (page - 1)) / page
 }
 
 pub(crate) fn enables_pages(enables: Option<Enables>) -> u8
