@@ -19,10 +19,6 @@ use Rattle.psu_exec.proofs.Changes.{sound_after}
 
 -- ---- steps
 
--- the state on the left of an equation
-abbrev pub seen : {s t : State} → s ≡ t → State
-seen {s} {t} e = s
-
 pub kept_sound : (f : Flush) → IsConsistent f → IsContents f.contents
 kept_sound f k = subst IsContents (sym k.made) (sound_after f.limit k.first k.rest k.sound).sound
 
@@ -88,9 +84,9 @@ completes A (Keeps other) i new c h = absurd h
 completes A (Completes other) i new c h = (cc, h.1)
 
 -- what is done for an equal meaning is done for the command
-pub then_done : (s after : State) (session : ℕ) (m n : Meaning) (new : Instrument) (reply : Reply) → m ≡ n → new ≡ s.volatile.instrument → MayMean s.flush n reply → after ≡ after_meant (with_instrument s new) session n reply
-    → MayMean s.flush m reply × (after ≡ after_meant s session m reply)
-then_done s after session m n new reply e same may is = rw e (may, is ∙ ap (λ (i : Instrument). after_meant (with_instrument s i) session n reply) same)
+pub then_done : (s : State) (session : ℕ) (m n : Meaning) (new : Instrument) (reply : Reply) → m ≡ n → new ≡ s.volatile.instrument → MayMean s.flush n reply
+    → MayMean s.flush m reply × (after_meant (with_instrument s new) session n reply ≡ after_meant s session m reply)
+then_done s session m n new reply e same may = rw e (may, ap (λ (i : Instrument). after_meant (with_instrument s i) session n reply) same)
 
 -- ---- changes of the nonvolatile contents
 

@@ -74,7 +74,7 @@ wait_told None text is = cc
 wait_told (Some CutOff) text is = cc
 wait_told (Some (Until c n)) text is = until_told (n == 0) c text is
 
-settle_told : (s : State) (session : ℕ) (reply : Reply) → reply ≡ settle_answer (wait_of s.flush session) → HasText reply
+pub settle_told : (s : State) (session : ℕ) (reply : Reply) → reply ≡ settle_answer (wait_of s.flush session) → HasText reply
 settle_told s session reply e text is = wait_told (wait_of s.flush session) text (sym e ∙ is)
 
 later_told : HasText Later
@@ -83,7 +83,3 @@ later_told text is = cc
 pub unit_has_text : (s new : State) (session : ℕ) (request : Request) (reply : Reply) → Allows s (Executed session request reply) new → HasText reply
 unit_has_text s new session request reply (inl a) = unit_told s session request reply a.1.may
 unit_has_text s new session request reply (inr none) = subst HasText (sym none.0.1) later_told
-
-pub settle_has_text : (s new : State) (session : ℕ) (reply : Reply) → Allows s (Settled session reply) new → HasText reply
-settle_has_text s new session reply (inl a) = settle_told s session reply a.1
-settle_has_text s new session reply (inr none) = subst HasText (sym none.0.1) later_told

@@ -76,10 +76,6 @@ none_is_free s new a other from to = at_place s.volatile.open_now other true fro
 pub opens_the_least : OpensTheLeast
 opens_the_least s new = (λ session a. opens_least s new session (serves_opened s new (Some session) a), λ a. none_is_free s new (serves_opened s new None a))
 
-pub then_open : {E : Type 0} (s new : State) (result : Result ℕ E) → IfOk result (λ (session : ℕ). Allows s (Opened (Some session)) new) → IfOk result (λ (session : ℕ). is_open new session ≡ true)
-then_open s new result a =
-    IfOk-weaker result (λ (session : ℕ). Allows s (Opened (Some session)) new) (λ (session : ℕ). is_open new session ≡ true) (λ session t. ((opens_the_least s new).0 session t).now_open) a
-
 -- no two open sessions share a place
 apart : (a b : ℕ) (x y : Bool) → not (a == 0) && x ≡ true → not (b == 0) && y ≡ true → place_of a ≡ place_of b → a ≡ b
 apart zero b x y h g e = cc

@@ -106,6 +106,14 @@ module _ (plan : Planned) (target gone come : List Item) (between : AreBetween p
 pub led : (plan : Planned) (target : List Item) → IsSorted plan.map → IsSorted target → plan.edits ≡ batch plan.map target → changed plan.map plan.edits ≡ target
 led plan target sp st b = ap (changed plan.map) b ∙ changed-batch plan.map target sp st
 
+-- the target and the batch of a device that has a target
+pub as_planned : (f : Flush) (held : Option ℕ) (plan : Planned) → HasEdits held plan → f.before ≡ plan.map → f.held ≡ held_of held (changed plan.map plan.edits) → is_some f.held ≡ true
+    → (target f ≡ changed plan.map plan.edits) × (batch f.before (target f) ≡ plan.edits)
+as_planned f None plan has before e some = absurd (let bad = sym some ∙ ap is_some e in cc)
+as_planned f (Some k) plan has before e some =
+    let goal : target f ≡ changed plan.map plan.edits = ap (map_held f.before) e in
+    (goal, ap (λ (b : List Item). batch b (target f)) before ∙ ap (batch plan.map) goal ∙ sym has)
+
 -- the target of a job that is out, compared by the planned edits
 pub aimed : (f : Flush) (held : Option ℕ) (plan : Planned) (map : List Item) → HasEdits held plan → f.held ≡ held_of held (changed plan.map plan.edits) → is_some f.held ≡ true
     → (plan.edits ≡ batch plan.map map → changed plan.map plan.edits ≡ map) → (plan.edits ≡ batch plan.map map → map ≡ target f) × (map ≡ target f → plan.edits ≡ batch plan.map map)

@@ -46,28 +46,6 @@ abbrev pub idle_disk : {D A : Type 0} {G : Ghosts D} → IdleStore D A G → D
 idle_disk (idle_store.Whole store) = store.disk
 idle_disk (idle_store.Failed broken) = broken.disk
 
-abbrev pub idle_map : {D A : Type 0} {G : Ghosts D} → IdleStore D A G → List Item
-idle_map (idle_store.Whole store) = store.items
-idle_map (idle_store.Failed broken) = broken.before
-
-abbrev pub idle_limit : {D A : Type 0} {G : Ghosts D} → IdleStore D A G → ℕ
-idle_limit (idle_store.Whole store) = store.limit
-idle_limit (idle_store.Failed broken) = broken.limit
-
-abbrev pub is_idle_whole : {D A : Type 0} {G : Ghosts D} → IdleStore D A G → Bool
-is_idle_whole (idle_store.Whole store) = true
-is_idle_whole (idle_store.Failed broken) = false
-
--- the batch that a broken store was to be changed by, and the map that this leads to; for a whole store, the given
--- one
-abbrev pub idle_edits : {D A : Type 0} {G : Ghosts D} → List Edit → IdleStore D A G → List Edit
-idle_edits edits (idle_store.Whole store) = edits
-idle_edits edits (idle_store.Failed broken) = broken.batch
-
-abbrev pub idle_goal : {D A : Type 0} {G : Ghosts D} → List Item → IdleStore D A G → List Item
-idle_goal goal (idle_store.Whole store) = goal
-idle_goal goal (idle_store.Failed broken) = changed broken.before broken.batch
-
 -- a job with its maps, as data
 abbrev pub job_data : {D A : Type 0} {G : Ghosts D} → Job D A G → JobData
 job_data (job.Commit planned) = record { kind = Commit; limit = planned.store.limit; before = planned.store.items; target = changed planned.store.items planned.batch; edits = planned.batch }

@@ -1,51 +1,87 @@
-//! The device's state together with its store, and every call on them.
-ghost use Rattle.std.specs.Prelude.{◌≡◌, ◌≢◌, [], ◌↔◌, ◌<◌, ◌≤◌, ◌==◌, IfOk, IfErr, IfSome, OnOk, OnErr, true, false, Some, None, is_none, not, List, ℕ};
-ghost use Rattle.std.specs.Option.{ForSome};
-ghost use Rattle.psu_map.specs.Batch.{changed};
-ghost use Rattle.psu_exec.specs.Batch.{batch};
+//! The device with its store, and every call on it.
+ghost use Rattle.std.specs.Prelude.{◌≡◌, ◌==◌, [], IfOk, IfErr, Some, true};
 ghost use Rattle.psu_nv.specs.Contents.{Contents as Kept, items_of, IsContents, fits};
-ghost use Rattle.psu_exec.specs.Device.{power_on, is_denied, is_open, is_broken, target, wait_of, followed, State, Answer, Error, Held, Later, refused};
-ghost use Rattle.psu_status.specs.Status.{first_request, prescribed};
-ghost use Rattle.psu_exec.specs.Calls.{Allows};
-ghost use Rattle.psu_exec.specs.Calls.Entry.{Executed, Settled, Took, GaveBack, Opened, Closed, Cleared, Sent, Delivered, Queried, Fetched, Notified, Locked, Released, Ticked, Informed, Due};
-ghost use Rattle.psu_locks.specs.Table.{FailsFirst, IsSettled};
 ghost use Rattle.psu_exec.specs.Consistent.{IsConsistent};
+ghost use Rattle.psu_exec.specs.Device.{State, followed, is_open, power_on};
+ghost use Rattle.psu_exec.specs.Exec.{with_device};
 ghost use Rattle.psu_exec.specs.Headline.{AreBad};
-ghost use Rattle.psu_exec.specs.Shown.{cause_of, outcome_of, over_of};
-ghost use Rattle.psu_exec.specs.Jobs.{idle_edits, idle_goal, idle_map, idle_limit, idle_store_of, is_idle_whole};
-ghost use Rattle.psu_lex.specs.declared.scpi_error.ScpiError.{ScpiError as AnyError};
-ghost use Rattle.psu_exec.specs.World.{asks_opc};
-ghost use Rattle.psu_instrument.specs.declared.act.Completion.{Completion};
-ghost use Rattle.psu_exec.specs.declared.wait.Wait.TheVariants.{Until};
+ghost use Rattle.psu_exec.specs.ServiceStates.{enabled_of};
+ghost use Rattle.psu_exec.specs.Shown.{cause_of};
+ghost use Rattle.psu_locks.specs.Locks.{no_locks};
+ghost use Rattle.psu_status.specs.Status.{first_request, prescribed};
 
-use crate::idle_store::{idle_store_after, put_store_back};
+mod flushing;
+mod locks;
+mod sessions;
+mod units;
+
+use crate::service_states::{follow, initial_service_state};
 use crate::{
-    CannotDrop, Condition, Contents, Crowded, Device, Ended, Finished, Freed, Grant, IdleStore,
-    Info, Job, Kind, LockRefusal, NoJob, Notifications, Outcome, Planned, PowerCause, PowerFault,
-    Reopening, Request, Session, Sessions, Stranger,
+    ChangedParts, Condition, Contents, Enabled, Ended, Idle, IdleStore, LockTable, PowerCause,
+    PowerFault, SESSIONS, ServiceState, Session, Wait,
 };
 use psu_disk::Disk;
-use psu_items::{Batch, Store};
+use psu_instrument::Instrument;
+use psu_items::{Items, Plan, Store};
 use psu_nv::DecodeFault;
 use std::alloc::{AllocError, Allocator};
+use std::marker::Model;
 
-/// The device's state with its store. While a job is out, the job has the store.
+/// The device with its store: the nonvolatile contents, the instrument, the sessions, the accepted changes that are not
+/// yet flushed, and the store. While a job is out, the job has the store. Its store is an `IdleStore`, as `Exec` says:
+/// what contracts see of it names the type of the store, and no disk.
 #[derive(Drop)]
-pub struct Exec<D: Disk, A: Allocator + Copy> {
+pub struct ExecOf<S: Idle, A: Allocator + Copy> {
     alloc: A,
-    device: Device<A>,
-    idle_store: Option<IdleStore<D, A>>,
-    ghost away: { device.flush.out ≡ is_none idle_store },
-    pub ghost holds: { ForSome idle_store (λ h. idle_map h ≡ device.flush.before) },
-    pub ghost sized: { ForSome idle_store (λ h. idle_limit h ≡ device.flush.limit) },
-    ghost kind: { ForSome idle_store (λ h. is_idle_whole h ≡ not (is_broken device.flush.store)) },
-    ghost edits: { ForSome idle_store (λ h. idle_edits (batch device.flush.before (target device.flush)) h ≡ batch device.flush.before (target device.flush)) },
-    ghost goal: { ForSome idle_store (λ h. idle_goal (target device.flush) h ≡ target device.flush) },
+    limit: u16,
+    contents: Contents<A>,
+    // The map that the store holds, or held before its job, with the batch of the job that is out or of the store
+    // that broke.
+    map: Plan<A>,
+    // How many changes are in that batch.
+    held: Option<usize>,
+    // The parts that may differ from the map that the batch produces, or from the store's map if there is no batch.
+    touched: ChangedParts,
+    unflushed: usize,
+    store: Condition,
+    idle_store: Option<S>,
+    waits: [Option<Wait>; SESSIONS],
+    open_now: [bool; SESSIONS],
+    service_states: [ServiceState; SESSIONS],
+    // In a box with its strings of locks, which are not to be moved with the device.
+    locks: Box<LockTable, A>,
+    instrument: Instrument,
+}
+
+/// The device with its store on a disk.
+pub type Exec<D, A> = ExecOf<IdleStore<D, A>, A>;
+
+impl<S: Idle, A: Allocator + Copy> Model for ExecOf<S, A> {
+    ghost use Rattle.std.specs.Prelude.{is_none};
+    ghost use Rattle.std.specs.Option.{ForSome};
+    ghost use Rattle.psu_nv.specs.Contents.{items_of};
+    ghost use Rattle.psu_exec.specs.Changed.{KeepsOthers};
+    ghost use Rattle.psu_exec.specs.Consistent.{IsConsistent, HasEdits, flush_of};
+    ghost use Rattle.psu_exec.specs.Device.{target};
+    ghost use Rattle.psu_exec.specs.ExecOf.{ExecOf};
+
+    ghost Value = { ExecOf S };
+
+    ghost view = { λ e. record {
+      device = record {
+        volatile = record { instrument = e.instrument; open_now = e.open_now; service_states = e.service_states; locks = e.locks.value };
+        flush = flush_of e.limit e.contents e.map e.unflushed e.held e.store (is_none e.idle_store) e.waits;
+      };
+      idle_store = e.idle_store;
+    } };
+
+    ghost invariant = { λ e. HasEdits e.held e.map
+        × IsConsistent (flush_of e.limit e.contents e.map e.unflushed e.held e.store (is_none e.idle_store) e.waits)
+        × KeepsOthers e.touched (target (flush_of e.limit e.contents e.map e.unflushed e.held e.store (is_none e.idle_store) e.waits)) (items_of e.contents)
+        × ForSome e.idle_store (λ s. S.belongs s e.store e.limit e.map) };
 }
 
 impl<D: Disk, A: Allocator + Copy> Exec<D, A> {
-    ghost use Rattle.psu_exec.specs.Jobs.{finished_disk, finished_of, idle_store_of, job_store, taken_of};
-    ghost use Rattle.psu_exec.specs.World.{IsTrueOf};
     ghost use Rattle.psu_exec.specs.declared.idle_store.IdleStore.TheVariants as when_idle;
     ghost use Rattle.psu_exec.specs.Ends.{IsEnd};
 
@@ -73,19 +109,14 @@ impl<D: Disk, A: Allocator + Copy> Exec<D, A> {
                 store,
             }),
         };
-        let limit = store.limit();
-        if !contents.fits(limit) {
+        if !contents.fits(store.limit()) {
             return Err(PowerFault {
                 cause: PowerCause::BadItems,
                 store,
             });
         }
-        match Device::power_on(alloc, limit, contents, store.items()) {
-            Ok(device) => Ok(Exec {
-                alloc,
-                device,
-                idle_store: Some(IdleStore::Whole(store)),
-            }),
+        match parts_at_rest(alloc, store.items()) {
+            Ok((map, locks)) => Ok(Exec::at_power_on(alloc, contents, map, locks, store)),
             Err(AllocError) => Err(PowerFault {
                 cause: PowerCause::Memory,
                 store,
@@ -93,180 +124,62 @@ impl<D: Disk, A: Allocator + Copy> Exec<D, A> {
         }
     }
 
-    /// Executes one program message unit of a session; Later if the session isn't open.
-    pub fn execute(&mut self, session: Session, request: &Request<'_>) -> Outcome<A>
-        ensures step { Allows self.old.device (Executed session request.now (outcome_of result)) self.new.device }
-        ensures idle_store { self.new.idle_store ≡ self.old.idle_store }
-
-        // Consequences of the step: `*OPC?` is answered only if no change is unflushed; no response is empty; an
-        // error is reported and changes nothing else but the RQS bits that follow from it; a unit with the outcome
-        // Later changes nothing; the outcome for an open session is Held exactly if another session's lock denies it,
-        // and then nothing changes.
-        ensures complete { asks_opc request.now.reading ≡ true → (text : List ℕ) → outcome_of result ≡ Answer text → self.old.device.flush.unflushed ≡ 0 }
-        ensures text { (text : List ℕ) → outcome_of result ≡ Answer text → text ≢ [] }
-        ensures refused { (e : AnyError) → outcome_of result ≡ Error e → self.new.device ≡ followed self.old.device (refused self.old.device e) }
-        ensures later { outcome_of result ≡ Later → self.new.device ≡ self.old.device }
-        ensures held { is_open self.old.device session ≡ true → (outcome_of result ≡ Held) ↔ (is_denied self.old.device session ≡ true) }
-        ensures same { outcome_of result ≡ Held → self.new.device ≡ self.old.device }
-
-        // Consequences of the step: no session opens or closes, and no lock changes.
-        ensures still_open { self.new.device.volatile.open_now ≡ self.old.device.volatile.open_now }
-        ensures still_locked { self.new.device.volatile.locks ≡ self.old.device.volatile.locks }
+    // The state at power-on, with the contents that the store holds.
+    fn at_power_on(
+        alloc: A,
+        contents: Contents<A>,
+        map: Plan<A>,
+        locks: Box<LockTable, A>,
+        store: Store<D, A>,
+    ) -> Exec<D, A>
+        requires sound { IsContents contents }
+        requires fitting { fits store.limit contents ≡ true }
+        requires stored { store.items ≡ items_of contents }
+        requires map { map.map ≡ store.items }
+        requires locks { locks.value ≡ no_locks [] }
+        ensures { result ≡ record { device = power_on store.limit contents; idle_store = Some (when_idle.Whole store) } }
     {
-        self.device.execute(session, request)
+        let instrument = Instrument::power_on(&contents);
+        Exec {
+            alloc,
+            limit: store.limit(),
+            contents,
+            map,
+            unflushed: 0,
+            held: None,
+            touched: ChangedParts::none(),
+            store: Condition::Whole,
+            idle_store: Some(IdleStore::Whole(store)),
+            waits: [None; SESSIONS],
+            open_now: [false; SESSIONS],
+            service_states: [initial_service_state(); SESSIONS],
+            locks,
+            instrument,
+        }
     }
 
-    /// Returns the result of a session's wait: Done if it isn't parked, Parked only while a change is unflushed; Later
-    /// if the session isn't open.
-    pub fn settle(&mut self, session: Session) -> Outcome<A>
-        ensures step { Allows self.old.device (Settled session (outcome_of result)) self.new.device }
-        ensures idle_store { self.new.idle_store ≡ self.old.idle_store }
-
-        // Consequences of the step: the session keeps waiting only while a change is unflushed; its wait ends with 1
-        // only if no change before it is unflushed; no response is empty; and an error is reported.
-        ensures parked { result ≡ Outcome.Parked → 0 < self.old.device.flush.unflushed }
-        ensures complete { (text : List ℕ) → outcome_of result ≡ Answer text → (c : Completion) × (wait_of self.old.device.flush session ≡ Some (Until c 0)) }
-        ensures text { (text : List ℕ) → outcome_of result ≡ Answer text → text ≢ [] }
-        ensures refused { (e : AnyError) → outcome_of result ≡ Error e
-            → self.new.device.volatile ≡ (followed self.old.device (refused self.old.device e)).volatile }
-        ensures kept { self.new.device.flush.contents ≡ self.old.device.flush.contents }
-
-        // Consequences of the step: no session opens or closes, and no lock changes.
-        ensures still_open { self.new.device.volatile.open_now ≡ self.old.device.volatile.open_now }
-        ensures still_locked { self.new.device.volatile.locks ≡ self.old.device.volatile.locks }
+    /// Ends the `Exec`: returns its store, or the whole `Exec` if a job is out.
+    pub fn end(self) -> Ended<D, A>
+        ensures { IsEnd self result }
     {
-        self.device.settle(session)
+        if self.idle_store.is_none() {
+            return Ended::Out(self);
+        }
+        let Exec { idle_store, .. } = self;
+        match idle_store {
+            Some(IdleStore::Whole(store)) => Ended::Whole(store),
+            Some(IdleStore::Failed(broken)) => Ended::Failed(broken),
+            None => unreachable!(),
+        }
     }
+}
 
-    /// Opens a session under the least free number; `Crowded` if sixteen sessions are open.
-    pub fn open_session(&mut self) -> Result<Session, Crowded>
-        ensures opened { IfOk result (λ session. Allows self.old.device (Opened (Some session)) self.new.device) }
-        ensures open { IfOk result (λ session. is_open self.new.device session ≡ true) }
-        ensures crowded { OnErr result (Allows self.old.device (Opened None) self.new.device) }
-        ensures idle_store { self.new.idle_store ≡ self.old.idle_store }
-    {
-        self.device.open_session()
-    }
-
-    /// Closes a session, if it is open: drops its wait, its service state, its locks and its lock request. Returns the
-    /// sessions whose lock requests were then granted, in order of arrival.
-    pub fn close_session(&mut self, session: Session) -> Sessions
-        ensures step { Allows self.old.device (Closed session result) self.new.device }
-        ensures idle_store { self.new.idle_store ≡ self.old.idle_store }
-    {
-        self.device.close_session(session)
-    }
-
-    /// Records that a response was sent to a session, if it is open: a message is available to it (MAV) until it is
-    /// delivered. Returns the notifications after that.
-    pub fn mark_sent(&mut self, session: Session) -> Notifications
-        ensures step { Allows self.old.device (Sent session result.requesting result.has_work) self.new.device }
-        ensures idle_store { self.new.idle_store ≡ self.old.idle_store }
-    {
-        self.device.mark_sent(session)
-    }
-
-    /// Records that what was sent to a session is delivered, if it is open.
-    pub fn mark_delivered(&mut self, session: Session)
-        ensures step { Allows self.old.device (Delivered session) self.new.device }
-        ensures idle_store { self.new.idle_store ≡ self.old.idle_store }
-    {
-        self.device.mark_delivered(session);
-    }
-
-    /// Answers a status query of a session, by the status byte with its RQS in bit 6, and then clears RQS; 0 if the
-    /// session isn't open.
-    pub fn query(&mut self, session: Session) -> u8
-        ensures step { Allows self.old.device (Queried session result) self.new.device }
-        ensures idle_store { self.new.idle_store ≡ self.old.idle_store }
-    {
-        self.device.query(session)
-    }
-
-    /// Fetches the service request of a session, one for all that were made since the last fetch: the status byte with
-    /// bit 6 set. None if the session isn't open.
-    pub fn fetch(&mut self, session: Session) -> Option<u8>
-        ensures step { Allows self.old.device (Fetched session result) self.new.device }
-        ensures idle_store { self.new.idle_store ≡ self.old.idle_store }
-    {
-        self.device.fetch(session)
-    }
-
-    /// Returns the open sessions that requested service since the last call, and whether a take would return a job.
-    pub fn take_notifications(&mut self) -> Notifications
-        ensures step { Allows self.old.device (Notified result.requesting result.has_work) self.new.device }
-        ensures idle_store { self.new.idle_store ≡ self.old.idle_store }
-    {
-        self.device.take_notifications()
-    }
-
-    /// Requests a lock for a session. `now` and `timeout` are in milliseconds. A request that can't be granted now waits
-    /// for the timeout; with a timeout of 0 it fails at once, and so does one of a session that isn't open.
-    pub fn lock(
-        &mut self,
-        session: Session,
-        kind: Kind,
-        now: u64,
-        timeout: u32,
-    ) -> Result<Grant, LockRefusal>
-        ensures step { Allows self.old.device (Locked session kind now timeout result) self.new.device }
-        ensures idle_store { self.new.idle_store ≡ self.old.idle_store }
-    {
-        self.device.lock(session, kind, now, timeout)
-    }
-
-    /// Releases the exclusive lock of a session, or else its shared one. Returns which, and the sessions whose requests
-    /// were then granted, in order of arrival. A session that isn't open holds none.
-    pub fn release(&mut self, session: Session) -> Result<(Freed, Sessions), LockRefusal>
-        ensures step { Allows self.old.device (Released session result) self.new.device }
-        ensures idle_store { self.new.idle_store ≡ self.old.idle_store }
-    {
-        self.device.release(session)
-    }
-
-    /// Fails the lock requests whose timeout has expired, and returns their sessions, in order of arrival.
-    pub fn tick(&mut self, now: u64) -> Sessions
-        ensures step { Allows self.old.device (Ticked now result) self.new.device }
-        ensures idle_store { self.new.idle_store ≡ self.old.idle_store }
-    {
-        self.device.tick(now)
-    }
-
-    /// Returns whether the exclusive lock is held, and how many sessions hold a lock.
-    pub fn inform(&self) -> Info
-        ensures { Allows self.now.device (Informed result) self.now.device }
-    {
-        self.device.inform()
-    }
-
-    /// The earliest time at which a waiting lock request fails, if one waits.
-    pub fn next_deadline(&self) -> Option<u128>
-        ensures step { Allows self.now.device (Due result) self.now.device }
-        ensures first { IfSome result (λ deadline. FailsFirst self.now.device.volatile.locks.waiting deadline) }
-
-        // An invariant of the locks: no waiting request can be granted, and each session has at most one.
-        ensures settled { IsSettled self.now.device.volatile.locks }
-    {
-        self.device.next_deadline()
-    }
-
-    /// Drops the wait of a session, if it is open.
-    pub fn clear(&mut self, session: Session)
-        ensures step { Allows self.old.device (Cleared session) self.new.device }
-        ensures idle_store { self.new.idle_store ≡ self.old.idle_store }
-
-        // Consequences of the step: no session opens or closes, and no lock changes.
-        ensures still_open { self.new.device.volatile.open_now ≡ self.old.device.volatile.open_now }
-        ensures still_locked { self.new.device.volatile.locks ≡ self.old.device.volatile.locks }
-    {
-        self.device.clear(session);
-    }
-
+impl<S: Idle, A: Allocator + Copy> ExecOf<S, A> {
     /// Whether a session is open.
     pub fn is_open(&self, session: Session) -> bool
         ensures { result ≡ is_open self.now.device session }
     {
-        self.device.is_open(session)
+        self.open_now[session.place()]
     }
 
     /// The nonvolatile contents with all accepted changes: those of the store's map with the unflushed changes made.
@@ -274,97 +187,62 @@ impl<D: Disk, A: Allocator + Copy> Exec<D, A> {
         ensures value { result.now ≡ self.now.device.flush.contents }
         ensures consistent { IsConsistent self.now.device.flush }
     {
-        self.device.contents()
+        &self.contents
     }
 
     /// The condition of the store: whether it can take a commit.
     pub fn condition(&self) -> Condition
         ensures { result ≡ self.now.device.flush.store }
     {
-        self.device.condition()
+        self.store
     }
 
     /// Whether all accepted changes are flushed.
     pub fn is_flushed(&self) -> bool
         ensures { result ≡ (self.now.device.flush.unflushed == 0) }
     {
-        self.device.is_flushed()
+        self.unflushed == 0
     }
 
     /// The service request that the instrument makes in its present state.
     pub fn first_request(&self) -> Option<u8>
         ensures { result ≡ first_request self.now.device.volatile.instrument.status }
     {
-        self.device.first_request()
+        self.instrument.first_request()
     }
 
-    /// Takes a job: one that commits the present contents to a whole store, or one that reopens a broken store.
-    pub fn take(&mut self) -> Result<Job<D, A>, NoJob>
-        ensures step { Allows self.old.device (Took (taken_of result)) self.new.device }
-        ensures job { IfOk result (λ job. self.old.idle_store ≡ Some (job_store job)) }
-        ensures away { OnOk result (self.new.idle_store ≡ None) }
-        ensures same { OnErr result (self.new.device ≡ self.old.device) }
-        ensures idle_store { OnErr result (self.new.idle_store ≡ self.old.idle_store) }
+    // The enabled bits of a session that has read its responses, and of one that has not.
+    fn enabled(&self) -> Enabled
+        ensures { result ≡ enabled_of self.now.device.volatile.instrument.status }
     {
-        let batch = self.device.take()?;
-        match self.idle_store.take() {
-            Some(IdleStore::Whole(store)) => match batch {
-                Some(batch) => {
-                    let planned = planned_of(self.alloc, store, batch);
-                    return Ok(Job::Commit(planned));
-                }
-                None => unreachable!(),
-            },
-            Some(IdleStore::Failed(broken)) => return Ok(Job::Reopen(Reopening {
-                alloc: self.alloc,
-                broken,
-                duty: CannotDrop(()),
-            })),
-            None => unreachable!(),
+        Enabled {
+            read: self.instrument.enabled(false),
+            unread: self.instrument.enabled(true),
         }
     }
 
-    /// Gives back a finished job. It is accepted if a job is out and its limit, maps and batch are the expected ones;
-    /// the sessions whose wait is then over are returned. Otherwise it is handed back, and nothing has changed.
-    pub fn give_back(&mut self, finished: Finished<D, A>) -> Result<Sessions, Stranger<D, A>>
-        ensures step { Allows self.old.device (GaveBack (finished_of finished.end) (over_of result)) self.new.device }
-        // Each possible crash image of its disk represents the map that the result states; for a broken store, the
-        // map before or the target.
-        ensures stands { D.honest → OnOk result (IsTrueOf (target self.old.device.flush) (finished_of finished.end) (D.state (finished_disk finished.end))) }
-        ensures idle_store { OnOk result (self.new.idle_store ≡ Some (idle_store_of finished.end)) }
-        ensures free { OnOk result (self.new.device.flush.out ≡ false) }
-        ensures stranger { IfErr result (λ s. s.finished ≡ finished) }
-        ensures same { OnErr result (self.new.idle_store ≡ self.old.idle_store) }
+    // Updates the RQS bits of all sessions after a step that changed their enabled bits, which were `old` before it.
+    fn follow(&mut self, old: Enabled)
+        ensures { (before : State) → old ≡ enabled_of before.volatile.instrument.status
+            → before.volatile.service_states ≡ self.old.device.volatile.service_states
+            → self.new ≡ with_device self.old (followed before self.old.device) }
     {
-        let Some(ending) = self.device.ending_of(&finished.end) else {
-            return Err(Stranger { finished });
-        };
-        self.device.end_job(ending);
-        put_store_back(&mut self.idle_store, idle_store_after(finished));
-        Ok(self.device.sessions_over())
+        let new = self.enabled();
+        follow(&mut self.service_states, old, new);
     }
+}
 
-    /// Ends the `Exec`: returns its store, or the whole `Exec` if a job is out.
-    pub fn end(self) -> Ended<D, A>
-        ensures { IsEnd self result }
-    {
-        let Exec {
-            alloc,
-            device,
-            idle_store,
-        } = self;
-        match idle_store {
-            Some(idle_store) => match idle_store {
-                IdleStore::Whole(store) => Ended::Whole(store),
-                IdleStore::Failed(broken) => Ended::Failed(broken),
-            },
-            None => Ended::Out(Exec {
-                alloc,
-                device,
-                idle_store: None,
-            }),
-        }
-    }
+// The map at power-on, which shares the values of the items, and the locks.
+fn parts_at_rest<A: Allocator + Copy>(
+    alloc: A,
+    items: &Items<A>,
+) -> Result<(Plan<A>, Box<LockTable, A>), AllocError>
+    ensures map { IfOk result (λ parts. parts.0.map ≡ items.now) }
+    ensures locks { IfOk result (λ parts. parts.1.value ≡ no_locks []) }
+{
+    let map = Plan::of(alloc, items.copy(alloc)?);
+    let locks = Box::new(alloc, LockTable::new())?;
+    Ok((map, locks))
 }
 
 // The cause of a failed power-on whose items could not be decoded.
@@ -375,17 +253,4 @@ fn cause_of(fault: DecodeFault) -> PowerCause
         DecodeFault::BadKey | DecodeFault::BadValue => PowerCause::BadItems,
         DecodeFault::Memory => PowerCause::Memory,
     }
-}
-
-// Builds the commit of a batch that leads to the map of contents that fit, which the store can hold.
-fn planned_of<D: Disk, A: Allocator + Copy>(
-    alloc: A,
-    store: Store<D, A>,
-    batch: Batch<A>,
-) -> Planned<D, A>
-    requires { (c : Kept) × IsContents c × (fits store.limit c ≡ true) × (changed store.items batch ≡ items_of c) }
-    ensures store { result.store ≡ store }
-    ensures batch { result.batch ≡ batch }
-{
-    Planned::new(alloc, store, batch)
 }

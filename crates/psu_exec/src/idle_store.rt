@@ -8,6 +8,22 @@ use psu_items::{Broken, Store};
 use std::alloc::Allocator;
 use std::mem;
 
+/// A store that a device has while no job is out: what the invariant of an `ExecOf` states of it.
+pub trait Idle {
+    ghost use Rattle.std.specs.Prelude.{ℕ};
+    ghost use Rattle.psu_map.specs.Plan.{Planned};
+    ghost use Rattle.psu_exec.specs.declared.condition.Condition.{Condition};
+
+    // It is the store of a device with this condition, this limit, and this map with its planned batch.
+    ghost belongs: { Self → Condition → ℕ → Planned → Type 0 };
+}
+
+impl<D: Disk, A: Allocator + Copy> Idle for IdleStore<D, A> {
+    ghost use Rattle.psu_exec.specs.Exec.{Belongs};
+
+    ghost belongs = { Belongs };
+}
+
 /// The store while no job is out.
 #[derive(Drop)]
 pub enum IdleStore<D: Disk, A: Allocator + Copy> {

@@ -1,0 +1,16 @@
+use Rattle.std.proofs.Common.{refl, sym}
+use Rattle.psu_exec.specs.Calls.{worn}
+use Rattle.psu_exec.specs.Device.{State}
+use Rattle.psu_exec.specs.Exec.{IsStoreOf}
+use Rattle.psu_exec.specs.declared.condition.Condition.TheVariants.{Worn}
+use Rattle.psu_exec.proofs.Consistent.{consistent_ended}
+use Rattle.psu_exec.proofs.Returning.{placed, whole_belongs}
+use Rattle.psu_exec.proofs.Seen.{so_seen}
+use Rattle.psu_exec.proofs.Touching.{keeps_all}
+use Rattle.psu_exec.proofs.Within.{within_cut}
+use Rattle.psu_exec.proofs.exec.flushing.Exec+D+A.wear_out.Goals as goal
+
+pub invariant_of-self : goal.invariant_of-self
+invariant_of-self g c =
+    let belongs = whole_belongs c.args.store Worn c.self.inside.limit _ c.self.inside.map refl refl (so_seen (λ (s : State). IsStoreOf (worn s.flush) c.args.store) (sym c.self.view_is) c.requires.store) in
+    rw (c.put_store_back.ensures, c.all_cut_off.ensures) (tt, consistent_ended _ _ _ c.self.invariant.1 refl (within_cut _ _ c.self.invariant.1.waits), keeps_all _ _ _ c.all-self-inside.ensures, placed _ c.args.store _ refl belongs)
