@@ -11,7 +11,7 @@ use Rattle.psu_instrument.specs.Meaning.{Situation, Meaning, Refuses, Does, Keep
 use Rattle.psu_instrument.specs.declared.act.Completion.{Completion}
 use Rattle.psu_instrument.specs.declared.act.Completion.TheVariants as completion
 use Rattle.psu_instrument.proofs.Speaking.{each_answer_is_quiet, some_digit}
-use Rattle.psu_exec.specs.Calls.{Allows, Executed, Settled, settle_answer}
+use Rattle.psu_exec.specs.Calls.{Allows, Executed, settle_answer}
 use Rattle.psu_exec.specs.Device.{Reply, Answer, Error, Parked, Later, Flush, State, MayAnswer, MayMean, LockedOut, TooEarly, Runs, Expands, Means, answer_complete, answer_meant, here, is_whole, kept_unless, meant, parks, wait_of}
 use Rattle.psu_exec.specs.declared.wait.Wait.{Wait}
 use Rattle.psu_exec.specs.declared.wait.Wait.TheVariants.{Until, CutOff}

@@ -1,5 +1,5 @@
 -- The store of a job that was given back.
-use Rattle.std.proofs.Common.{◌≡◌, inl, inr, ◌⊎◌, Bool, true, false, ℕ, Option, Some, refl, sym, ap, subst, ◌∙◌}
+use Rattle.std.proofs.Common.{◌≡◌, inl, inr, ◌⊎◌, false, ℕ, Option, Some, refl, sym, ap, subst, ◌∙◌}
 use Rattle.psu_map.specs.Plan.{Planned}
 use Rattle.psu_disk.specs.declared.disk.Disk.{Ghosts}
 use Rattle.psu_items.specs.declared.commit.UnstartedCause.TheVariants as unstarted

@@ -45,9 +45,6 @@ by_same e (m ∷ ms) = ap₂ (λ (x : ServiceState) (xs : List ServiceState). x 
 pub same_enabled : (a b : Enabled) → a.read ≡ b.read → a.unread ≡ b.unread → a ≡ b
 same_enabled a b e f = ap₂ (λ (r u : ℕ). record { read = r; unread = u }) e f
 
-pub enabled_pair : (status : Reported) (read unread : ℕ) → read ≡ enabled status false → unread ≡ enabled status true → record { read = read; unread = unread } ≡ enabled_of status
-enabled_pair status read unread e f = ap₂ (λ (r u : ℕ). record { read = r; unread = u }) e f
-
 -- one session's service state alone changes
 each_set : (status : Reported) (ms : List ServiceState) (i : ℕ) (x : ServiceState)
     → each_rqs_updated status status ms (slice_set ms i x) ≡ slice_set ms i (rqs_updated (enabled status (get_or ms i initial_service_state).available) (enabled status x.available) x)

@@ -1,8 +1,7 @@
 -- Jobs, their results, and the stores that they have.
-use Rattle.std.specs.Prelude.{◌≡◌, ◌≢◌, ◌⊎◌, ◌≤◌, ◌+◌, ◌^◌, ℕ, List, Bool, true, false, Result, Ok, Err}
+use Rattle.std.specs.Prelude.{◌≡◌, ◌≢◌, ◌⊎◌, ◌≤◌, ◌+◌, ◌^◌, List, Result, Ok, Err}
 use Rattle.psu_disk.specs.Disk.{HasFailed}
 use Rattle.psu_disk.specs.declared.disk.Disk.{Ghosts}
-use Rattle.psu_map.specs.Map.{Item}
 use Rattle.psu_map.specs.Batch.{Edit, changed}
 use Rattle.psu_items.specs.Image.{EachIsEither, current_root, number_in}
 use Rattle.psu_items.specs.Outcome.{HasStored, IsUnchanged, HasBroken, IsStillBroken}

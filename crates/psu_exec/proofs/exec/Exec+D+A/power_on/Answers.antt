@@ -1,4 +1,4 @@
-use Rattle.std.proofs.Common.{◌≡◌, ℕ, ap, sym, ◌∙◌, refl}
+use Rattle.std.proofs.Common.{ℕ, ap, sym, ◌∙◌, refl}
 use Rattle.psu_nv.specs.Contents.{fits}
 use Rattle.psu_nv.proofs.Determining.{same_contents}
 use Rattle.psu_status.proofs.FirstRequest.{request_at_power_on}

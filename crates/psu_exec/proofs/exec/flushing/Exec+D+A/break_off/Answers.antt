@@ -1,6 +1,5 @@
 use Rattle.std.proofs.Common.{◌≡◌, ◌||◌, ◌∙◌, ap, is_none, subst, sym, true, refl, List}
 use Rattle.psu_map.specs.Batch.{Edit}
-use Rattle.psu_map.specs.Plan.{Planned}
 use Rattle.psu_exec.specs.Calls.{broken}
 use Rattle.psu_exec.specs.Device.{State, is_broken}
 use Rattle.psu_exec.specs.Exec.{Belongs, IsStoreOf}

@@ -1,7 +1,7 @@
 use Rattle.std.proofs.Common.{◌≡◌, ◌∙◌, ap, sym, ℕ, Some, List}
 use Rattle.psu_map.specs.Batch.{changed}
 use Rattle.psu_map.specs.Map.{Item}
-use Rattle.psu_nv.specs.Contents.{fits, items_of}
+use Rattle.psu_nv.specs.Contents.{fits}
 use Rattle.psu_exec.specs.Calls.{Commit, JobData, job_of, job_out}
 use Rattle.psu_exec.specs.Device.{State, is_whole}
 use Rattle.psu_exec.specs.declared.idle_store.IdleStore.TheVariants.{Whole}

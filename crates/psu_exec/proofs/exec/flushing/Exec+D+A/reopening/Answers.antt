@@ -2,7 +2,7 @@ use Rattle.std.proofs.Common.{◌≡◌, ◌||◌, ◌∙◌, ap, sym, refl, Som
 use Rattle.psu_map.specs.Batch.{changed}
 use Rattle.psu_map.specs.Map.{Item}
 use Rattle.psu_exec.specs.Calls.{JobData, Reopen, job_of, job_out}
-use Rattle.psu_exec.specs.Device.{State, is_broken, target}
+use Rattle.psu_exec.specs.Device.{State, is_broken}
 use Rattle.psu_exec.specs.declared.idle_store.IdleStore.TheVariants.{Failed}
 use Rattle.psu_exec.proofs.Plans.{as_planned}
 use Rattle.psu_exec.proofs.Seen.{device_is, seen, so_seen}
