@@ -6,8 +6,7 @@ use Rattle.psu_items.specs.declared.commit.UnstartedCause.TheVariants as unstart
 use Rattle.psu_exec.specs.Device.{Flush, is_broken, target}
 use Rattle.psu_exec.specs.declared.condition.Condition.{Condition}
 use Rattle.psu_exec.specs.Calls.{IsExpected}
-use Rattle.psu_exec.specs.Exec.{Belongs, IsStoreOf}
-use Rattle.psu_exec.specs.Jobs.{finished_of, idle_store_of}
+use Rattle.psu_exec.specs.Jobs.{Belongs, IsStoreOf, finished_of, idle_store_of}
 use Rattle.psu_exec.specs.declared.idle_store.IdleStore.{IdleStore}
 use Rattle.psu_exec.specs.declared.idle_store.IdleStore.TheVariants as idle_store
 use Rattle.psu_exec.specs.declared.finished.End.{End}

@@ -1,8 +1,6 @@
 -- What holds of the value that a device's fields are seen as holds of the value that they had.
 use Rattle.std.proofs.Common.{◌≡◌, ap, subst}
-use Rattle.psu_exec.specs.Device.{State}
-use Rattle.psu_exec.specs.ExecOf.{ExecOf}
-use Rattle.psu_exec.specs.Exec.{with_device}
+use Rattle.psu_exec.specs.Device.{State, ExecOf, with_device}
 
 -- the value on the left of an equation
 abbrev pub seen : {X : Type 0} {s t : X} → s ≡ t → X

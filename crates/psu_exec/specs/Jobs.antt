@@ -1,15 +1,19 @@
 -- Jobs, their results, and the stores that they have.
-use Rattle.std.specs.Prelude.{◌≡◌, ◌≢◌, ◌⊎◌, ◌≤◌, ◌+◌, ◌^◌, List, Result, Ok, Err}
+use Rattle.std.specs.Prelude.{◌≡◌, ◌≢◌, ◌⊎◌, ◌≤◌, ◌+◌, ◌^◌, ℕ, false, List, Result, Ok, Err}
 use Rattle.psu_disk.specs.Disk.{HasFailed}
 use Rattle.psu_disk.specs.declared.disk.Disk.{Ghosts}
 use Rattle.psu_map.specs.Batch.{Edit, changed}
+use Rattle.psu_map.specs.Plan.{Planned}
 use Rattle.psu_items.specs.Image.{EachIsEither, current_root, number_in}
 use Rattle.psu_items.specs.Outcome.{HasStored, IsUnchanged, HasBroken, IsStillBroken}
 use Rattle.psu_items.specs.Standing.{IsOnDisk, MapOn}
 use Rattle.psu_items.specs.declared.commit.UnstartedCause.TheVariants as unstarted
 use Rattle.psu_exec.specs.Batch.{batch}
 use Rattle.psu_exec.specs.Calls.{JobData, JobEnd, Commit, Reopen, Taken}
+use Rattle.psu_exec.specs.Device.{Flush, is_broken, target}
 use Rattle.psu_exec.specs.Shown.{none_of}
+use Rattle.psu_exec.specs.declared.condition.Condition.{Condition}
+use Rattle.psu_exec.specs.declared.condition.Condition.TheVariants as condition
 use Rattle.psu_exec.specs.declared.job.Job.{Job}
 use Rattle.psu_exec.specs.declared.job.Job.TheVariants as job
 use Rattle.psu_exec.specs.declared.no_job.NoJob.{NoJob}
@@ -44,6 +48,15 @@ idle_store_of (finished.Reopened store) = idle_store.Whole store
 abbrev pub idle_disk : {D A : Type 0} {G : Ghosts D} → IdleStore D A G → D
 idle_disk (idle_store.Whole store) = store.disk
 idle_disk (idle_store.Failed broken) = broken.disk
+
+-- the store is that of a device with this condition, this limit, and this map with its planned batch
+abbrev pub Belongs : {D A : Type 0} {G : Ghosts D} → IdleStore D A G → Condition → ℕ → Planned → Type 0
+Belongs (idle_store.Whole store) c limit plan = (store.items ≡ plan.map) × (store.limit ≡ limit) × (is_broken c ≡ false)
+Belongs (idle_store.Failed broken) c limit plan = (broken.before ≡ plan.map) × (broken.limit ≡ limit) × (c ≡ condition.Broken) × (broken.batch ≡ plan.edits)
+
+-- the store is that of a device with this flush part
+abbrev pub IsStoreOf : {D A : Type 0} {G : Ghosts D} → Flush → IdleStore D A G → Type 0
+IsStoreOf f store = Belongs store f.store f.limit (record { map = f.before; edits = batch f.before (target f) })
 
 -- a job with its maps, as data
 abbrev pub job_data : {D A : Type 0} {G : Ghosts D} → Job D A G → JobData

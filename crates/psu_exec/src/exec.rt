@@ -2,8 +2,7 @@
 ghost use Rattle.std.specs.Prelude.{◌≡◌, ◌==◌, [], IfOk, IfErr, Some, true};
 ghost use Rattle.psu_nv.specs.Contents.{Contents as Kept, items_of, IsContents, fits};
 ghost use Rattle.psu_exec.specs.Consistent.{IsConsistent};
-ghost use Rattle.psu_exec.specs.Device.{State, followed, is_open, power_on};
-ghost use Rattle.psu_exec.specs.Exec.{with_device};
+ghost use Rattle.psu_exec.specs.Device.{State, followed, is_open, power_on, with_device};
 ghost use Rattle.psu_exec.specs.Headline.{AreBad};
 ghost use Rattle.psu_exec.specs.ServiceStates.{enabled_of};
 ghost use Rattle.psu_exec.specs.Shown.{cause_of};
@@ -62,8 +61,7 @@ impl<S: Idle, A: Allocator + Copy> Model for ExecOf<S, A> {
     ghost use Rattle.psu_nv.specs.Contents.{items_of};
     ghost use Rattle.psu_exec.specs.Changed.{KeepsOthers};
     ghost use Rattle.psu_exec.specs.Consistent.{IsConsistent, HasEdits, flush_of};
-    ghost use Rattle.psu_exec.specs.Device.{target};
-    ghost use Rattle.psu_exec.specs.ExecOf.{ExecOf};
+    ghost use Rattle.psu_exec.specs.Device.{ExecOf, target};
 
     ghost Value = { ExecOf S };
 
@@ -83,7 +81,7 @@ impl<S: Idle, A: Allocator + Copy> Model for ExecOf<S, A> {
 
 impl<D: Disk, A: Allocator + Copy> Exec<D, A> {
     ghost use Rattle.psu_exec.specs.declared.idle_store.IdleStore.TheVariants as when_idle;
-    ghost use Rattle.psu_exec.specs.Ends.{IsEnd};
+    ghost use Rattle.psu_exec.specs.Exec.{IsEnd};
 
     /// Powers on with the contents that the store holds. The registers are as IEEE 488.2 prescribes: only PON is set,
     /// and the enables keep their values exactly if the power-on status clear flag is false. The cause of an error is

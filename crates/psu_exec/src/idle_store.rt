@@ -19,7 +19,7 @@ pub trait Idle {
 }
 
 impl<D: Disk, A: Allocator + Copy> Idle for IdleStore<D, A> {
-    ghost use Rattle.psu_exec.specs.Exec.{Belongs};
+    ghost use Rattle.psu_exec.specs.Jobs.{Belongs};
 
     ghost belongs = { Belongs };
 }

@@ -6,7 +6,6 @@ ghost use Rattle.psu_nv.specs.Contents.{Contents as Kept, IsContents, fits, item
 ghost use Rattle.psu_exec.specs.Device.{target};
 ghost use Rattle.psu_exec.specs.Calls.{Allows, broken, ended, job_of, job_out, kept, sessions_over, target_flushed, worn, GivesBack, IsExpected};
 ghost use Rattle.psu_exec.specs.Calls.Entry.{Took, GaveBack};
-ghost use Rattle.psu_exec.specs.Exec.{IsStoreOf, with_device};
 ghost use Rattle.psu_exec.specs.Shown.{over_of};
 ghost use Rattle.psu_exec.specs.declared.condition.Condition.TheVariants as Condition;
 
@@ -25,7 +24,7 @@ use psu_items::{Batch, Items, Store, UnstartedCause};
 use std::alloc::{AllocError, Allocator};
 
 impl<D: Disk, A: Allocator + Copy> Exec<D, A> {
-    ghost use Rattle.psu_exec.specs.Jobs.{finished_disk, finished_of, idle_store_of, job_data, job_store, taken_of};
+    ghost use Rattle.psu_exec.specs.Jobs.{IsStoreOf, finished_disk, finished_of, idle_store_of, job_data, job_store, taken_of};
     ghost use Rattle.psu_exec.specs.World.{IsTrueOf};
     ghost use Rattle.psu_exec.specs.declared.job.Job.TheVariants as when;
 

@@ -1,7 +1,6 @@
 //! Sessions and their service states.
 ghost use Rattle.std.specs.Prelude.{◌≡◌, Some, None, IfOk, OnErr, true};
-ghost use Rattle.psu_exec.specs.Device.{is_open, service_state_of};
-ghost use Rattle.psu_exec.specs.Exec.{with_device};
+ghost use Rattle.psu_exec.specs.Device.{is_open, service_state_of, with_device};
 ghost use Rattle.psu_exec.specs.Calls.{Allows, has_work, unparked, with_answer, with_service_state, with_session};
 ghost use Rattle.psu_exec.specs.Calls.Entry.{Opened, Closed, Cleared, Sent, Delivered, Queried, Fetched, Notified};
 ghost use Rattle.psu_exec.specs.ServiceStates.{rqs_updated, opened_service_state, with_available};

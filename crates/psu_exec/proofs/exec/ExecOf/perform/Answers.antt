@@ -4,8 +4,7 @@ use Rattle.psu_tree.specs.Nonvolatile.{is_nonvolatile}
 use Rattle.psu_instrument.specs.Commands.{meaning}
 use Rattle.psu_instrument.specs.Meaning.{Completes, Keeps}
 use Rattle.psu_instrument.proofs.Kept.{kept_are_nonvolatile}
-use Rattle.psu_exec.specs.Device.{Error, State, MayMean, after_meant, here, is_late, Answer, Done}
-use Rattle.psu_exec.specs.Exec.{with_device}
+use Rattle.psu_exec.specs.Device.{Error, State, MayMean, after_meant, here, is_late, Answer, Done, with_device}
 use Rattle.psu_exec.specs.Shown.{outcome_of}
 use Rattle.psu_exec.proofs.Acting.{completes, failed, keeps, then_done, answers_so, done_so}
 use Rattle.psu_exec.proofs.Seen.{after_seen, device_is, seen, so_seen}

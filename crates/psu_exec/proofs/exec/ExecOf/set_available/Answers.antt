@@ -1,6 +1,6 @@
 use Rattle.std.proofs.Common.{◌∙◌, ap}
 use Rattle.psu_exec.specs.Calls.{with_service_state}
-use Rattle.psu_exec.specs.Exec.{with_device}
+use Rattle.psu_exec.specs.Device.{with_device}
 use Rattle.psu_exec.proofs.RqsUpdates.{changed, followed_at}
 use Rattle.psu_exec.proofs.exec.ExecOf.set_available.Goals as goal
 

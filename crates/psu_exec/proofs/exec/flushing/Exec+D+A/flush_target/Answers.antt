@@ -3,7 +3,7 @@ use Rattle.psu_map.specs.Batch.{changed}
 use Rattle.psu_map.specs.Plan.{Planned}
 use Rattle.psu_exec.specs.Calls.{target_flushed}
 use Rattle.psu_exec.specs.Device.{State, held_of, map_held}
-use Rattle.psu_exec.specs.Exec.{IsStoreOf}
+use Rattle.psu_exec.specs.Jobs.{IsStoreOf}
 use Rattle.psu_exec.specs.declared.condition.Condition.TheVariants.{Whole}
 use Rattle.psu_exec.proofs.Consistent.{consistent_flushed}
 use Rattle.psu_exec.proofs.Returning.{placed, whole_belongs}
