@@ -17,8 +17,8 @@ fn joins(several: bool, byte: u8) -> bool
     several && byte == b':'
 }
 
-/// Whether the byte is a digit or `_`: few names have one, so its code is kept out of line.
-#[inline(never)]
+/// Whether the byte is a digit or `_`, which few names have.
+#[inline(always)]
 fn is_rare(byte: u8) -> bool
     ensures { result ≡ (is_digit byte || byte == 95) }
 {

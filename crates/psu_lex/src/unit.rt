@@ -53,10 +53,10 @@ pub struct Unit<'a> {
 pub struct UnitHeader<'a> {
     /// The header as written, with its mark and its `?`.
     pub text: &'a [u8],
-    /// The mark that it begins with.
-    pub mark: HeaderMark,
     /// Its nodes, separated by `:`.
     pub nodes: &'a [u8],
+    /// The mark that it begins with.
+    pub mark: HeaderMark,
     /// Whether it ends with `?`.
     pub asks: bool,
 }

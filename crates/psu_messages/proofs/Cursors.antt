@@ -31,6 +31,12 @@ module _ (inside : Bool) (old : Cursor) (at : IsCursor inside old) (later : Unit
   ends_at count none more are first =
       at_same inside old.text.now _ _ _ _ _ _ _ _ refl (are [] (old.text.now, sym (append-nil old.text.now)) refl) first refl (at_end at count none more)
 
+-- a cursor that is back at the place of this one
+pub is_back : (inside : Bool) (old new : Cursor) → IsCursor inside old → new.text ≡ old.text → new.units ≡ old.units → new.path ≡ old.path → new.read ≡ old.read → IsCursor inside new
+is_back inside old new at text units path read =
+    subst (λ (t : _). IsAt inside t.now new.read new.units.text.now new.units.first new.path) (sym text)
+    (at_same inside old.text.now _ _ _ _ _ _ _ _ read (ap (λ (u : Units). u.text.now) units) (ap (λ (u : Units). u.first) units) path at)
+
 -- no unit is left where the cursor is
 pub none_behind : (inside : Bool) (old : Cursor) → IsCursor inside old → MakesUnits old.units.first [] old.units.text.now [] → IsBehind old.text.now old.read
 none_behind inside old at none = behind_at at none

@@ -5,7 +5,7 @@ ghost use Rattle.psu_messages.specs.Places.{IsCursor, IsSavedPlace};
 ghost use Rattle.psu_messages.specs.Units.{IsRequest, path_at};
 
 use psu_lex::{Unit, Units};
-use psu_tree::{Path, Request, SavedPath, request};
+use psu_tree::{Path, Request, SavedPath, request_into};
 use std::alloc::Allocator;
 
 /// A cursor over the units of a text.
@@ -52,10 +52,11 @@ impl<'t> Cursor<'t> {
         }
     }
 
-    /// Parses the unit that was taken last, and moves the path; the first unit of a message is read from the root.
-    pub(crate) fn request(&mut self, unit: &Unit<'t>, inside: bool) -> Request<'t>
+    /// Parses the unit that was taken last, in the place of an earlier one, and moves the path; the first unit of a
+    /// message is read from the root.
+    pub(crate) fn request(&mut self, unit: &Unit<'t>, inside: bool, request: &mut Request<'t>)
         requires { self.old.read + 1 < 2 ^ 64 }
-        ensures request { IsRequest inside (path_at self.old.path (part unit.now)) (part unit.now) result self.new.path }
+        ensures request { IsRequest inside (path_at self.old.path (part unit.now)) (part unit.now) request.new self.new.path }
         ensures text { self.new.text ≡ self.old.text }
         ensures units { self.new.units ≡ self.old.units }
         ensures read { self.new.read ≡ self.old.read + 1 }
@@ -64,7 +65,21 @@ impl<'t> Cursor<'t> {
             self.path.clear();
         }
         self.read += 1;
-        request(&mut self.path, unit, inside)
+        request_into(&mut self.path, unit, inside, request);
+    }
+
+    /// Returns to the place before the unit that was read last, where `units` were left and the path was the root.
+    #[inline(always)]
+    pub(crate) fn back_to(&mut self, units: Units<'t>)
+        requires { 0 < self.old.read }
+        ensures text { self.new.text ≡ self.old.text }
+        ensures units { self.new.units ≡ units.entry }
+        ensures path { self.new.path ≡ [] }
+        ensures read { self.new.read + 1 ≡ self.old.read }
+    {
+        self.units = units;
+        self.path.clear();
+        self.read -= 1;
     }
 
     /// Passes over units until so many were read. Where the text has fewer, none is left then.
@@ -73,17 +88,19 @@ impl<'t> Cursor<'t> {
         ensures text { self.new.text ≡ self.old.text }
         ensures count { self.old.read ≤ count → self.new.read ≡ count }
     {
+        let mut request = Request::unread();
         while self.read < count {
             let Some(unit) = take_unit(&mut self.units) else {
                 self.units = Units::of_last(self.text, 0, true);
                 self.read = count;
                 return;
             };
-            self.request(&unit, inside);
+            self.request(&unit, inside, &mut request);
         }
     }
 
     // Returns the place of the cursor, to be kept without the text; none where memory is refused.
+    #[inline(never)]
     fn save<A: Allocator + Copy>(&self, alloc: A) -> Option<SavedPlace<A>>
         ensures place { IfSome result (λ place. (inside : Bool) → IsCursor inside self.now → IsSavedPlace inside self.now.text.now place) }
         ensures read { IfSome result (λ place. place.read ≡ self.now.read) }
@@ -98,6 +115,7 @@ impl<'t> Cursor<'t> {
     }
 
     /// Returns the place of the cursor where more than `least` and at most `most` units are before it; else none.
+    #[inline(always)]
     pub(crate) fn save_between<A: Allocator + Copy>(
         &self,
         alloc: A,

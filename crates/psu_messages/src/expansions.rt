@@ -8,6 +8,7 @@ ghost use Rattle.psu_messages.specs.Units.{Source};
 use crate::cursor::{Cursor, take_unit};
 use crate::steps::take_step;
 use crate::{Executor, Need, ResponseBuffer};
+use psu_exec::Request;
 use std::alloc::Allocator;
 
 /// Executes the rest of an expansion. Returns what has to be waited for, if the expansion isn't done then.
@@ -27,6 +28,7 @@ pub(crate) fn expand<A: Allocator + Copy, F: Executor<A>>(
 {
     let mut cursor = Cursor::of(body);
     cursor.pass_to(*done, true);
+    let mut request = Request::unread();
     'units: loop {
         if !executor.may_continue() {
             return Ok(Some(Need::Turn));
@@ -34,7 +36,8 @@ pub(crate) fn expand<A: Allocator + Copy, F: Executor<A>>(
         let Some(unit) = take_unit(&mut cursor.units) else {
             break;
         };
-        let step = take_step(executor, &cursor.request(&unit, true), parked, gathered)?;
+        cursor.request(&unit, true, &mut request);
+        let step = take_step(executor, &request, parked, gathered)?;
         if let Some(need) = step {
             return Ok(Some(need));
         }

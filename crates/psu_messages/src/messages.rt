@@ -158,20 +158,24 @@ fn execute_units<'t, A: Allocator + Copy, F: Executor<A>>(
     ensures text { cursor.new.text ≡ cursor.old.text }
     ensures grows { progress.old.units ≤ progress.new.units }
 {
+    let mut request = Request::unread();
     'units: loop {
         if !executor.may_continue() {
             return Ok(Some(Need::Turn));
         }
+        let before = cursor.units;
+        let at_root = cursor.path.is_root();
         let Some(unit) = take_unit(&mut cursor.units) else {
             break;
         };
-        let turn = take_turn(
-            executor,
-            unit.first,
-            &cursor.request(&unit, false),
-            progress,
-        )?;
+        cursor.request(&unit, false, &mut request);
+        let turn = take_turn(executor, unit.first, &request, progress)?;
         if let Some(need) = turn {
+            // The unit is read again after the wait. Where the path before it is known, the cursor goes back there, so
+            // that no earlier unit is.
+            if at_root {
+                cursor.back_to(before);
+            }
             return Ok(Some(need));
         }
     }
@@ -253,7 +257,7 @@ pub(crate) fn execute_rest<A: Allocator + Copy, F: Executor<A>>(
 {
     let mut cursor = place.cursor(bytes);
     cursor.pass_to(progress.units, false);
-    // Where a unit waits, the path has moved past it: then the place before the first unit of this call is kept.
+    // Where the path has moved past a unit that waits, the place before the first unit of this call is kept.
     let begun = cursor.save_between(alloc, place.read, progress.units);
     let need = execute_units(executor, &mut cursor, progress)?;
     if need.is_some() {

@@ -96,3 +96,14 @@ pub struct Request<'a> {
     /// Whether the unit is in an expansion.
     pub inside: bool,
 }
+
+impl<'a> Request<'a> {
+    /// Returns a request of which no unit is read yet.
+    pub fn unread() -> Request<'a> {
+        Request {
+            call: None,
+            reading: Err(ScpiError::UndefinedHeader),
+            inside: false,
+        }
+    }
+}

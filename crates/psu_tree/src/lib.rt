@@ -32,7 +32,7 @@ pub use laws::{
 pub use lookups::form_of;
 pub use path::{Path, SavedPath};
 pub use queries::{Action, OutputQuery, Query};
-pub use readings::{read_unit, request};
+pub use readings::{read_unit, request, request_into};
 pub use rows::{Kind, Node, Row, Section};
 pub use table::PATTERNS;
 use text::Choice;

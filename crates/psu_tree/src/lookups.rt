@@ -125,7 +125,9 @@ fn is_named_first(begins: bool, root: &Node, words: &[&[u8]]) -> bool
     is_named(root, word)
 }
 
-// Returns the first of a section's rows that the words match.
+// Returns the first of a section's rows that the words match. It is kept out of line, so that passing over sections
+// has the registers to itself.
+#[inline(never)]
 fn row_in<'a>(letter: u8, begins: bool, section: &'a Section, words: &[&[u8]]) -> Option<&'a Row>
     requires letter { letter ≡ first_letter (map (λ word. word.now) words.now) }
     requires named { begins ≡ false → named_of section.now.root (map (λ word. word.now) words.now) ≡ false }

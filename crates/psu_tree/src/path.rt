@@ -1,5 +1,5 @@
 //! The header path of a message.
-ghost use Rattle.std.specs.Prelude.{◌≡◌, ◌<◌, ◌≤◌, List, ℕ, [], length, map, IfOk, OnErr};
+ghost use Rattle.std.specs.Prelude.{true, ◌≡◌, ◌<◌, ◌≤◌, List, ℕ, [], length, map, IfOk, OnErr};
 
 use crate::words::Words;
 use arrayvec::ArrayVec;
@@ -28,6 +28,14 @@ impl<'a> Path<'a> {
         Path {
             words: ArrayVec::new(),
         }
+    }
+
+    /// Whether it is the root of the tree.
+    #[inline(always)]
+    pub fn is_root(&self) -> bool
+        ensures { result ≡ true → self.now ≡ [] }
+    {
+        self.words.is_empty()
     }
 
     /// Becomes the root of the tree.

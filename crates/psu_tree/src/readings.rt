@@ -137,23 +137,39 @@ pub fn request<'a>(path: &mut Path<'a>, unit: &Unit<'a>, inside: bool) -> Reques
     ensures call { CallsMacro (part unit.now) result.call }
     ensures inside { result.inside ≡ inside }
 {
+    let mut request = Request::unread();
+    request_into(path, unit, inside, &mut request);
+    request
+}
+
+/// Parses a unit as `request` does, and puts it in the place of an earlier one: a caller that parses one unit after
+/// another has no copy of each.
+pub fn request_into<'a>(
+    path: &mut Path<'a>,
+    unit: &Unit<'a>,
+    inside: bool,
+    request: &mut Request<'a>,
+)
+    ensures reading { Reads path.old (part unit.now) request.new.reading }
+    ensures moves { Moves path.old (part unit.now) request.new.reading path.new }
+    ensures call { CallsMacro (part unit.now) request.new.call }
+    ensures inside { request.new.inside ≡ inside }
+{
+    request.inside = inside;
     let given = &syntax(unit);
     let parts = match given {
         Ok(parts) => parts,
-        Err(error) => return Request {
-            call: None,
-            reading: Err(*error),
-            inside,
-        },
+        Err(error) => {
+            request.call = None;
+            request.reading = Err(*error);
+            return;
+        }
     };
     let mut words = ArrayVec::new();
     let reading = read_parts(&mut words, path, parts);
     if reading.is_ok() {
         move_path(path, &mut words, parts.header.mark);
     }
-    Request {
-        call: call_of(parts),
-        reading,
-        inside,
-    }
+    request.call = call_of(parts);
+    request.reading = reading;
 }

@@ -10,7 +10,7 @@ returns-in_default-clause-place c = λ here.
 pub loop-self-preserved : goal.loop-self-preserved
 loop-self-preserved c = record {
   place = λ here.
-      continues c.args.inside c.loop-self.self (c.loop-self.invariant.place here) c.take_unit.new.units c.in-Some.unit c.request.result c.request.new.self
+      continues c.args.inside c.loop-self.self (c.loop-self.invariant.place here) c.take_unit.new.units c.in-Some.unit c.request.new.request c.request.new.self
       c.in-Some.ensures.some c.take_unit.ensures.rest c.in-Some.ensures.less c.request.ensures.request c.request.ensures.text c.request.ensures.units c.request.ensures.read;
   text = c.request.ensures.text ∙ c.loop-self.invariant.text;
   count = λ more. omega (arith, c.loop-self-test.true, c.request.ensures.read);

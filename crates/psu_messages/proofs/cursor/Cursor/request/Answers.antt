@@ -12,4 +12,4 @@ returns-clause-request c =
       | then-unit w ↦ first_path c.args.self.now.path c.if-unit.self.path (part c.args.unit.now) w.if-unit.true (ap (λ s. s.path) w.self-is ∙ w.clear.ensures)
       | else-unit w ↦ next_path c.args.self.now.path c.if-unit.self.path (part c.args.unit.now) w.if-unit.false (ap (λ s. s.path) w.self-is)
     ] in
-    read_at c.args.inside c.args.self.now.path c.if-unit.self.path c.request.new.path (part c.args.unit.now) c.request.result from c.request.ensures.reading c.request.ensures.moves c.request.ensures.call c.request.ensures.inside
+    read_at c.args.inside c.args.self.now.path c.if-unit.self.path c.request_into.new.path (part c.args.unit.now) c.request_into.new.request from c.request_into.ensures.reading c.request_into.ensures.moves c.request_into.ensures.call c.request_into.ensures.inside
