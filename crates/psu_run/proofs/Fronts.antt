@@ -13,10 +13,6 @@ pub starts_after : (t s rest : List ℕ) → StartsWith rest s → StartsWith (t
 starts_after t s rest h =
     ap (λ (n : ℕ). take n (t ++ rest)) (length-append t s) ∙ take-append-add t rest (length s) ∙ ap (λ (z : List ℕ). t ++ z) h
 
--- the whole text is a prefix
-pub starts_whole : (text : List ℕ) → StartsWith text text
-starts_whole text = subst (λ (z : List ℕ). StartsWith z text) (append-nil text) (take-append_seam text [])
-
 -- a write of the rest
 pub put_step : (all : List ℕ) (at n : ℕ) (u v w : Option (List ℕ)) → at ≤ length all → n ≤ length (take (length all - at) (drop at all))
     → Appends u v (take at all) → Appends v w (take n (take (length all - at) (drop at all)))
