@@ -61,9 +61,12 @@ line_runs can w v text (Message.Units bytes) l = l
 pub outputs_line : {D A : Type 0} {G : Ghosts D} (over : Bool) (line text : List ℕ) (old new : Exec D A G) (a b : OutputState) → length line ≤ 65536 → is_power (message_now over line) ≡ false
     → DeviceContinues old new (λ can w v. LineRuns can w (line_source over line) text v) → Says a b text → OutputsLine (message_now over line) old new a b
 outputs_line over line text old new a b short plain runs says =
-    let m = message_now over line in
-    (text, says, run_one old new m text plain (goes_as old new (λ can w v. LineRuns can w (line_source over line) text v) (λ can w v. MessageRuns can w m text v) runs
-    (λ can w v l. line_runs can w v text m (line_message (λ source. LineRuns can w source text v) over line short plain l))))
+    let m = message_now over line in (
+      text,
+      says,
+      run_one old new m text plain (goes_as old new (λ can w v. LineRuns can w (line_source over line) text v) (λ can w v. MessageRuns can w m text v) runs
+          (λ can w v l. line_runs can w v text m (line_message (λ source. LineRuns can w source text v) over line short plain l))),
+    )
 
 abbrev pub BrokenLine : {D A : Type 0} {G : Ghosts D} → Message → Exec D A G → Exec D A G → OutputState → OutputState → RunCause → Type 0
 BrokenLine m old new output now cause = (part : List ℕ) × SaysUntil cause output now part × Breaks old new (λ can w v. MessageBegins can w m part v) cause

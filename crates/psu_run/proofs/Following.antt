@@ -1,9 +1,9 @@
 -- A line that is executed on a device and its output is executed on the device's worlds.
-use Rattle.std.proofs.Common.{◌≡◌, ◌⊎◌, ℕ, Bool, true, false, List, [], ◌∷◌, ◌++◌, refl, sym, ap, ◌∙◌, subst, inl, inr, ⊎_elim, append_assoc, append-nil}
+use Rattle.std.proofs.Common.{◌≡◌, ◌⊎◌, ℕ, Bool, true, false, List, [], ◌∷◌, ◌++◌, refl, sym, ap, subst, inl, inr, ⊎_elim, append_assoc, append-nil}
 use Rattle.psu_disk.specs.declared.disk.Disk.{Ghosts}
 use Rattle.psu_tree.specs.declared.command.Request.{Request}
 use Rattle.psu_messages.specs.ResponseBuffer.{Text}
-use Rattle.psu_exec.specs.Device.{Reply, Answer}
+use Rattle.psu_exec.specs.Device.{Answer}
 use Rattle.psu_exec.specs.World.{World}
 use Rattle.psu_exec.specs.declared.exec.Exec.{Exec}
 use Rattle.psu_messages.specs.Effects as effects

@@ -1,5 +1,5 @@
 -- Where nothing goes wrong, a line has one text, the script's.
-use Rattle.std.proofs.Common.{◌≡◌, ◌⊎◌, ℕ, ◌+◌, ◌<◌, ◌≤◌, ◌==◌, Bool, true, false, Option, Some, None, List, [], ◌∷◌, ◌++◌, drop, refl, sym, ap, ◌∙◌, subst, inl, inr, arith, append_assoc, append-nil, ⊎_elim}
+use Rattle.std.proofs.Common.{◌≡◌, ◌⊎◌, ℕ, ◌<◌, ◌≤◌, ◌==◌, Bool, true, false, Some, None, List, [], ◌∷◌, ◌++◌, refl, sym, ap, ◌∙◌, subst, inl, inr, arith, append_assoc, append-nil, ⊎_elim}
 use Rattle.std.proofs.lemmas.Bool.{cases_Bool}
 use Rattle.std.proofs.lemmas.Bool.Decides.{nat_tests}
 use Rattle.psu_lex.specs.Message.{Part}
@@ -9,12 +9,10 @@ use Rattle.psu_exec.specs.World.{World}
 use Rattle.psu_messages.specs.Answers.{IsAnswered, IsSilent, answer_in, answers, text_sent}
 use Rattle.psu_messages.specs.Effects as effects
 use Rattle.psu_messages.specs.Effects.{Effect, Executed, Settled, Sent, IsTry, needs}
-use Rattle.psu_messages.specs.Executions.{Progress}
 use Rattle.psu_messages.specs.Executions.Reaches.{Begins as Beginning}
 use Rattle.psu_messages.specs.Messages.{AreMessages, IsAskedIn, OverIsMessages}
 use Rattle.psu_messages.specs.Messages.AreMessages.{NoMessage, OneMore}
 use Rattle.psu_messages.specs.Response.{end_of, joined, response}
-use Rattle.psu_messages.specs.declared.need.Need.{Need}
 use Rattle.psu_messages.specs.Turns.{Ended, InsideDone, IsAsked, IsInside, OverIsDone, Tried, UnitsDone, acts, is_expansion}
 use Rattle.psu_messages.specs.Turns.InsideDone.{NoneInside, OneInside}
 use Rattle.psu_messages.specs.Turns.Tried.{Untried, Again}
@@ -23,7 +21,7 @@ use Rattle.psu_messages.specs.Units as units
 use Rattle.psu_messages.specs.Units.{Asks, Fault, IsRequest, Source, faulty}
 use Rattle.psu_messages.proofs.Answering.{answers_append}
 use Rattle.psu_run.specs.Runs.{none, Does, LineRuns, LineState, UnitRuns, is_final}
-use Rattle.psu_run.specs.Script.{Rest, Spoken, SpeaksInside, SpeaksReply, Speaks, HasOutcome, UnitOutcome, with_answer}
+use Rattle.psu_run.specs.Script.{Rest, Spoken, SpeaksInside, SpeaksReply, Speaks, with_answer}
 use Rattle.psu_run.proofs.Alone.{Quiet, unit_alone}
 use Rattle.psu_run.proofs.Asking.{AskedBy, FirstAsked, FirstOf, asked_all, asked_next, asked_none, first_all, first_next, first_none}
 use Rattle.psu_run.proofs.OneMessage.{IsOneMessage}
