@@ -1,6 +1,6 @@
 -- The requests of what is executed, one after another.
 use Rattle.std.proofs.Common.{◌≡◌, ℕ, ◌+◌, ◌≤◌, Bool, false, List, [], ◌∷◌, ◌++◌, length, take, drop, refl, sym, ap, ◌∙◌, subst, arith, Result}
-use Rattle.std.proofs.lemmas.List.{append-nil, take-append-drop, take_all}
+use Rattle.std.proofs.lemmas.List.{append-nil, take_all}
 use Rattle.std.proofs.Math.Seq.{take-add}
 use Rattle.psu_lex.specs.Message.{Part, IsMessage}
 use Rattle.psu_lex.specs.declared.scpi_error.ScpiError.{ScpiError}
@@ -11,8 +11,7 @@ use Rattle.psu_messages.specs.Units as units
 use Rattle.psu_messages.specs.Units.{Asks, Fault, HasNone, IsBehind, IsRequest, IsUnit, LeadsToPath, Source, faulty, path_at}
 use Rattle.psu_messages.specs.Units.LeadsToPath.{Root, Behind}
 use Rattle.psu_run.specs.Lines.{AreAsked, AreRequests}
-use Rattle.psu_run.proofs.Readings.{SomeReading}
-use Rattle.psu_run.proofs.Scripts.{Ones, some_requests}
+use Rattle.psu_run.proofs.Scripts.{Ones, SomeUnits}
 
 -- ---- units that are read one after another
 
@@ -89,10 +88,9 @@ first_all o inside bytes count done f (list, are, short) =
       subst (λ (z : List Request). AreRequests inside [] f.list z) (append-nil done) (subst (λ (z : List Part). AreRequests inside [] z (done ++ [])) (append-nil (take count f.list) ∙ all) asks),
     )
 
-pub first_some : SomeReading → (inside : Bool) (bytes : List ℕ) (count : ℕ) (done : List Request) → FirstOf inside bytes count done → (more : List Request) × AreAsked inside bytes (done ++ more)
-first_some some inside bytes count done f =
-    let rest = some_requests some inside (drop count f.list) f.path in
-    (rest.0, (f.list, f.are, subst (λ (z : List Part). AreRequests inside [] z (done ++ rest.0)) (take-append-drop count f.list) (reads_then inside (take count f.list) [] done f.path (drop count f.list) rest.0 f.reads rest.1)))
+-- none of them
+pub first_none : SomeUnits → (inside : Bool) (bytes : List ℕ) → FirstOf inside bytes 0 []
+first_none some inside bytes = let list = some bytes in record { list = list.0; path = []; are = list.1; reads = (refl, refl) }
 
 -- ---- what is executed
 
@@ -115,6 +113,6 @@ pub asked_all : Ones → (source : Source) (count : ℕ) (done : List Request) �
 asked_all o (units.Text bytes) count done f over = first_all o false bytes count done f over
 asked_all o (Fault error) count done f over = f ∙ take_all count (faulty error ∷ []) (omega (arith, over))
 
-pub asked_some : SomeReading → (source : Source) (count : ℕ) (done : List Request) → FirstAsked source count done → (more : List Request) × AskedBy source (done ++ more)
-asked_some some (units.Text bytes) count done f = first_some some false bytes count done f
-asked_some some (Fault error) count done f = (drop count (faulty error ∷ []), ap (λ (l : List Request). l ++ drop count (faulty error ∷ [])) f ∙ take-append-drop count (faulty error ∷ []))
+pub asked_none : SomeUnits → (source : Source) → FirstAsked source 0 []
+asked_none some (units.Text bytes) = first_none some false bytes
+asked_none some (Fault error) = refl

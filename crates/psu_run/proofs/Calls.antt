@@ -13,13 +13,17 @@ use Rattle.psu_exec.specs.World.{World, Running, Event, Call, Happens, Run, Disk
 use Rattle.psu_exec.specs.declared.exec.Exec.{Exec}
 use Rattle.psu_exec.specs.declared.idle_store.IdleStore.{IdleStore}
 use Rattle.psu_tree.specs.declared.command.Request.{Request}
+use Rattle.psu_lex.specs.declared.scpi_error.ScpiError.TheVariants.{TooMuchData}
+use Rattle.psu_messages.specs.Effects as effects
+use Rattle.psu_messages.specs.Effects.{Effect}
+use Rattle.psu_messages.specs.Units.{Source, Fault, Text}
 use Rattle.psu_nv.specs.Commands.{Command as Change, applied}
 use Rattle.psu_exec.proofs.Events.{other_disk, prefix_is_left, run_keeps, while_running}
 use Rattle.psu_exec.proofs.Invariant.{kept_at_start, left_in_life, only_left}
 use Rattle.psu_run.specs.Lines.{Message}
 use Rattle.psu_run.specs.Lives.{Life, disk_at, world_of, lived, CallsOnWorld, CallsAll, unit_in, units_in, PowersOn, IsLeftBy, LeavesPrefix, Reached, StandsForPrefix}
 use Rattle.psu_run.specs.Moments.{CallsLead}
-use Rattle.psu_run.specs.Runs.{Mishaps, JobDone, Jobs, Flushes, Acts, Begins, UnitRuns, UnitsBegin, UnitsRun, ReplyBegins, ReplyRuns, LineBegins, LineRuns, NextBegins, is_final}
+use Rattle.psu_run.specs.Runs.{Mishaps, JobDone, Jobs, Flushes, Acts, Begins, Does, LineBegins, LineOf, LineRuns, LineState, MessageBegins, UnitRuns, NextBegins, at_line, is_final}
 
 -- ---- one call of the code
 
@@ -117,67 +121,45 @@ leads_one w new entry c = (entry ∷ [], (new, c, refl))
 made_then : (w mid new : World) (requests : List Request) → Executes w requests mid → CallsLead mid new → CallsLead w new
 made_then w mid new requests e m = leads_join w mid new (e.entries, e.calls) m
 
-units_made : (requests : List Request) (can : Mishaps) (w new : World) (answers all : List (List ℕ)) → UnitsRun can w answers requests all new → CallsLead w new
-units_made [] can w new answers all u = made_none w new u.0
-units_made (request ∷ requests) can w new answers all (reply, mid, u, more) =
-    made_then w mid new (request ∷ []) (unit_calls can w mid request reply u) (units_made requests can mid new _ all more)
+-- what was executed of a line
+effects_made : (list : List Effect) (can : Mishaps) (x y : LineState) → effects.Runs (Does can) x list y → CallsLead x.world y.world
+effects_made [] can x y same = made_none x.world y.world (ap (λ (z : LineState). z.world) same)
+effects_made (effects.Executed request reply ∷ list) can x y (mid, d, runs) =
+    made_then x.world mid.world y.world (request ∷ []) (unit_calls can x.world mid.world request reply d.0) (effects_made list can mid y runs)
+effects_made (effects.Settled reply ∷ list) can x y (mid, d, runs) = absurd d
+effects_made (effects.Sent text last ∷ list) can x y (mid, d, runs) = subst (λ (w : World). CallsLead w y.world) d.0 (effects_made list can mid y runs)
 
-reply_made : (reply : Reply) (can : Mishaps) (w new : World) (answers all : List (List ℕ)) → ReplyRuns can w answers reply all new → CallsLead w new
-reply_made (Expand bytes) can w new answers all (requests, asks, u) = units_made requests can w new answers all u
-reply_made Done can w new answers all u = made_none w new u.0
-reply_made (Answer a) can w new answers all u = made_none w new u.0
-reply_made (Error e) can w new answers all u = made_none w new u.0
-reply_made Parked can w new answers all u = made_none w new u.0
-reply_made Held can w new answers all u = made_none w new u.0
-reply_made Later can w new answers all u = made_none w new u.0
+line_made : (source : Source) (can : Mishaps) (w new : World) (text : List ℕ) → LineRuns can w source text new → CallsLead w new
+line_made source can w new text (c, a, over) = effects_made a.added can (at_line w) (record { world = new; text = text }) a.runs
 
-pub line_made : (requests : List Request) (can : Mishaps) (w new : World) (answers all : List (List ℕ)) → LineRuns can w answers requests all new → CallsLead w new
-line_made [] can w new answers all u = made_none w new u.0
-line_made (request ∷ requests) can w new answers all (reply, mid, some, after, u, reported, more) =
-    made_then w mid new (request ∷ []) (unit_calls can w mid request reply u)
-    (leads_join mid after new (reply_made reply can mid after answers some reported) (line_made requests can after new some all more))
+pub message_made : (m : Message) (can : Mishaps) (w new : World) (text : List ℕ) → LineOf (λ source. LineRuns can w source text new) m → CallsLead w new
+message_made Message.Power can w new text none = absurd none
+message_made Message.Overlong can w new text l = line_made (Fault TooMuchData) can w new text l
+message_made (Message.Units bytes) can w new text l = line_made (Text bytes) can w new text l
 
 -- ---- what has begun, as calls
 
 begins_made : (requests : List Request) (w new : World) → Begins w requests new → CallsLead w new
 begins_made requests w new b = (b.0, b.1)
 
-units_begun : (requests : List Request) (can : Mishaps) (w new : World) (answers all : List (List ℕ)) → UnitsBegin can w answers requests all new → CallsLead w new
-units_begun [] can w new answers all u = made_none w new u.0
-units_begun (request ∷ requests) can w new answers all (inl (b, is)) = begins_made (request ∷ []) w new b
-units_begun (request ∷ requests) can w new answers all (inr (reply, mid, u, more)) =
-    made_then w mid new (request ∷ []) (unit_calls can w mid request reply u) (units_begun requests can mid new _ all more)
+line_begun : (source : Source) (can : Mishaps) (w new : World) (text : List ℕ) → LineBegins can w source text new → CallsLead w new
+line_begun source can w new text (c, mid, a, is, inl same) = subst (λ (z : World). CallsLead w z) (sym same) (effects_made a.added can (at_line w) mid a.runs)
+line_begun source can w new text (c, mid, a, is, inr (request, next, b)) = leads_join w mid.world new (effects_made a.added can (at_line w) mid a.runs) (begins_made (request ∷ []) mid.world new b)
 
-reply_begun : (reply : Reply) (can : Mishaps) (w new : World) (answers all : List (List ℕ)) → ReplyBegins can w answers reply all new → CallsLead w new
-reply_begun (Expand bytes) can w new answers all (requests, asks, u) = units_begun requests can w new answers all u
-reply_begun Done can w new answers all u = made_none w new u.0
-reply_begun (Answer a) can w new answers all u = made_none w new u.0
-reply_begun (Error e) can w new answers all u = made_none w new u.0
-reply_begun Parked can w new answers all u = made_none w new u.0
-reply_begun Held can w new answers all u = made_none w new u.0
-reply_begun Later can w new answers all u = made_none w new u.0
-
-line_begun : (requests : List Request) (can : Mishaps) (w new : World) (answers all : List (List ℕ)) → LineBegins can w answers requests all new → CallsLead w new
-line_begun [] can w new answers all u = made_none w new u.0
-line_begun (request ∷ requests) can w new answers all (inl (b, is)) = begins_made (request ∷ []) w new b
-line_begun (request ∷ requests) can w new answers all (inr (inl (reply, mid, u, r))) =
-    made_then w mid new (request ∷ []) (unit_calls can w mid request reply u) (reply_begun reply can mid new answers all r)
-line_begun (request ∷ requests) can w new answers all (inr (inr (reply, mid, some, after, u, reported, more))) =
-    made_then w mid new (request ∷ []) (unit_calls can w mid request reply u)
-    (leads_join mid after new (reply_made reply can mid after answers some reported) (line_begun requests can after new some all more))
+message_begun : (m : Message) (can : Mishaps) (w new : World) (text : List ℕ) → MessageBegins can w m text new → CallsLead w new
+message_begun Message.Power can w new text none = absurd none
+message_begun Message.Overlong can w new text l = line_begun (Fault TooMuchData) can w new text l
+message_begun (Message.Units bytes) can w new text l = line_begun (Text bytes) can w new text l
 
 pub next_begun : (ms : List Message) (can : Mishaps) (w new : World) (text : List ℕ) → NextBegins can w ms text new → CallsLead w new
 next_begun [] can w new text n = begins_made [] w new n.0
 next_begun (m ∷ ms) can w new text (inl n) = begins_made [] w new n.0
-next_begun (m ∷ ms) can w new text (inr n) = line_begun n.0 can w new [] n.2 n.3
+next_begun (m ∷ ms) can w new text (inr n) = message_begun m can w new text n
 
 -- ---- a prefix of the requests
 
 pub begins_all : (w new : World) (requests : List Request) → Executes w requests new → Begins w requests new
 begins_all w new requests e = (e.entries, e.calls, [], sym e.are ∙ sym (append-nil (units_in e.entries)))
-
-pub begins_none : (w new : World) (requests : List Request) → Executes w [] new → Begins w requests new
-begins_none w new requests e = (e.entries, e.calls, requests, ap (λ (z : List Request). z ++ requests) (sym e.are))
 
 pub begins_then : (w mid new : World) (done rest : List Request) → Executes w done mid → Begins mid rest new → Begins w (done ++ rest) new
 begins_then w mid new done rest e b = (

@@ -10,31 +10,27 @@ use Rattle.psu_items.specs.Image.{EachRepresents}
 use Rattle.psu_items.proofs.Opening.{still_represents}
 use Rattle.psu_exec.specs.Jobs.{idle_disk}
 use Rattle.psu_map.specs.Map.{Item}
-use Rattle.psu_messages.specs.Response.{joined, response}
+use Rattle.psu_messages.specs.Units.{Source}
 use Rattle.psu_exec.specs.Consistent.{IsConsistent}
 use Rattle.psu_exec.specs.World.{World}
 use Rattle.psu_exec.specs.declared.condition.Condition.TheVariants.{Worn}
 use Rattle.psu_exec.specs.declared.exec.Exec.{Exec}
-use Rattle.psu_tree.specs.declared.command.Request.{Request}
 use Rattle.psu_run.specs.Causes.{IsWornOut, NotStarted}
 use Rattle.psu_run.specs.Failures.{extent_of, failures_of}
 use Rattle.psu_run.specs.Jobs.{IsWornAtLast}
-use Rattle.psu_run.specs.Lines.{Message, Asks, message_now, message_of, coming, has, is_power, power_line}
+use Rattle.psu_run.specs.Lines.{Message, message_now, message_of, coming, has, is_power, power_line}
 use Rattle.psu_run.specs.Lives.{Life, born, disk_at, world_of, IsLeftBy, PowersOn}
 use Rattle.psu_run.specs.Output.{Says, SaysUntil, OutputState}
 use Rattle.psu_run.specs.Moments.{IsBetween, IsWhile, Since, disk_in}
 use Rattle.psu_run.specs.Progress.{Breaks, EachMoment, Fed, DeviceContinues, DeviceStops, RunsOn, Spans, Stopped, RunEnds, RunEndsHere}
 use Rattle.psu_run.specs.Reasons.{IsAtPower, IsHaltedBy, StopsFor, never}
-use Rattle.psu_run.specs.Runs.{Mishaps, any, none, Flushes, LineBegins, LineRuns, MessageBegins, MessageRuns, NextBegins, Reopens, Runs}
+use Rattle.psu_run.specs.Runs.{Mishaps, any, none, Flushes, LineBegins, LineOf, LineRuns, MessageBegins, MessageRuns, NextBegins, Reopens, Runs}
 use Rattle.psu_run.specs.declared.run_cause.RunCause.{RunCause}
 use Rattle.psu_run.specs.declared.run_cause.RunCause.TheVariants.{Read, Write, Open, Device, TooLong, Memory as RunMemory}
 use Rattle.psu_run.specs.declared.run_fault.RunFault.{RunFault}
 use Rattle.psu_run.proofs.Calls.{Executes, begins_all, executes_none, flush_calls, job_calls, prefix_of_map, prefix_of_reached, reached_made}
 use Rattle.psu_run.proofs.Cuts.{plain_message, power_message, coming_end, found_parts, whole_tail}
 use Rattle.psu_run.specs.Effects.{line_source}
-use Rattle.psu_run.proofs.Asking.{AskedBy}
-use Rattle.psu_run.proofs.Coming.{IsLine}
-use Rattle.psu_run.proofs.OneMessage.{one_message}
 use Rattle.psu_run.proofs.OutputState.{says_join, says_none, until_after}
 use Rattle.psu_run.proofs.UnitEnds.{goes_as}
 use Rattle.psu_run.proofs.Lasting.{hands_now, hands_then, lasts_none}
@@ -48,51 +44,45 @@ use Rattle.psu_run.proofs.Within.{within_as, within_at, within_any, within_here,
 abbrev pub OutputsLine : {D A : Type 0} {G : Ghosts D} → Message → Exec D A G → Exec D A G → OutputState → OutputState → Type 0
 OutputsLine m old new output now = (text : List ℕ) × Says output now text × RunsOn old new (m ∷ []) text
 
--- the result of a message whose units gave these answers
-pub outputs_line : {D A : Type 0} {G : Ghosts D} (m : Message) (requests : List Request) (answers : List (List ℕ)) (old new : Exec D A G) (a b : OutputState) → Asks m requests → is_power m ≡ false → DeviceContinues old new (λ can w v. LineRuns can w [] requests answers v)
-    → Says a b (response answers) → OutputsLine m old new a b
-outputs_line m requests answers old new a b asks plain runs says = (
-  response answers,
-  says,
-  run_one old new m (response answers) plain (goes_as old new (λ can w v. LineRuns can w [] requests answers v) (λ can w v. MessageRuns can w m (response answers) v) runs (λ can w v u. by m plain asks can w v u)),
-)
-  where
-    by : (m : Message) → is_power m ≡ false → Asks m requests → (can : Mishaps) (w v : World) → LineRuns can w [] requests answers v → MessageRuns can w m (response answers) v
-    by Message.Power p asks can w v u = cc
-    by Message.Overlong p asks can w v u = (requests, asks, answers, u, refl)
-    by (Message.Units bytes) p asks can w v u = (requests, asks, answers, u, refl)
+-- a line that isn't that of a power loss is the message of what is executed of it
+line_message : (P : Source → Type 0) (over : Bool) (line : List ℕ) → length line ≤ 65536 → is_power (message_now over line) ≡ false → P (line_source over line) → LineOf P (message_now over line)
+line_message P true line short plain p = p
+line_message P false line short plain p = by (bytes_eq line power_line) refl where
+  by : (b : Bool) → bytes_eq line power_line ≡ b → LineOf P (message_of line)
+  by true e = let bad = sym (ap is_power (power_message line short e)) ∙ plain in cc
+  by false e = subst (LineOf P) (sym (plain_message line short e)) p
+
+line_runs : (can : Mishaps) (w v : World) (text : List ℕ) (m : Message) → LineOf (λ source. LineRuns can w source text v) m → MessageRuns can w m text v
+line_runs can w v text Message.Power l = absurd l
+line_runs can w v text Message.Overlong l = l
+line_runs can w v text (Message.Units bytes) l = l
+
+-- the result of a line that output this text
+pub outputs_line : {D A : Type 0} {G : Ghosts D} (over : Bool) (line text : List ℕ) (old new : Exec D A G) (a b : OutputState) → length line ≤ 65536 → is_power (message_now over line) ≡ false
+    → DeviceContinues old new (λ can w v. LineRuns can w (line_source over line) text v) → Says a b text → OutputsLine (message_now over line) old new a b
+outputs_line over line text old new a b short plain runs says =
+    let m = message_now over line in (
+      text,
+      says,
+      run_one old new m text plain (goes_as old new (λ can w v. LineRuns can w (line_source over line) text v) (λ can w v. MessageRuns can w m text v) runs
+          (λ can w v l. line_runs can w v text m (line_message (λ source. LineRuns can w source text v) over line short plain l))),
+    )
 
 abbrev pub BrokenLine : {D A : Type 0} {G : Ghosts D} → Message → Exec D A G → Exec D A G → OutputState → OutputState → RunCause → Type 0
 BrokenLine m old new output now cause = (part : List ℕ) × SaysUntil cause output now part × Breaks old new (λ can w v. MessageBegins can w m part v) cause
 
--- a message that stops in one of its units
-pub broken_line : {D A : Type 0} {G : Ghosts D} (m : Message) (requests : List Request) (answers : List (List ℕ)) (old new : Exec D A G) (a b : OutputState) (cause : RunCause) → Asks m requests
-    → Breaks old new (λ can w v. LineBegins can w [] requests answers v) cause → SaysUntil cause a b (joined answers) → BrokenLine m old new a b cause
-broken_line m requests answers old new a b cause asks breaks until = (
-  joined answers,
+-- a line that stops early
+pub broken_line : {D A : Type 0} {G : Ghosts D} (over : Bool) (line part : List ℕ) (old new : Exec D A G) (a b : OutputState) (cause : RunCause) → length line ≤ 65536 → is_power (message_now over line) ≡ false
+    → Breaks old new (λ can w v. LineBegins can w (line_source over line) part v) cause → SaysUntil cause a b part → BrokenLine (message_now over line) old new a b cause
+broken_line over line part old new a b cause short plain breaks until = (
+  part,
   until,
   record {
-    goes = goes_as old new (λ can w v. LineBegins can w [] requests answers v) (λ can w v. MessageBegins can w m (joined answers) v) breaks.goes (λ can w v u. (requests, asks, answers, u, refl));
+    goes = goes_as old new (λ can w v. LineBegins can w (line_source over line) part v) (λ can w v. MessageBegins can w (message_now over line) part v) breaks.goes
+        (λ can w v l. line_message (λ source. LineBegins can w source part v) over line short plain l);
     why = breaks.why;
   },
 )
-
--- a line that isn't over and isn't that of a power loss is a message of units
-plain_now : (over : Bool) (line : List ℕ) → over ≡ false → length line ≤ 65536 → is_power (message_now over line) ≡ false → message_now over line ≡ Message.Units line
-plain_now true line o short p = cc
-plain_now false line o short p = by (bytes_eq line power_line) refl where
-  by : (b : Bool) → bytes_eq line power_line ≡ b → message_of line ≡ Message.Units line
-  by true e = let bad = sym (ap is_power (power_message line short e)) ∙ p in cc
-  by false e = plain_message line short e
-
--- the requests of a line
-pub asks_line : (over : Bool) (line : List ℕ) (requests : List Request) → length line ≤ 65536 → is_power (message_now over line) ≡ false → AskedBy (line_source over line) requests → Asks (message_now over line) requests
-asks_line true line requests short plain asks = asks
-asks_line false line requests short plain asks = subst (λ (m : Message). Asks m requests) (sym (plain_now false line refl short plain)) asks
-
-pub is_line : (over : Bool) (line : List ℕ) → has 10 line ≡ false → IsLine (line_source over line)
-is_line true line free = tt
-is_line false line free = one_message line free
 
 -- ---- a restart
 

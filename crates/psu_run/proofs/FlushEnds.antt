@@ -26,7 +26,7 @@ use Rattle.psu_run.specs.Within.{Within}
 use Rattle.psu_run.specs.Moments.{IsBetween, CallsLead, Since, disk_in}
 use Rattle.psu_run.specs.Progress.{DeviceContinues, DeviceStops, Lasts, Spans}
 use Rattle.psu_run.specs.declared.run_cause.RunCause.TheVariants.{Memory as RunMemory, Device as RunDevice}
-use Rattle.psu_run.proofs.Calls.{Executes, executes_one, executes_join, jobs_calls, begins_none, leads_join, leads_one, prefix_of_either, reached_made}
+use Rattle.psu_run.proofs.Calls.{Executes, executes_one, executes_join, jobs_calls, begins_all, leads_join, leads_one, prefix_of_either, reached_made}
 use Rattle.psu_run.proofs.Moments.{since_as, spans_none, spans_same}
 use Rattle.psu_run.proofs.Lasting.{lasts_none}
 use Rattle.psu_run.proofs.Within.{within_itself, failed_before, failed_on, within_as, within_here, within_at, within_then}
@@ -190,7 +190,7 @@ still_spans old new life same there = spans_same old new life (world_of life new
 pub halts_short : {D A : Type 0} {G : Ghosts D} (old new : Exec D A G) → (Ghosts.honest G → (life : Life) → Executes (world_of life old) [] (world_of life new) × Spans old new (world_of life old) (world_of life new))
     → Lasts old new → DeviceStops old new [] RunMemory
 halts_short old new calls lasts = record {
-  begun = λ h life. let c = calls h life in (life, begins_none (world_of life old) (world_of life new) [] c.0, c.1);
+  begun = λ h life. let c = calls h life in (life, begins_all (world_of life old) (world_of life new) [] c.0, c.1);
   lasts = lasts;
   why = λ h. tt;
   own = λ e. cc;
@@ -233,7 +233,7 @@ still_broken {D} {A} {G} old taken new j short h there run long broke =
 pub halts_broken : {D A : Type 0} {G : Ghosts D} (old new : Exec D A G) → (Ghosts.honest G → (life : Life) → Executes (world_of life old) [] (world_of life new) × Spans old new (world_of life old) (world_of life new))
     → Lasts old new → (Ghosts.honest G → HasFailed (failures_of old) (failures_of new)) → DeviceStops old new [] RunDevice
 halts_broken old new calls lasts failed = record {
-  begun = λ h life. let c = calls h life in (life, begins_none (world_of life old) (world_of life new) [] c.0, c.1);
+  begun = λ h life. let c = calls h life in (life, begins_all (world_of life old) (world_of life new) [] c.0, c.1);
   lasts = lasts;
   why = λ h. inl (failed h);
   own = λ e. cc;

@@ -1,8 +1,7 @@
 -- Prefixes of a text that is written.
 use Rattle.std.proofs.Common.{◌≡◌, ℕ, ◌+◌, ◌≤◌, List, [], ◌++◌, length, take, drop, sym, ap, ◌∙◌, subst, arith, Option, ◌-◌, Result, Ok, Err, OnErr, IfErr, IsErrAnd}
 use Rattle.std.proofs.lemmas.Grind.{common_steps}
-use Rattle.std.proofs.lemmas.List.{append-nil}
-use Rattle.std.proofs.Math.Seq.{take-add, take-append-add, take-append_seam}
+use Rattle.std.proofs.Math.Seq.{take-add, take-append-add}
 use Rattle.std.proofs.Common.{length-append}
 use Rattle.std.proofs.KnownBytes.{Appends-trans}
 use Rattle.std.specs.Io.KnownBytes.{Appends, Consumes}
@@ -12,10 +11,6 @@ use Rattle.psu_run.proofs.Cuts.{whole_tail}
 pub starts_after : (t s rest : List ℕ) → StartsWith rest s → StartsWith (t ++ rest) (t ++ s)
 starts_after t s rest h =
     ap (λ (n : ℕ). take n (t ++ rest)) (length-append t s) ∙ take-append-add t rest (length s) ∙ ap (λ (z : List ℕ). t ++ z) h
-
--- the whole text is a prefix
-pub starts_whole : (text : List ℕ) → StartsWith text text
-starts_whole text = subst (λ (z : List ℕ). StartsWith z text) (append-nil text) (take-append_seam text [])
 
 -- a write of the rest
 pub put_step : (all : List ℕ) (at n : ℕ) (u v w : Option (List ℕ)) → at ≤ length all → n ≤ length (take (length all - at) (drop at all))

@@ -11,10 +11,9 @@ pub mod FlushEnds
 pub mod SessionOne
 pub mod UnitEnds
 pub mod LateUnits
-pub mod MessageEnds
 pub mod OneMessage
-pub mod Coming
-pub mod Stopping
+pub mod Following
+pub mod LinesAlone
 pub mod Starting
 pub mod Passing
 pub mod Feeding

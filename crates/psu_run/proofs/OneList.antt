@@ -16,7 +16,7 @@ use Rattle.psu_run.specs.Lines.{Message}
 use Rattle.psu_run.specs.Lives.{CallsAll, EventsLead, IsLeftBy, PowersOn, Reached}
 use Rattle.psu_run.specs.Moments.{CallsLead}
 use Rattle.psu_run.specs.Runs.{Mishaps, Flushes, MessageRuns, NextBegins, Reopens, Runs}
-use Rattle.psu_run.proofs.Calls.{Executes, flush_calls, happens, job_calls, line_made, next_begun}
+use Rattle.psu_run.proofs.Calls.{Executes, flush_calls, happens, job_calls, message_made, next_begun}
 
 -- ---- lists of events
 
@@ -138,8 +138,8 @@ reopens_leads can w new (inr (broke, done, mended)) = executed_leads w new (job_
 
 message_leads : (m : Message) (can : Mishaps) (w new : World) (text : List ℕ) → MessageRuns can w m text new → EventsLead w new
 message_leads Message.Power can w new text (none, over, reopens, p) = leads_then w over new (reopens_leads can w over reopens) (power_leads over new p)
-message_leads Message.Overlong can w new text m = made_leads w new (line_made m.0 can w new [] m.2 m.3)
-message_leads (Message.Units bytes) can w new text m = made_leads w new (line_made m.0 can w new [] m.2 m.3)
+message_leads Message.Overlong can w new text m = made_leads w new (message_made Message.Overlong can w new text m)
+message_leads (Message.Units bytes) can w new text m = made_leads w new (message_made (Message.Units bytes) can w new text m)
 
 pub runs_lead : (ms : List Message) (can : Mishaps) (w new : World) (text : List ℕ) → Runs can w ms text new → EventsLead w new
 runs_lead [] can w new text r = ([], r.0)

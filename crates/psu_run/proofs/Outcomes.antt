@@ -20,12 +20,11 @@ use Rattle.psu_run.proofs.Moments.{since_then, since_to}
 use Rattle.psu_run.specs.Reasons.{EndsFor}
 use Rattle.psu_run.specs.Progress.{EachMoment}
 use Rattle.psu_run.specs.Results.{WritesFirst, WritesRun, disk_of}
-use Rattle.psu_run.specs.Runs.{Mishaps, none, Flushes, NextBegins, Runs}
+use Rattle.psu_run.specs.Runs.{Mishaps, none, Flushes, NextBegins, Runs, ScriptAlone}
 use Rattle.psu_run.specs.Script.{IsScript}
 use Rattle.psu_run.specs.Within.{Within}
 use Rattle.psu_run.specs.declared.run_fault.RunFault.{RunFault}
 use Rattle.psu_run.specs.declared.run_cause.RunCause.{RunCause}
-use Rattle.psu_run.proofs.MessagesAlone.{script_is_alone}
 use Rattle.psu_run.proofs.Calls.{flush_calls, flush_running, flushed_stands, leaves_prefix, reached_calls, reached_on}
 use Rattle.psu_run.proofs.OneList.{first_leads, left_leads, reached_next, reached_runs, whole_leads}
 use Rattle.psu_run.proofs.Causes.{ends_late}
@@ -68,11 +67,7 @@ run_early {D} {A} {G} by_input from u v image s fault before h starts same worn 
       last = e.1;
       begun = begun;
       why = e.6;
-      front = p.front;
-      written = p.appends;
-      start_of = p.starts;
-      whole = p.whole;
-      missing = p.missing;
+      wrote = p.wrote;
       kept = leaves_prefix e.1 (Ghosts.state G fault.disk) reached e.5;
       since = λ from same. first_leads image p.done p.rest went.0 e.4.0 (world_of (born s) s) e.0 e.1 from p.text p.part starts ran begun same;
       stopped = behind.0;
@@ -89,15 +84,15 @@ run_cause {D} {A} {G} by_input from u v image s fault before h starts same worn 
     (stops_since by_input before w.count (Ghosts.failures G fault.disk) w.rest w.last (Ghosts.state G fault.disk).bytes fault.cause w.later w.why)
 
 -- the text that is written for a known input where nothing goes wrong
-script_of : (from : Option (List ℕ)) (image : List ℕ) (due : List Message) (text : List ℕ) (first last : World) → Brings from due → PowersOn image first → Runs none first due text last
+script_of : ScriptAlone → (from : Option (List ℕ)) (image : List ℕ) (due : List Message) (text : List ℕ) (first last : World) → Brings from due → PowersOn image first → Runs none first due text last
     → IfSome from (λ input. IsScript first.start first.limit input text)
-script_of None image due text first last brought starts runs = tt
-script_of (Some input) image due text first last brought starts runs = script_is_alone image input text first last starts (subst (λ (m : List Message). Runs none first m text last) brought runs)
+script_of alone None image due text first last brought starts runs = tt
+script_of alone (Some input) image due text first last brought starts runs = alone image input text first last starts (subst (λ (m : List Message). Runs none first m text last) brought runs)
 
 -- the run succeeded
-pub run_whole : {D A : Type 0} {G : Ghosts D} (from u v : Option (List ℕ)) (image : List ℕ) (s : Exec D A G) (disk : D) (before : ℕ) → Ghosts.honest G → PowersOn image (world_of (born s) s) → failures_of s ≡ before
+pub run_whole : {D A : Type 0} {G : Ghosts D} → ScriptAlone → (from u v : Option (List ℕ)) (image : List ℕ) (s : Exec D A G) (disk : D) (before : ℕ) → Ghosts.honest G → PowersOn image (world_of (born s) s) → failures_of s ≡ before
     → Whole s disk from u v → WritesRun image from before (Ghosts.failures G disk) u v (Ghosts.state G disk)
-run_whole {D} {A} {G} from u v image s disk before h starts same (due, brought, p) =
+run_whole {D} {A} {G} alone from u v image s disk before h starts same (due, brought, p) =
     let first : World = world_of (born s) s in
     let e = p.ends h (born s) in
     let went : Within before (Ghosts.failures G disk) (λ can. Runs can first due p.text e.0 × Flushes can e.0 e.1)
@@ -116,7 +111,7 @@ run_whole {D} {A} {G} from u v image s disk before h starts same (due, brought, 
       written = p.written;
       last = e.0;
       runs = both.0;
-      calm = λ z. script_of from image due p.text first e.0 brought starts (subst (λ (m : Mishaps). Runs m first due p.text e.0) z both.0);
+      calm = λ z. script_of alone from image due p.text first e.0 brought starts (subst (λ (m : Mishaps). Runs m first due p.text e.0) z both.0);
       over = e.1;
       ends = both.1;
       flushed = e.3;

@@ -2,17 +2,17 @@
 use Rattle.std.proofs.Common.{◌≡◌, ℕ, false, List, [], ◌∷◌, ◌++◌, refl, sym, ap, ◌∙◌, subst, inl, inr, append_assoc, Option}
 use Rattle.std.proofs.lemmas.List.{append-nil}
 use Rattle.psu_disk.specs.declared.disk.Disk.{Ghosts}
-use Rattle.psu_messages.specs.Response.{joined}
+use Rattle.psu_lex.specs.declared.scpi_error.ScpiError.TheVariants.{TooMuchData}
+use Rattle.psu_messages.specs.Units.{Source, Fault, Text}
 use Rattle.psu_exec.specs.World.{World}
 use Rattle.psu_exec.specs.declared.exec.Exec.{Exec}
 use Rattle.psu_run.specs.Lines.{Message, is_power}
 use Rattle.psu_run.specs.Lives.{Life, StandsForPrefix, world_of}
 use Rattle.psu_run.specs.Moments.{IsBetween, IsWhile, disk_in}
 use Rattle.psu_run.specs.Progress.{EachMoment, DeviceContinues, RunsOn}
-use Rattle.psu_run.specs.Runs.{Mishaps, any, Begins, MessageBegins, MessageRuns, NextBegins, Runs}
+use Rattle.psu_run.specs.Runs.{Mishaps, any, Begins, LineBegins, LineRuns, MessageBegins, MessageRuns, NextBegins, Runs}
 use Rattle.psu_run.proofs.Calls.{begins_all, executes_none, prefix_of_reached}
 use Rattle.psu_run.proofs.OneList.{reached_runs}
-use Rattle.psu_run.proofs.MessageEnds.{line_over}
 use Rattle.psu_run.proofs.Lasting.{lasts_none, lasts_then}
 use Rattle.psu_run.proofs.Moments.{here, leads_none, since_as, since_idle, since_then}
 use Rattle.psu_run.proofs.Within.{within_as, within_any, within_here, within_then}
@@ -80,11 +80,14 @@ while_idle w v due image b between = while_begun w v due [] image (idle_begins a
 pub while_here : (w : World) (due : List Message) (image : List ℕ) → StandsForPrefix w image → IsWhile w due image
 while_here w due image p = while_idle w w due image (begins_all w w [] (executes_none w)) (here w w image (leads_none w) p)
 
--- a message with all its units is one that has begun
+-- a line with all its units is one that has begun
+line_begun : (source : Source) (can : Mishaps) (w v : World) (text : List ℕ) → LineRuns can w source text v → (part : List ℕ) × LineBegins can w source part v
+line_begun source can w v text (c, a, over) = (text ++ c.text.rest, (c, record { world = v; text = text }, a, refl, inl refl))
+
 message_begun : (can : Mishaps) (w v : World) (m : Message) (text : List ℕ) → is_power m ≡ false → MessageRuns can w m text v → (part : List ℕ) × MessageBegins can w m part v
 message_begun can w v Message.Power text plain r = cc
-message_begun can w v Message.Overlong text plain r = (joined r.2, (r.0, r.1, r.2, line_over can w v [] r.2 r.0 r.3, refl))
-message_begun can w v (Message.Units bytes) text plain r = (joined r.2, (r.0, r.1, r.2, line_over can w v [] r.2 r.0 r.3, refl))
+message_begun can w v Message.Overlong text plain r = line_begun (Fault TooMuchData) can w v text r
+message_begun can w v (Message.Units bytes) text plain r = line_begun (Text bytes) can w v text r
 
 -- each moment of one message
 pub run_one : {D A : Type 0} {G : Ghosts D} (old new : Exec D A G) (m : Message) (text : List ℕ) → is_power m ≡ false → DeviceContinues old new (λ can w v. MessageRuns can w m text v) → RunsOn old new (m ∷ []) text

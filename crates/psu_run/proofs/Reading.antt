@@ -12,7 +12,7 @@ use Rattle.psu_exec.specs.World.{World}
 use Rattle.psu_run.specs.Failures.{extent_of, failures_of}
 use Rattle.psu_run.specs.Lines.{Message, Brings, message_now, messages, coming, has, is_none_begun}
 use Rattle.psu_run.specs.Lives.{disk_at, world_of}
-use Rattle.psu_run.specs.Output.{Says, OutputState, WritesShort}
+use Rattle.psu_run.specs.Output.{Says, OutputState, WritesShort, WritesUntil}
 use Rattle.psu_run.specs.Reasons.{StopsFor, never}
 use Rattle.psu_run.specs.declared.run_cause.RunCause.{RunCause}
 use Rattle.psu_run.specs.declared.run_cause.RunCause.TheVariants.{Write}
@@ -25,9 +25,9 @@ use Rattle.psu_run.proofs.Feeding.{FaultOf, flush_moments, stops_now, stops_then
 use Rattle.psu_run.proofs.Passing.{runs_all, runs_join, runs_none, then_moments}
 use Rattle.psu_run.proofs.Moments.{since_back}
 use Rattle.psu_run.proofs.Lasting.{hands_now, hands_then}
-use Rattle.psu_run.proofs.Fronts.{starts_after, starts_whole}
+use Rattle.psu_run.proofs.Fronts.{starts_after}
 use Rattle.psu_run.proofs.Cuts.{coming_end, coming_last, coming_none}
-use Rattle.psu_run.proofs.OutputState.{longer}
+use Rattle.psu_run.proofs.OutputState.{longer, short_behind}
 use Rattle.psu_run.proofs.Within.{within_at, within_then}
 
 -- ---- ends
@@ -60,11 +60,7 @@ early_here by_input old fault due w cause f other why = record {
   text = [];
   part = [];
   stops = stops_then by_input old old fault [] due [] [] (runs_none old) (stops_now by_input old fault due cause f why);
-  front = [];
-  appends = Appends-nil w;
-  starts = refl;
-  whole = λ e. refl;
-  missing = λ e. absurd (other (sym f.cause_is ∙ e));
+  wrote = record { whole = λ e. Appends-nil w; missing = λ e. absurd (other (sym f.cause_is ∙ e)) };
 }
 
 -- after messages that were answered
@@ -77,11 +73,10 @@ early_after by_input old mid fault due done more text u v w is goes p b = record
   text = text ++ b.text;
   part = b.part;
   stops = stops_more by_input old mid fault done b.done b.rest text b.text b.part goes b.stops;
-  front = text ++ b.front;
-  appends = Appends-trans u v w text b.front p b.appends;
-  starts = subst (λ (z : List ℕ). StartsWith z (text ++ b.front)) (sym (append_assoc text b.text b.part)) (starts_after text b.front (b.text ++ b.part) b.starts);
-  whole = λ e. ap (λ (z : List ℕ). text ++ z) (b.whole e) ∙ sym (append_assoc text b.text b.part);
-  missing = λ e. subst (λ (z : List ℕ). length (text ++ b.front) < length z) (sym (append_assoc text b.text b.part)) (longer text b.front (b.text ++ b.part) (b.missing e));
+  wrote = subst (WritesUntil fault.cause u w) (sym (append_assoc text b.text b.part)) (record {
+    whole = λ e. Appends-trans u v w text (b.text ++ b.part) p (b.wrote.whole e);
+    missing = λ e. short_behind u v w text (b.text ++ b.part) p (b.wrote.missing e);
+  });
 }
 
 -- what ends a run early while nothing is read ends it also where something is
@@ -97,11 +92,7 @@ early_never_long {D} {A} {G} by_input old fault due u v p = record {
     stops = λ h worn life. let s = p.stops.stops h worn life in
         (s.0, s.1, s.2, s.3, s.4, s.5, never_long by_input s.2 (Ghosts.failures G fault.disk) p.rest s.1 (Ghosts.state G fault.disk).bytes fault.cause s.6, s.7);
   };
-  front = p.front;
-  appends = p.appends;
-  starts = p.starts;
-  whole = p.whole;
-  missing = p.missing;
+  wrote = p.wrote;
 }
 
 -- ---- pieces
@@ -252,11 +243,7 @@ early_as s fault due done rest text part u v is stops w write = record {
   text = text;
   part = part;
   stops = stops;
-  front = w.0;
-  appends = w.1;
-  starts = w.2;
-  whole = λ e. absurd (e write);
-  missing = λ e. w.3;
+  wrote = record { whole = λ e. absurd (e write); missing = λ e. w };
 }
 
 -- a proper prefix of the output of a piece is written, and the device is the one after the piece
@@ -276,11 +263,7 @@ stopped_whole f piece s fault a b shown v p none own d w input = record {
   text = p.1;
   part = p.2;
   stops = (p.4 input).2;
-  front = p.1 ++ p.2;
-  appends = said_written a b (p.1 ++ p.2) v none (p.3.whole own) (subst (Appends b.written v) d w);
-  starts = starts_whole (p.1 ++ p.2);
-  whole = λ e. refl;
-  missing = λ e. absurd (own e);
+  wrote = record { whole = λ e. said_written a b (p.1 ++ p.2) v none (p.3.whole own) (subst (Appends b.written v) d w); missing = λ e. absurd (own e) };
 }
 
 -- a fault of the writer in a piece
@@ -350,11 +333,7 @@ answers_early due s s1 fault u v p other stop = record {
   text = p.0;
   part = [];
   stops = stops_then never s s1 fault due [] p.0 [] p.2 stop;
-  front = p.0;
-  appends = p.1;
-  starts = subst (λ (z : List ℕ). StartsWith z p.0) (sym (append-nil p.0)) (starts_whole p.0);
-  whole = λ e. sym (append-nil p.0);
-  missing = λ e. absurd (other e);
+  wrote = record { whole = λ e. subst (Appends u v) (sym (append-nil p.0)) p.1; missing = λ e. absurd (other e) };
 }
 
 -- responses that are complete, and then a flush that leaves nothing unflushed

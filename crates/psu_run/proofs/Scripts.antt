@@ -34,7 +34,7 @@ abbrev pub AllHold : List Request → Type 0
 AllHold [] = ⊤
 AllHold (request ∷ requests) = Holds request × AllHold requests
 
-held_by : (given : Result Syntax ScpiError) (call : Option MacroCall) → SyntaxCalls given call → (list : List Datum) × HoldsParameters call list
+pub held_by : (given : Result Syntax ScpiError) (call : Option MacroCall) → SyntaxCalls given call → (list : List Datum) × HoldsParameters call list
 held_by given None c = ([], refl)
 held_by (Ok syntax) (Some call) c = (syntax.parameters, c.2)
 held_by (Err e) (Some call) c = cc

@@ -22,6 +22,11 @@ held written text = record { written = written; gathered = text }
 abbrev pub output_state : {A : Type 0} → Option (List ℕ) → Unwritten A → OutputState
 output_state written unwritten = held written (unwritten.output.items ++ unwritten.gathered.rest)
 
+-- At a fault, this text was to be written. It is, except where the writer failed: then some of it is missing.
+pub record WritesUntil (cause : RunCause) (old new : Option (List ℕ)) (text : List ℕ) : Type 0 where
+  pub whole : cause ≢ Write → Appends old new text
+  pub missing : cause ≡ Write → WritesShort old new text
+
 -- the output grew by `more`, whether written or buffered
 abbrev pub Says : OutputState → OutputState → List ℕ → Type 0
 Says old new more = (front : List ℕ) × Appends old.written new.written front × (front ++ new.gathered ≡ old.gathered ++ more)

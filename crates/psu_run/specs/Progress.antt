@@ -1,7 +1,6 @@
 -- The progress of a run: what each of its parts has executed and output.
-use Rattle.std.specs.Prelude.{◌≡◌, ◌≢◌, ◌⊎◌, ℕ, ◌<◌, ◌≤◌, List, ◌++◌, length, Option, Some}
+use Rattle.std.specs.Prelude.{◌≡◌, ◌≢◌, ◌⊎◌, ℕ, ◌≤◌, List, ◌++◌, Option, Some}
 use Rattle.std.specs.Io.KnownBytes.{Appends}
-use Rattle.std.specs.Io.{StartsWith}
 use Rattle.psu_disk.specs.declared.disk.Disk.{Ghosts}
 use Rattle.psu_tree.specs.declared.command.Request.{Request}
 use Rattle.psu_exec.specs.Device.{Reply, Later}
@@ -13,7 +12,7 @@ use Rattle.psu_run.specs.Jobs.{IsWornAtLast}
 use Rattle.psu_run.specs.Lines.{Message}
 use Rattle.psu_run.specs.Lives.{Life, world_of, CallsOnWorld, IsLeftBy, Reached}
 use Rattle.psu_run.specs.Moments.{IsBetween, IsNow, IsWhile, CallsLead, Since, disk_in}
-use Rattle.psu_run.specs.Output.{OutputState, Says, SaysUntil}
+use Rattle.psu_run.specs.Output.{OutputState, Says, SaysUntil, WritesUntil}
 use Rattle.psu_run.specs.Reasons.{IsHaltedBy, StopsFor, never}
 use Rattle.psu_run.specs.Runs.{Mishaps, Acts, Begins, Flushes, NextBegins, Runs}
 use Rattle.psu_run.specs.Within.{Within}
@@ -129,8 +128,8 @@ abbrev pub Answers : {D A : Type 0} {G : Ghosts D} → List Message → Exec D A
 Answers due old new old_written new_written =
     (text : List ℕ) × Appends old_written new_written text × RunsOn old new due text
 
--- A run ended early. The output of the executed messages is written, and what was output of the next one; where the
--- writer failed, a proper prefix of that.
+-- A run ended early. The output of the executed messages is written, and what was output of the next one, except where
+-- the writer failed.
 pub record EndsEarly {D A : Type 0} {G : Ghosts D} (by_input : RunCause → Type 0) (old : Exec D A G) (fault : RunFault D) (due : List Message) (old_written new_written : Option (List ℕ)) : Type 0 where
   pub done : List Message
   pub rest : List Message
@@ -138,11 +137,7 @@ pub record EndsEarly {D A : Type 0} {G : Ghosts D} (by_input : RunCause → Type
   pub text : List ℕ
   pub part : List ℕ
   pub stops : RunEnds by_input old fault done rest text part
-  pub front : List ℕ
-  pub appends : Appends old_written new_written front
-  pub starts : StartsWith (text ++ part) front
-  pub whole : fault.cause ≢ Write → front ≡ text ++ part
-  pub missing : fault.cause ≡ Write → length front < length (text ++ part)
+  pub wrote : WritesUntil fault.cause old_written new_written (text ++ part)
 
 -- The messages were executed and their text was output; then all accepted changes were flushed.
 pub record RanAll {D A : Type 0} {G : Ghosts D} (old : Exec D A G) (due : List Message) (disk : D) (old_written new_written : Option (List ℕ)) : Type 0 where

@@ -1,7 +1,6 @@
 -- The result of a run, where it succeeds and where it ends early.
-use Rattle.std.specs.Prelude.{◌≡◌, ◌≢◌, ℕ, ◌<◌, ◌≤◌, true, List, [], ◌++◌, length, Option, Result, Ok, Err, IfSome}
+use Rattle.std.specs.Prelude.{◌≡◌, ℕ, ◌≤◌, true, List, [], ◌++◌, Option, Result, Ok, Err, IfSome}
 use Rattle.std.specs.Io.KnownBytes.{Appends}
-use Rattle.std.specs.Io.{StartsWith}
 use Rattle.psu_disk.specs.Disk.{DiskState, HasFailed}
 use Rattle.psu_map.specs.Map.{Item}
 use Rattle.psu_items.specs.Image.{EachRepresents}
@@ -10,11 +9,11 @@ use Rattle.psu_exec.specs.World.{World}
 use Rattle.psu_run.specs.Causes.{NotStarted}
 use Rattle.psu_run.specs.Lines.{Message, Brings}
 use Rattle.psu_run.specs.Lives.{EventsLead, PowersOn, LeavesPrefix}
+use Rattle.psu_run.specs.Output.{WritesUntil}
 use Rattle.psu_run.specs.Reasons.{StopsFor}
 use Rattle.psu_run.specs.Runs.{Mishaps, none, Flushes, NextBegins, Runs}
 use Rattle.psu_run.specs.Script.{IsScript}
 use Rattle.psu_run.specs.declared.run_cause.RunCause.{RunCause}
-use Rattle.psu_run.specs.declared.run_cause.RunCause.TheVariants.{Write}
 use Rattle.psu_run.specs.declared.run_fault.RunFault.{RunFault}
 
 -- A whole run on an image: the messages that the input brings were executed, and the writer gained a text that may be
@@ -76,12 +75,8 @@ pub record WritesFirst (by_input : RunCause → Type 0) (cause : RunCause) (imag
   pub last : World
   pub begun : NextBegins gone_then mid rest part last
   pub why : StopsFor by_input count new_count rest last disk.bytes cause
-  -- what is written
-  pub front : List ℕ
-  pub written : Appends old_written new_written front
-  pub start_of : StartsWith (text ++ part) front
-  pub whole : cause ≢ Write → front ≡ text ++ part
-  pub missing : cause ≡ Write → length front < length (text ++ part)
+  -- what is written, and what is on the disk
+  pub wrote : WritesUntil cause old_written new_written (text ++ part)
   pub kept : LeavesPrefix last disk
   pub since : (before : World) → before.disk.bytes ≡ image → EventsLead before last
   pub stopped : World

@@ -3,15 +3,18 @@ use Rattle.std.specs.Prelude.{◌≡◌, ◌⊎◌, ℕ, zero, suc, ◌≤◌, B
 use Rattle.psu_items.specs.declared.commit.UnstartedCause.TheVariants.{Memory}
 use Rattle.psu_items.specs.declared.broken.BrokenCause.TheVariants as broken_cause
 use Rattle.psu_tree.specs.declared.command.Request.{Request}
-use Rattle.psu_lex.specs.declared.scpi_error.ScpiError.TheVariants.{OutOfMemory}
-use Rattle.psu_messages.specs.Response.{joined, response}
-use Rattle.psu_exec.specs.Device.{Reply, Error, Expand, Parked, Held, Later, is_broken}
+use Rattle.psu_lex.specs.declared.scpi_error.ScpiError.TheVariants.{OutOfMemory, TooMuchData}
+use Rattle.psu_messages.specs.Effects as effect
+use Rattle.psu_messages.specs.Effects.{Effect}
+use Rattle.psu_messages.specs.Executions.{Advances, IsNext, IsOver, Progress, beginning}
+use Rattle.psu_messages.specs.Units.{Source, Fault, Text}
+use Rattle.psu_exec.specs.Device.{Reply, Error, Parked, Held, Later, is_broken}
 use Rattle.psu_exec.specs.Calls.{Entry, JobKind, Commit, Reopen, JobData, JobEnd, Stored, Unstarted, Failed, Reopened, Job, Nothing, Executed, Settled, Took, GaveBack}
 use Rattle.psu_exec.specs.World.{World}
-use Rattle.psu_run.specs.Lines.{Message, Asks, AsksInside, messages}
+use Rattle.psu_run.specs.Lines.{Message, messages}
 use Rattle.psu_run.specs.Causes.{IsWornOut}
 use Rattle.psu_run.specs.Lives.{CallsOnWorld, CallsAll, PowersOn, units_in}
-use Rattle.psu_run.specs.Script.{with_answer, IsScript}
+use Rattle.psu_run.specs.Script.{IsScript}
 
 -- what may go wrong: memory refused inside a unit, a failed disk call, a store whose root number is the last
 pub record Mishaps : Type 0 where
@@ -80,10 +83,6 @@ abbrev pub is_later : Reply → Bool
 is_later Later = true
 is_later reply = false
 
-abbrev pub is_expansion : Reply → Bool
-is_expansion (Expand bytes) = true
-is_expansion reply = false
-
 -- the unit is finished
 abbrev pub is_final : Reply → Bool
 is_final Parked = false
@@ -104,33 +103,41 @@ UnitRuns can w request reply new =
     Acts can w request reply new
     ⊎ ((late : World) × (over : World) × CallsOnWorld w (Executed 1 request Later) late × Flushes can late over × Acts can over request reply new)
 
--- the units of an expansion, from the answers so far to all of them; none of them is replaced by another expansion
-abbrev pub UnitsRun : Mishaps → World → List (List ℕ) → List Request → List (List ℕ) → World → Type 0
-UnitsRun can w answers [] all new = (new ≡ w) × (all ≡ answers)
-UnitsRun can w answers (request ∷ more) all new =
-    (reply : Reply) × (mid : World) × UnitRuns can w request reply mid × UnitsRun can mid (with_answer answers reply) more all new
+-- ---- a line, in the words of psu_messages
 
--- the effect of a unit's reply: it is added to the answers, or an expansion is executed in the unit's place
-abbrev pub ReplyRuns : Mishaps → World → List (List ℕ) → Reply → List (List ℕ) → World → Type 0
-ReplyRuns can w answers (Expand bytes) all new = (requests : List Request) × AsksInside bytes requests × UnitsRun can w answers requests all new
-ReplyRuns can w answers reply all new = (new ≡ w) × (all ≡ with_answer answers reply)
+-- the device, and the text that a line has output
+pub record LineState : Type 0 where
+  pub world : World
+  pub text : List ℕ
 
--- the units of a message, from the answers so far to all of them
-abbrev pub LineRuns : Mishaps → World → List (List ℕ) → List Request → List (List ℕ) → World → Type 0
-LineRuns can w answers [] all new = (new ≡ w) × (all ≡ answers)
-LineRuns can w answers (request ∷ more) all new =
-    (reply : Reply) × (mid : World) × (some : List (List ℕ)) × (after : World)
-    × UnitRuns can w request reply mid × ReplyRuns can mid answers reply some after × LineRuns can after some more all new
+abbrev pub at_line : World → LineState
+at_line w = record { world = w; text = [] }
+
+-- What an effect does. A unit is executed with the flushes that it waits for, so no unit is settled.
+abbrev pub Does : Mishaps → LineState → Effect → LineState → Type 0
+Does can x (effect.Executed request reply) y = UnitRuns can x.world request reply y.world × (y.text ≡ x.text)
+Does can x (effect.Settled reply) y = ⊥
+Does can x (effect.Sent text last) y = (y.world ≡ x.world) × (y.text ≡ x.text ++ text)
+
+-- an execution of all of a line has output this text
+abbrev pub LineRuns : Mishaps → World → Source → List ℕ → World → Type 0
+LineRuns can w source text new = (c : Progress) × Advances (Does can) source (at_line w) beginning (record { world = new; text = text }) c × IsOver source c
 
 -- a broken store is reopened, and any other is left unchanged
 abbrev pub Reopens : Mishaps → World → World → Type 0
 Reopens can w new = ((is_broken w.state.flush.store ≡ false) × (new ≡ w))
     ⊎ ((is_broken w.state.flush.store ≡ true) × JobDone can w new × (is_broken new.state.flush.store ≡ false))
 
+-- P of what is executed of a message: of its bytes, or of the error that they are too many
+abbrev pub LineOf : (Source → Type 0) → Message → Type 0
+LineOf P Message.Power = ⊥
+LineOf P Message.Overlong = P (Fault TooMuchData)
+LineOf P (Message.Units bytes) = P (Text bytes)
+
 -- a message with its text; after a power loss at rest the disk has the bytes that a read returns
 abbrev pub MessageRuns : Mishaps → World → Message → List ℕ → World → Type 0
 MessageRuns can w Message.Power text new = (text ≡ []) × (over : World) × Reopens can w over × PowersOn over.disk.bytes new
-MessageRuns can w m text new = (requests : List Request) × Asks m requests × (all : List (List ℕ)) × LineRuns can w [] requests all new × (text ≡ response all)
+MessageRuns can w m text new = LineOf (λ source. LineRuns can w source text new) m
 
 -- the messages of an input with their text
 abbrev pub Runs : Mishaps → World → List Message → List ℕ → World → Type 0
@@ -144,31 +151,15 @@ Runs can w (m ∷ ms) text new =
 abbrev pub Begins : World → List Request → World → Type 0
 Begins w requests new = (entries : List Entry) × CallsAll w entries new × (more : List Request) × (requests ≡ units_in entries ++ more)
 
--- a prefix of the units of an expansion, from the answers so far to all of them, and of the next one all but its answer
-abbrev pub UnitsBegin : Mishaps → World → List (List ℕ) → List Request → List (List ℕ) → World → Type 0
-UnitsBegin can w answers [] all new = (new ≡ w) × (all ≡ answers)
-UnitsBegin can w answers (request ∷ more) all new =
-    (Begins w (request ∷ []) new × (all ≡ answers))
-    ⊎ ((reply : Reply) × (mid : World) × UnitRuns can w request reply mid × UnitsBegin can mid (with_answer answers reply) more all new)
-
--- a prefix of the units of the expansion that replaces a unit
-abbrev pub ReplyBegins : Mishaps → World → List (List ℕ) → Reply → List (List ℕ) → World → Type 0
-ReplyBegins can w answers (Expand bytes) all new = (requests : List Request) × AsksInside bytes requests × UnitsBegin can w answers requests all new
-ReplyBegins can w answers reply all new = (new ≡ w) × (all ≡ answers)
-
--- a prefix of the units of a message, from the answers so far to all of them, and of the next one all but its answer,
--- or a prefix of the units of its expansion
-abbrev pub LineBegins : Mishaps → World → List (List ℕ) → List Request → List (List ℕ) → World → Type 0
-LineBegins can w answers [] all new = (new ≡ w) × (all ≡ answers)
-LineBegins can w answers (request ∷ more) all new =
-    (Begins w (request ∷ []) new × (all ≡ answers))
-    ⊎ ((reply : Reply) × (mid : World) × UnitRuns can w request reply mid × ReplyBegins can mid answers reply all new)
-    ⊎ ((reply : Reply) × (mid : World) × (some : List (List ℕ)) × (after : World)
-    × UnitRuns can w request reply mid × ReplyRuns can mid answers reply some after × LineBegins can after some more all new)
+-- A line that has begun: an execution of some of it has output the beginning of this text and not sent the rest, and of
+-- the next unit all may be executed but its answer.
+abbrev pub LineBegins : Mishaps → World → Source → List ℕ → World → Type 0
+LineBegins can w source text new = (c : Progress) × (mid : LineState) × Advances (Does can) source (at_line w) beginning mid c × (text ≡ mid.text ++ c.text.rest)
+    × ((new ≡ mid.world) ⊎ ((request : Request) × IsNext source c request × Begins mid.world (request ∷ []) new))
 
 -- a message that has begun, with its output so far
 abbrev pub MessageBegins : Mishaps → World → Message → List ℕ → World → Type 0
-MessageBegins can w m text new = (requests : List Request) × Asks m requests × (all : List (List ℕ)) × LineBegins can w [] requests all new × (text ≡ joined all)
+MessageBegins can w m text new = LineOf (λ source. LineBegins can w source text new) m
 
 -- the first of these messages has begun, or none: then no unit was executed
 abbrev pub NextBegins : Mishaps → World → List Message → List ℕ → World → Type 0

@@ -30,31 +30,7 @@ fn is_final<A: Allocator + Copy>(outcome: &Outcome<A>) -> bool
     !matches!(outcome, Outcome::Parked | Outcome::Held | Outcome::Later)
 }
 
-// Flushes, and returns the outcome of the session's wait.
-fn wait_end<D: Disk, A: Allocator + Copy>(
-    exec: &mut Exec<D, A>,
-    session: Session,
-) -> Result<Outcome<A>, RunCause>
-    requires first { session ≡ 1 }
-    requires idle { exec.old.device.flush.out ≡ false }
-    requires open { is_open exec.old.device 1 ≡ true }
-    ensures ends { IfOk result (λ o. DeviceContinues exec.old exec.new (WaitEnds (outcome_of o))) }
-    ensures ended { IfOk result (λ o. is_final (outcome_of o) ≡ true) }
-    ensures free { IfOk result (λ o. wait_of exec.new.device.flush 1 ≡ None) }
-    ensures device_stops { IfErr result (DeviceStops exec.old exec.new []) }
-    ensures idle { exec.new.device.flush.out ≡ false }
-    ensures open { is_open exec.new.device 1 ≡ true }
-    ensures locked { exec.new.device.volatile.locks ≡ exec.old.device.volatile.locks }
-{
-    flush(exec)?;
-    let outcome = exec.settle(session);
-    if !is_final(&outcome) {
-        return Err(RunCause::Device);
-    }
-    Ok(outcome)
-}
-
-// Flushes, and returns the outcome of the session's wait; on an error, clears the wait.
+// Flushes, and returns the outcome of the session's wait, which is over then, also where the flush or the wait fails.
 fn wait<D: Disk, A: Allocator + Copy>(
     exec: &mut Exec<D, A>,
     session: Session,
@@ -70,13 +46,19 @@ fn wait<D: Disk, A: Allocator + Copy>(
     ensures open { is_open exec.new.device 1 ≡ true }
     ensures locked { exec.new.device.volatile.locks ≡ exec.old.device.volatile.locks }
 {
-    match wait_end(exec, session) {
-        Ok(outcome) => Ok(outcome),
+    match flush(exec) {
+        Ok(()) => {}
         Err(cause) => {
             exec.clear(session);
-            Err(cause)
+            return Err(cause);
         }
     }
+    let outcome = exec.settle(session);
+    if is_final(&outcome) {
+        return Ok(outcome);
+    }
+    exec.clear(session);
+    Err(RunCause::Device)
 }
 
 /// Executes a unit. A parked unit waits for a flush and is settled. The outcome may still be `Later`.

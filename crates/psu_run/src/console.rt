@@ -1,13 +1,10 @@
 //! The executor of a run: it executes units on the device and outputs their answers.
 ghost use Rattle.std.specs.Prelude.{◌≡◌, [], List, ℕ, IfErr, IfOk, IfSome, OnOk, None, false};
 ghost use Rattle.psu_messages.specs.ResponseBuffer.{nothing};
-ghost use Rattle.psu_messages.specs.Response.{joined, response};
 ghost use Rattle.psu_messages.specs.Executions.{Advances, IsOver, StopsAt};
 ghost use Rattle.psu_messages.specs.Relations.{IsAwaited};
 ghost use Rattle.psu_messages.specs.Shown.{progress_of};
-ghost use Rattle.psu_tree.specs.declared.command.Request.{Request as RequestData};
 ghost use Rattle.psu_run.specs.Effects.{IsDone, IsFailed, IsStopped, line_source};
-ghost use Rattle.psu_run.specs.Lines.{Asks, is_power, message_now};
 ghost use Rattle.psu_run.specs.Output.{Says, SaysUntil, held, output_state};
 ghost use Rattle.psu_run.specs.Progress.{Breaks, DeviceContinues};
 ghost use Rattle.psu_run.specs.Runs.{LineBegins, LineRuns};
@@ -19,13 +16,9 @@ use crate::run_state::RunState;
 use crate::writing::append_output;
 use psu_disk::Disk;
 use psu_exec::{Outcome, Request, ScpiError};
-use psu_lex::{
-    every_list_has_units, one_header_of_a_text, one_list_of_units, one_syntax_of_a_unit,
-};
 use psu_messages::{
     Executor, MemoryRefused, Need, Progress, ResponseBuffer, execute_fault, execute_text,
 };
-use psu_tree::{every_unit_reads, one_reading_of_a_unit};
 use std::alloc::Allocator;
 use std::io::Write;
 use std::mem;
@@ -101,27 +94,19 @@ impl<'p, 'w, W: Write, D: Disk, A: Allocator + Copy> Executor<A> for Console<'p,
 }
 
 impl<'p, 'w, W: Write, D: Disk, A: Allocator + Copy> Console<'p, 'w, W, D, A> {
-    /// Executes the message of a complete line that is not the one of a power loss, and outputs its response. Where it
-    /// stops early, the answers that were not output are left in the response buffer.
+    /// Executes the message of a complete line, and outputs its response. Where it stops early, the answers that were not output are left in the response buffer.
     pub fn follow(&mut self, alloc: A, lines: &Lines<A>) -> Result<(), RunCause>
-        requires power { is_power (message_now lines.now.is_too_long lines.now.line.items) ≡ false }
         requires fresh { self.old.run_state.now.unwritten.gathered ≡ nothing }
-        ensures runs { OnOk result ((requests : List RequestData) × Asks (message_now lines.now.is_too_long lines.now.line.items) requests × (answers : List (List ℕ))
-            × DeviceContinues self.old.run_state.now.powered.exec self.new.run_state.now.powered.exec (λ can w v. LineRuns can w [] requests answers v)
-            × Says (held (W.contents self.old.writer.now) self.old.run_state.now.unwritten.output.items) (held (W.contents self.new.writer.now) self.new.run_state.now.unwritten.output.items) (response answers)) }
-        ensures breaks { IfErr result (λ cause. (requests : List RequestData) × Asks (message_now lines.now.is_too_long lines.now.line.items) requests × (answers : List (List ℕ))
-            × Breaks self.old.run_state.now.powered.exec self.new.run_state.now.powered.exec (λ can w v. LineBegins can w [] requests answers v) cause
+        ensures runs { OnOk result ((text : List ℕ)
+            × DeviceContinues self.old.run_state.now.powered.exec self.new.run_state.now.powered.exec (λ can w v. LineRuns can w (line_source lines.now.is_too_long lines.now.line.items) text v)
+            × Says (held (W.contents self.old.writer.now) self.old.run_state.now.unwritten.output.items) (held (W.contents self.new.writer.now) self.new.run_state.now.unwritten.output.items) text) }
+        ensures breaks { IfErr result (λ cause. (part : List ℕ)
+            × Breaks self.old.run_state.now.powered.exec self.new.run_state.now.powered.exec (λ can w v. LineBegins can w (line_source lines.now.is_too_long lines.now.line.items) part v) cause
             × SaysUntil cause (held (W.contents self.old.writer.now) self.old.run_state.now.unwritten.output.items)
-            (output_state (W.contents self.new.writer.now) self.new.run_state.now.unwritten) (joined answers)) }
+            (output_state (W.contents self.new.writer.now) self.new.run_state.now.unwritten) part) }
         ensures run_state { self.new.run_state.ghost_name ≡ self.old.run_state.ghost_name }
         ensures writer { self.new.writer.ghost_name ≡ self.old.writer.ghost_name }
     {
-        every_list_has_units();
-        every_unit_reads();
-        one_list_of_units();
-        one_reading_of_a_unit();
-        one_syntax_of_a_unit();
-        one_header_of_a_text();
         let gathered = mem::replace(
             &mut self.run_state.unwritten.gathered,
             ResponseBuffer::new(alloc),

@@ -10,6 +10,7 @@ ghost use Rattle.psu_run.specs.Results.{disk_of, DoesNotStart, WritesRun, Writes
 
 use crate::intake::Intake;
 use crate::jobs::flush;
+use crate::laws::script_is_the_only_text;
 use crate::lines::Lines;
 use crate::output::{put, put_both};
 use crate::pieces::feed;
@@ -191,6 +192,7 @@ pub fn run<R: Source, W: Write, D: Disk, A: Allocator + Copy>(
     ensures cause { D.honest → IfErr result (λ f. EndsFor (D.state disk).bytes (D.failures disk) (D.failures f.disk) (D.state f.disk).bytes
         (GivenByInput (R.remaining reader.old) (R.remaining reader.new) (R.reads reader.old) (R.reads reader.new)) f.cause) }
 {
+    script_is_the_only_text();
     let powered = match PoweredDevice::on(alloc, disk) {
         Ok(powered) => powered,
         Err(fault) => return Err(fault),

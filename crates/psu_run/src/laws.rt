@@ -8,12 +8,21 @@ use psu_lex::{
     every_body_has_an_expansion, every_list_has_units, one_expansion_of_a_body,
     one_header_of_a_text, one_list_of_units, one_syntax_of_a_unit,
 };
+use psu_messages::{over_is_done, over_is_messages};
 use psu_tree::{every_unit_reads, one_reading_of_a_unit};
 
 /// Where no memory is refused, no disk call fails and the store isn't worn, the text that may be written is the script.
 pub fn script_is_the_only_text()
     ensures { ScriptAlone }
-{}
+{
+    every_list_has_units();
+    one_list_of_units();
+    one_reading_of_a_unit();
+    one_syntax_of_a_unit();
+    one_header_of_a_text();
+    over_is_done();
+    over_is_messages();
+}
 
 /// No input has two scripts.
 pub fn one_script_of_an_input()

@@ -1,9 +1,8 @@
 //! The lines that end in a piece of the input.
 ghost use Rattle.std.specs.Prelude.{◌≡◌, ◌≢◌, ◌∷◌, [], List, ℕ, OnOk, IfOk, IfErr, true, false};
-ghost use Rattle.psu_tree.specs.declared.command.Request.{Request as RequestData};
 ghost use Rattle.psu_messages.specs.ResponseBuffer.{nothing};
-ghost use Rattle.psu_messages.specs.Response.{joined, response};
-ghost use Rattle.psu_run.specs.Lines.{Asks, Message, coming, is_power, message_now};
+ghost use Rattle.psu_run.specs.Effects.{line_source};
+ghost use Rattle.psu_run.specs.Lines.{Message, coming, is_power, message_now};
 ghost use Rattle.psu_run.specs.Output.{Says, SaysUntil, held, output_state};
 ghost use Rattle.psu_run.specs.Progress.{Breaks, Fed, DeviceContinues, RunsOn, Stopped, RunEndsHere};
 ghost use Rattle.psu_run.specs.Runs.{LineBegins, LineRuns, MessageBegins};
@@ -83,21 +82,20 @@ pub(crate) fn answer_line<W: Write, D: Disk, A: Allocator + Copy>(
     Ok(())
 }
 
-// Executes the message of a complete line that is not the one of a power loss, and outputs its response.
+// Executes the message of a complete line, and outputs its response.
 fn execute_line<W: Write, D: Disk, A: Allocator + Copy>(
     alloc: A,
     run_state: &mut RunState<D, A>,
     lines: &Lines<A>,
     writer: &mut W,
 ) -> Result<(), RunCause>
-    requires power { is_power (message_now lines.now.is_too_long lines.now.line.items) ≡ false }
     requires fresh { run_state.old.unwritten.gathered ≡ nothing }
-    ensures runs { OnOk result ((requests : List RequestData) × Asks (message_now lines.now.is_too_long lines.now.line.items) requests × (answers : List (List ℕ))
-        × DeviceContinues run_state.old.powered.exec run_state.new.powered.exec (λ can w v. LineRuns can w [] requests answers v)
-        × Says (held (W.contents writer.old) run_state.old.unwritten.output.items) (held (W.contents writer.new) run_state.new.unwritten.output.items) (response answers)) }
-    ensures breaks { IfErr result (λ cause. (requests : List RequestData) × Asks (message_now lines.now.is_too_long lines.now.line.items) requests × (answers : List (List ℕ))
-        × Breaks run_state.old.powered.exec run_state.new.powered.exec (λ can w v. LineBegins can w [] requests answers v) cause
-        × SaysUntil cause (held (W.contents writer.old) run_state.old.unwritten.output.items) (output_state (W.contents writer.new) run_state.new.unwritten) (joined answers)) }
+    ensures runs { OnOk result ((text : List ℕ)
+        × DeviceContinues run_state.old.powered.exec run_state.new.powered.exec (λ can w v. LineRuns can w (line_source lines.now.is_too_long lines.now.line.items) text v)
+        × Says (held (W.contents writer.old) run_state.old.unwritten.output.items) (held (W.contents writer.new) run_state.new.unwritten.output.items) text) }
+    ensures breaks { IfErr result (λ cause. (part : List ℕ)
+        × Breaks run_state.old.powered.exec run_state.new.powered.exec (λ can w v. LineBegins can w (line_source lines.now.is_too_long lines.now.line.items) part v) cause
+        × SaysUntil cause (held (W.contents writer.old) run_state.old.unwritten.output.items) (output_state (W.contents writer.new) run_state.new.unwritten) part) }
 {
     let mut console = Console {
         run_state: &mut *run_state,

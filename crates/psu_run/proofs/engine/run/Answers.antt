@@ -78,7 +78,7 @@ returns-in_err-disk-clause-cause g c = λ h.
 
 pub returns-clause-whole : goal.returns-clause-whole
 returns-clause-whole g c = λ h.
-    run_whole (g.R.Source.remaining c.args.reader.now) _ _ (g.D.Disk.state c.args.disk).bytes c.in-Ok.powered.exec c.in_ok-disk.disk (g.D.Disk.failures c.args.disk) h
+    run_whole c.script_is_the_only_text.ensures (g.R.Source.remaining c.args.reader.now) _ _ (g.D.Disk.state c.args.disk).bytes c.in-Ok.powered.exec c.in_ok-disk.disk (g.D.Disk.failures c.args.disk) h
     (c.in-Ok.ensures.starts h) c.in-Ok.ensures.works c.in_ok-disk.ensures.whole
 
 pub returns-clause-extent : goal.returns-clause-extent

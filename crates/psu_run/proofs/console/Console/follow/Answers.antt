@@ -4,24 +4,14 @@ use Rattle.psu_messages.specs.Shown.{progress, progress_of}
 use Rattle.psu_messages.specs.Standing.{start}
 use Rattle.psu_run.specs.Effects.{line_source}
 use Rattle.psu_run.specs.Output.{held}
-use Rattle.psu_run.proofs.Feeding.{asks_line, is_line}
-use Rattle.psu_run.proofs.Readings.{one_move}
-use Rattle.psu_run.proofs.Scripts.{Ones}
-use Rattle.psu_run.proofs.Stopping.{broken, whole}
+use Rattle.psu_run.proofs.Following.{broken, whole}
 use Rattle.psu_run.proofs.console.Console.follow.Goals as goal
 
 pub returns-clause-breaks : goal.returns-clause-breaks
 returns-clause-breaks g c =
-    let ones : Ones = record {
-      units = c.one_list_of_units.ensures;
-      reading = c.one_reading_of_a_unit.ensures;
-      move = one_move c.one_syntax_of_a_unit.ensures c.one_header_of_a_text.ensures;
-      syntax = c.one_syntax_of_a_unit.ensures;
-    } in
     let lines = c.args.lines.now in
-    let b = broken (λ x. x.run_state.now.powered.exec) (λ x. held (g.W.Write.contents x.writer.now) x.run_state.now.unwritten.output.items) _ (λ x y effect d. d.2) (λ x y request cause f. f.2) (λ x y cause s. s.2) ones c.every_list_has_units.ensures c.every_unit_reads.ensures
-    (line_source lines.is_too_long lines.line.items) (is_line lines.is_too_long lines.line.items lines.free) _ c.proceed-done.new.executor c.in-Err.cause c.proceed-done.new.progress.gathered _ (ap (progress start None) (c.replace-gathered.ensures.value ∙ c.requires.fresh)) c.in-Err.ensures.stops in
-    (b.0, asks_line lines.is_too_long lines.line.items b.0 lines.short c.requires.power b.1, b.2, b.3, b.4)
+    broken (λ x. x.run_state.now.powered.exec) (λ x. held (g.W.Write.contents x.writer.now) x.run_state.now.unwritten.output.items) _ (λ x y effect d. d.2) (λ x y request cause f. f.2) (λ x y cause s. s.2)
+    (line_source lines.is_too_long lines.line.items) _ c.proceed-done.new.executor c.in-Err.cause c.proceed-done.new.progress.gathered _ (ap (progress start None) (c.replace-gathered.ensures.value ∙ c.requires.fresh)) c.in-Err.ensures.stops
 
 pub returns-clause-run_state : goal.returns-clause-run_state
 returns-clause-run_state g c = kept_interrupted c.in-Err.ensures.stops (λ x. x.run_state.ghost_name) (λ x y effect d. d.0) (λ x y request stop d. d.0) (λ x y stop d. d.0)
@@ -31,17 +21,10 @@ returns-clause-writer g c = kept_interrupted c.in-Err.ensures.stops (λ x. x.wri
 
 pub returns-in-None-clause-runs : goal.returns-in-None-clause-runs
 returns-in-None-clause-runs g c =
-    let ones : Ones = record {
-      units = c.one_list_of_units.ensures;
-      reading = c.one_reading_of_a_unit.ensures;
-      move = one_move c.one_syntax_of_a_unit.ensures c.one_header_of_a_text.ensures;
-      syntax = c.one_syntax_of_a_unit.ensures;
-    } in
     let lines = c.args.lines.now in
-    let w = whole (λ x. x.run_state.now.powered.exec) (λ x. held (g.W.Write.contents x.writer.now) x.run_state.now.unwritten.output.items) _ (λ x y effect d. d.2) ones c.every_list_has_units.ensures
-    (line_source lines.is_too_long lines.line.items) (is_line lines.is_too_long lines.line.items lines.free) _ c.proceed-done.new.executor _ (progress_of c.proceed-done.new.progress)
-    (ap (progress start None) (c.replace-gathered.ensures.value ∙ c.requires.fresh)) c.in-Ok.ensures.goes (c.in-Ok.ensures.over c.in-None.is) in
-    (w.0, asks_line lines.is_too_long lines.line.items w.0 lines.short c.requires.power w.1, w.2, w.3, w.4)
+    whole (λ x. x.run_state.now.powered.exec) (λ x. held (g.W.Write.contents x.writer.now) x.run_state.now.unwritten.output.items) _ (λ x y effect d. d.2)
+    (line_source lines.is_too_long lines.line.items) _ c.proceed-done.new.executor _ (progress_of c.proceed-done.new.progress)
+    (ap (progress start None) (c.replace-gathered.ensures.value ∙ c.requires.fresh)) c.in-Ok.ensures.goes (c.in-Ok.ensures.over c.in-None.is)
 
 pub returns-in-None-clause-run_state : goal.returns-in-None-clause-run_state
 returns-in-None-clause-run_state g c = kept_advances c.in-Ok.ensures.goes (λ x. x.run_state.ghost_name) (λ x y effect d. d.0)
