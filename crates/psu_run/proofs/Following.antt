@@ -5,7 +5,7 @@ use Rattle.psu_tree.specs.declared.command.Request.{Request}
 use Rattle.psu_messages.specs.ResponseBuffer.{Text}
 use Rattle.psu_exec.specs.Device.{Answer}
 use Rattle.psu_exec.specs.World.{World}
-use Rattle.psu_exec.specs.declared.exec.Exec.{Exec}
+use Rattle.psu_exec.specs.Exec.{Exec}
 use Rattle.psu_messages.specs.Effects as effects
 use Rattle.psu_messages.specs.Effects.{Effect, Executed, Settled, Sent, IsTry}
 use Rattle.psu_messages.specs.Relations.{Relations}
