@@ -10,7 +10,7 @@ use Rattle.psu_exec.specs.Calls.{Entry, Executed, Opened, Serves}
 use Rattle.psu_exec.specs.Jobs.{idle_disk}
 use Rattle.psu_exec.specs.Consistent.{MayBeKept}
 use Rattle.psu_exec.specs.Headline.{IsPrefix}
-use Rattle.psu_exec.specs.World.{World, Running, PastUnit, DiskAfter, Event, IsStart, Run, after, is_executed, recorded}
+use Rattle.psu_exec.specs.World.{World, Running, PastUnit, CallsBy, Event, IsStart, Run, after, is_executed, recorded}
 use Rattle.psu_exec.specs.Exec.{Exec}
 use Rattle.psu_exec.specs.declared.idle_store.IdleStore.{IdleStore}
 use Rattle.psu_tree.specs.declared.command.Request.{Request}
@@ -37,14 +37,10 @@ born exec = record { limit = exec.device.flush.limit; start = exec.device.flush.
 abbrev pub lived : Life → State → Entry → Life
 lived life s entry = record life { history = recorded s entry life.history }
 
--- A call on the device that is not ignored, which leaves this disk. It is an event of the theorem on power loss
--- (`happens`, in proofs/Calls.antt).
-abbrev pub IsServed : World → Entry → DiskState → World → Type 0
-IsServed w entry disk new = (s : State) × (w.mode ≡ Running) × Serves w.state entry s × DiskAfter w entry disk
-    × (new ≡ record w { state = s; history = recorded w.state entry w.history; disk = disk })
-
+-- A call on the device that is not ignored. It is an event of the theorem on power loss (`happens`, in
+-- proofs/Calls.antt).
 abbrev pub CallsOnWorld : World → Entry → World → Type 0
-CallsOnWorld w entry new = (disk : DiskState) × IsServed w entry disk new
+CallsOnWorld w entry new = (disk : DiskState) × CallsBy Serves w entry disk new
 
 -- calls, one after another
 abbrev pub CallsAll : World → List Entry → World → Type 0
