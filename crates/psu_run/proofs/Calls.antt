@@ -10,7 +10,7 @@ use Rattle.psu_nv.specs.Contents.{items_of}
 use Rattle.psu_exec.specs.Device.{Reply, Done, Answer, Error, Expand, Parked, Held, Later, count_held, target}
 use Rattle.psu_exec.specs.Calls.{Entry, Executed, Settled, Took, GaveBack, Opened, Job, Serves}
 use Rattle.psu_exec.specs.World.{World, Running, Event, Call, Happens, Run, DiskAfter, after, without_power}
-use Rattle.psu_exec.specs.declared.exec.Exec.{Exec}
+use Rattle.psu_exec.specs.Exec.{Exec}
 use Rattle.psu_exec.specs.declared.idle_store.IdleStore.{IdleStore}
 use Rattle.psu_tree.specs.declared.command.Request.{Request}
 use Rattle.psu_nv.specs.Commands.{Command as Change, applied}

@@ -8,7 +8,7 @@ use Rattle.psu_messages.specs.Response.{are_some, end_of, joined, response}
 use Rattle.psu_messages.proofs.Joining.{joined_more, some_more}
 use Rattle.psu_exec.specs.Device.{Reply, Done, Answer, Error, Expand, Parked, Held, Later}
 use Rattle.psu_exec.specs.World.{World}
-use Rattle.psu_exec.specs.declared.exec.Exec.{Exec}
+use Rattle.psu_exec.specs.Exec.{Exec}
 use Rattle.psu_messages.specs.Effects.{Effect, Executed, Settled, Sent, IsTry, Runs}
 use Rattle.psu_messages.specs.Standing.{Standing}
 use Rattle.psu_messages.specs.Units as units

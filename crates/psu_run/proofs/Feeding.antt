@@ -14,7 +14,7 @@ use Rattle.psu_messages.specs.Response.{joined, response}
 use Rattle.psu_exec.specs.Consistent.{IsConsistent}
 use Rattle.psu_exec.specs.World.{World}
 use Rattle.psu_exec.specs.declared.condition.Condition.TheVariants.{Worn}
-use Rattle.psu_exec.specs.declared.exec.Exec.{Exec}
+use Rattle.psu_exec.specs.Exec.{Exec}
 use Rattle.psu_tree.specs.declared.command.Request.{Request}
 use Rattle.psu_run.specs.Causes.{IsWornOut, NotStarted}
 use Rattle.psu_run.specs.Failures.{extent_of, failures_of}

@@ -17,7 +17,7 @@ use Rattle.psu_exec.specs.World.{IsTrueOf}
 use Rattle.psu_exec.proofs.Giving.{FlushGives, flush_gives, locks_after, open_after}
 use Rattle.psu_exec.specs.declared.condition.Condition.{Condition}
 use Rattle.psu_exec.specs.declared.condition.Condition.TheVariants.{Whole, Broken, Worn}
-use Rattle.psu_exec.specs.declared.exec.Exec.{Exec}
+use Rattle.psu_exec.specs.Exec.{Exec}
 use Rattle.psu_exec.specs.declared.finished.End.{End}
 use Rattle.psu_exec.specs.declared.finished.End.TheVariants as finished
 use Rattle.psu_exec.specs.declared.idle_store.IdleStore.{IdleStore}

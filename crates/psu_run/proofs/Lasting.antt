@@ -2,7 +2,7 @@
 use Rattle.std.proofs.Common.{◌≡◌, Option, refl, sym, ap, ◌∙◌, subst, arith}
 use Rattle.psu_disk.specs.declared.disk.Disk.{Ghosts}
 use Rattle.psu_exec.specs.declared.condition.Condition.{Condition}
-use Rattle.psu_exec.specs.declared.exec.Exec.{Exec}
+use Rattle.psu_exec.specs.Exec.{Exec}
 use Rattle.psu_exec.specs.declared.idle_store.IdleStore.{IdleStore}
 use Rattle.psu_run.specs.Failures.{extent_at, extent_of, failures_at, failures_of}
 use Rattle.psu_run.specs.Jobs.{WearsOutLast}

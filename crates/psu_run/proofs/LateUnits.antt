@@ -12,7 +12,7 @@ use Rattle.psu_exec.specs.Shown.{outcome_of}
 use Rattle.psu_nv.specs.Commands as nv
 use Rattle.psu_nv.specs.Contents.{fits}
 use Rattle.psu_exec.specs.declared.condition.Condition.TheVariants.{Worn}
-use Rattle.psu_exec.specs.declared.exec.Exec.{Exec}
+use Rattle.psu_exec.specs.Exec.{Exec}
 use Rattle.psu_exec.specs.declared.outcome.Outcome.{Outcome}
 use Rattle.psu_exec.specs.declared.outcome.Outcome.TheVariants as outcome
 use Rattle.psu_tree.specs.declared.command.Request.{Request}

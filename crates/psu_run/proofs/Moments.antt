@@ -5,7 +5,7 @@ use Rattle.psu_disk.specs.Moments.{and_then, started, weaken}
 use Rattle.psu_disk.specs.declared.disk.Disk.{Ghosts}
 use Rattle.psu_exec.specs.Jobs.{idle_disk}
 use Rattle.psu_exec.specs.World.{World}
-use Rattle.psu_exec.specs.declared.exec.Exec.{Exec}
+use Rattle.psu_exec.specs.Exec.{Exec}
 use Rattle.psu_exec.specs.declared.idle_store.IdleStore.{IdleStore}
 use Rattle.std.specs.Option.{ForSome}
 use Rattle.psu_run.specs.Lives.{Life, StandsForPrefix, disk_at, world_of}

@@ -10,7 +10,7 @@ use Rattle.psu_exec.specs.Jobs.{idle_disk}
 use Rattle.psu_items.specs.Image.{EachRepresents}
 use Rattle.psu_nv.specs.Contents.{items_of}
 use Rattle.psu_exec.specs.World.{World}
-use Rattle.psu_exec.specs.declared.exec.Exec.{Exec}
+use Rattle.psu_exec.specs.Exec.{Exec}
 use Rattle.psu_run.specs.Failures.{failures_of}
 use Rattle.psu_run.specs.Jobs.{IsWornAtLast}
 use Rattle.psu_run.specs.Lines.{Message, Brings}

@@ -4,7 +4,7 @@ use Rattle.std.proofs.lemmas.List.{append-nil}
 use Rattle.psu_disk.specs.declared.disk.Disk.{Ghosts}
 use Rattle.psu_messages.specs.Response.{joined}
 use Rattle.psu_exec.specs.World.{World}
-use Rattle.psu_exec.specs.declared.exec.Exec.{Exec}
+use Rattle.psu_exec.specs.Exec.{Exec}
 use Rattle.psu_run.specs.Lines.{Message, is_power}
 use Rattle.psu_run.specs.Lives.{Life, StandsForPrefix, world_of}
 use Rattle.psu_run.specs.Moments.{IsBetween, IsWhile, disk_in}

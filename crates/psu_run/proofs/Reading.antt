@@ -7,7 +7,7 @@ use Rattle.std.specs.Io.{StartsWith}
 use Rattle.std.specs.Option.{ForSome}
 use Rattle.psu_disk.specs.declared.disk.Disk.{Ghosts}
 use Rattle.psu_exec.specs.Jobs.{idle_disk}
-use Rattle.psu_exec.specs.declared.exec.Exec.{Exec}
+use Rattle.psu_exec.specs.Exec.{Exec}
 use Rattle.psu_exec.specs.World.{World}
 use Rattle.psu_run.specs.Failures.{extent_of, failures_of}
 use Rattle.psu_run.specs.Lines.{Message, Brings, message_now, messages, coming, has, is_none_begun}

@@ -6,7 +6,7 @@ use Rattle.psu_exec.specs.Calls.{Executed, Settled, Cleared, Allows, Serves, set
 use Rattle.psu_instrument.specs.declared.act.Completion.{Completion}
 use Rattle.psu_instrument.specs.declared.act.Completion.TheVariants as completion
 use Rattle.psu_exec.specs.Device.{Reply, Parked, State, Flush, answer_complete, is_denied, is_open, wait_of}
-use Rattle.psu_exec.specs.declared.exec.Exec.{Exec}
+use Rattle.psu_exec.specs.Exec.{Exec}
 use Rattle.psu_exec.specs.declared.idle_store.IdleStore.{IdleStore}
 use Rattle.psu_tree.specs.declared.command.Request.{Request}
 use Rattle.psu_exec.specs.declared.wait.Wait.{Wait}

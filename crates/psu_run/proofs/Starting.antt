@@ -21,7 +21,7 @@ use Rattle.psu_exec.specs.Device.{State, Flush, is_open, power_on, wait_of}
 use Rattle.psu_nv.specs.Contents.{items_of, IsContents, Contents, cost_of, fits}
 use Rattle.psu_exec.specs.World.{World}
 use Rattle.psu_exec.specs.declared.condition.Condition.TheVariants.{Whole, Worn}
-use Rattle.psu_exec.specs.declared.exec.Exec.{Exec}
+use Rattle.psu_exec.specs.Exec.{Exec}
 use Rattle.psu_exec.specs.declared.idle_store.IdleStore.{IdleStore}
 use Rattle.psu_exec.specs.declared.idle_store.IdleStore.TheVariants as idle_store
 use Rattle.psu_exec.specs.declared.power_fault.PowerCause.{PowerCause}

@@ -6,7 +6,7 @@ use Rattle.psu_tree.specs.declared.command.Request.{Request}
 use Rattle.psu_messages.specs.ResponseBuffer.{Text}
 use Rattle.psu_messages.specs.Response.{are_some, joined, response}
 use Rattle.psu_exec.specs.Device.{Reply, Answer, Expand}
-use Rattle.psu_exec.specs.declared.exec.Exec.{Exec}
+use Rattle.psu_exec.specs.Exec.{Exec}
 use Rattle.psu_messages.specs.Effects.{Effect, Executed}
 use Rattle.psu_messages.specs.Relations.{Relations}
 use Rattle.psu_messages.specs.Units.{Asks, IsUnit, Source}

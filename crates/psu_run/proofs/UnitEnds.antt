@@ -8,7 +8,7 @@ use Rattle.psu_instrument.specs.declared.act.Completion.{Completion}
 use Rattle.psu_instrument.specs.declared.act.Completion.TheVariants as completion
 use Rattle.psu_exec.specs.World.{World}
 use Rattle.psu_exec.specs.declared.condition.Condition.TheVariants.{Worn}
-use Rattle.psu_exec.specs.declared.exec.Exec.{Exec}
+use Rattle.psu_exec.specs.Exec.{Exec}
 use Rattle.psu_tree.specs.declared.command.Request.{Request}
 use Rattle.psu_exec.specs.declared.wait.Wait.{Wait}
 use Rattle.psu_exec.specs.declared.wait.Wait.TheVariants.{Until, CutOff}

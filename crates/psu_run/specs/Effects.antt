@@ -2,7 +2,7 @@
 use Rattle.std.specs.Prelude.{◌≡◌, ◌⊎◌, ℕ, Bool, true, false, List, [], ◌∷◌}
 use Rattle.psu_disk.specs.declared.disk.Disk.{Ghosts}
 use Rattle.psu_tree.specs.declared.command.Request.{Request}
-use Rattle.psu_exec.specs.declared.exec.Exec.{Exec}
+use Rattle.psu_exec.specs.Exec.{Exec}
 use Rattle.psu_lex.specs.declared.scpi_error.ScpiError.TheVariants.{TooMuchData}
 use Rattle.psu_messages.specs.Effects.{Effect, Executed, Settled, Sent}
 use Rattle.psu_messages.specs.Units.{Source, Text, Fault}

@@ -3,7 +3,7 @@ use Rattle.std.specs.Prelude.{ℕ, Option, Some, None}
 use Rattle.psu_disk.specs.declared.disk.Disk.{Ghosts}
 use Rattle.psu_exec.specs.Jobs.{idle_disk}
 use Rattle.psu_exec.specs.declared.idle_store.IdleStore.{IdleStore}
-use Rattle.psu_exec.specs.declared.exec.Exec.{Exec}
+use Rattle.psu_exec.specs.Exec.{Exec}
 
 abbrev pub failures_at : {D A : Type 0} {G : Ghosts D} → Option (IdleStore D A G) → ℕ
 failures_at None = 0

@@ -11,7 +11,7 @@ use Rattle.psu_exec.specs.Jobs.{idle_disk}
 use Rattle.psu_exec.specs.Consistent.{MayBeKept}
 use Rattle.psu_exec.specs.Headline.{IsPrefix}
 use Rattle.psu_exec.specs.World.{World, Running, PastUnit, DiskAfter, Event, IsStart, Run, after, is_executed, recorded}
-use Rattle.psu_exec.specs.declared.exec.Exec.{Exec}
+use Rattle.psu_exec.specs.Exec.{Exec}
 use Rattle.psu_exec.specs.declared.idle_store.IdleStore.{IdleStore}
 use Rattle.psu_tree.specs.declared.command.Request.{Request}
 

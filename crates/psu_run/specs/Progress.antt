@@ -7,7 +7,7 @@ use Rattle.psu_tree.specs.declared.command.Request.{Request}
 use Rattle.psu_exec.specs.Device.{Reply, Later}
 use Rattle.psu_exec.specs.Calls.{Executed, Settled}
 use Rattle.psu_exec.specs.World.{World}
-use Rattle.psu_exec.specs.declared.exec.Exec.{Exec}
+use Rattle.psu_exec.specs.Exec.{Exec}
 use Rattle.psu_run.specs.Failures.{extent_of, failures_of}
 use Rattle.psu_run.specs.Jobs.{IsWornAtLast}
 use Rattle.psu_run.specs.Lines.{Message}

@@ -5,7 +5,7 @@ use Rattle.psu_disk.specs.Disk.{HasFailed}
 use Rattle.psu_items.specs.Image.{HasNoRoot, HasBadRoot, HasOtherVersion, HasReadableRoot}
 use Rattle.psu_exec.specs.declared.condition.Condition.TheVariants.{Worn}
 use Rattle.psu_exec.specs.World.{World}
-use Rattle.psu_exec.specs.declared.exec.Exec.{Exec}
+use Rattle.psu_exec.specs.Exec.{Exec}
 use Rattle.psu_run.specs.declared.run_cause.RunCause.{RunCause}
 use Rattle.psu_run.specs.declared.run_cause.RunCause.TheVariants.{Read, Write, Open, Device, TooLong, Memory}
 use Rattle.psu_exec.specs.declared.start_cause.StartCause.TheVariants as start
