@@ -5,7 +5,7 @@ ghost use Rattle.psu_exec.specs.Calls.Entry.{Executed, Settled, Took, GaveBack, 
 ghost use Rattle.psu_exec.specs.Shown.{outcome_of, over_of};
 ghost use Rattle.psu_bench.specs.Calls.{AllowsOn, session_of};
 
-use crate::Call;
+use crate::{Call, DeviceState};
 use crate::boxed_device::BoxedDevice;
 use crate::operation::Operation;
 use crate::operations::{
@@ -14,7 +14,7 @@ use crate::operations::{
 };
 use psu_disk::Disk;
 use psu_exec::{
-    Crowded, Device, Exec, Finished, Freed, Grant, Info, Job, Kind, LockRefusal, NoJob,
+    Crowded, Exec, Finished, Freed, Grant, Info, Job, Kind, LockRefusal, NoJob,
     Notifications, Outcome, Request, Session, Sessions, Stranger,
 };
 use psu_turn::{NoMemory, Turn};
@@ -24,7 +24,7 @@ use std::snapshot::Snapshot;
 use std::sync::Wait;
 
 /// The handle that a thread needs for its calls of a bench.
-pub type Seat<A> = psu_turn::Seat<Device<A>, Call>;
+pub type Seat = psu_turn::Seat<DeviceState, Call>;
 
 /// The device's state, shared by threads that call it in turns. Contracts see which bench it is.
 #[derive(Drop)]
@@ -46,7 +46,7 @@ impl<D: Disk, A: Allocator + Copy> Bench<D, A> {
     ghost use Rattle.psu_exec.specs.Jobs.{finished_of, taken_of};
 
     /// Creates a bench with its first seat. If an allocation fails, the state is returned unchanged.
-    pub fn new(alloc: A, exec: Exec<D, A>) -> Result<(Bench<D, A>, Seat<A>), NoMemory<Exec<D, A>>>
+    pub fn new(alloc: A, exec: Exec<D, A>) -> Result<(Bench<D, A>, Seat), NoMemory<Exec<D, A>>>
         ensures seat { IfOk result (λ made. Begins made.0 exec.device made.1) }
         ensures back { IfErr result (λ refused. refused.object ≡ exec) }
     {
@@ -72,7 +72,7 @@ impl<D: Disk, A: Allocator + Copy> Bench<D, A> {
     pub fn call<R: Wait, O: Operation<D, A>>(
         &self,
         rt: &R,
-        seat: &mut Seat<A>,
+        seat: &mut Seat,
         operation: O,
     ) -> O::Reply
         requires own { IsOf self.now seat.old }
@@ -90,7 +90,7 @@ impl<D: Disk, A: Allocator + Copy> Bench<D, A> {
     pub fn execute<R: Wait>(
         &self,
         rt: &R,
-        seat: &mut Seat<A>,
+        seat: &mut Seat,
         session: Session,
         request: &Request<'_>,
     ) -> Outcome<A>
@@ -102,7 +102,7 @@ impl<D: Disk, A: Allocator + Copy> Bench<D, A> {
     }
 
     /// Returns the result of a session's wait, in a turn; Later if the session isn't open.
-    pub fn settle<R: Wait>(&self, rt: &R, seat: &mut Seat<A>, session: Session) -> Outcome<A>
+    pub fn settle<R: Wait>(&self, rt: &R, seat: &mut Seat, session: Session) -> Outcome<A>
         requires own { IsOf self.now seat.old }
         ensures call { SeatCalls (AllowsOn D.honest) seat.old (Settled session (outcome_of result)) seat.new }
         ensures own { IsOf self.now seat.new }
@@ -111,7 +111,7 @@ impl<D: Disk, A: Allocator + Copy> Bench<D, A> {
     }
 
     /// Takes a job, in a turn.
-    pub fn take<R: Wait>(&self, rt: &R, seat: &mut Seat<A>) -> Result<Job<D, A>, NoJob>
+    pub fn take<R: Wait>(&self, rt: &R, seat: &mut Seat) -> Result<Job<D, A>, NoJob>
         requires own { IsOf self.now seat.old }
         ensures call { SeatCalls (AllowsOn D.honest) seat.old (Took (taken_of result)) seat.new }
         ensures own { IsOf self.now seat.new }
@@ -123,7 +123,7 @@ impl<D: Disk, A: Allocator + Copy> Bench<D, A> {
     pub fn give_back<R: Wait>(
         &self,
         rt: &R,
-        seat: &mut Seat<A>,
+        seat: &mut Seat,
         finished: Finished<D, A>,
     ) -> Result<Sessions, Stranger<D, A>>
         requires own { IsOf self.now seat.old }
@@ -134,7 +134,7 @@ impl<D: Disk, A: Allocator + Copy> Bench<D, A> {
     }
 
     /// Opens a session under the least free number, in a turn.
-    pub fn open_session<R: Wait>(&self, rt: &R, seat: &mut Seat<A>) -> Result<Session, Crowded>
+    pub fn open_session<R: Wait>(&self, rt: &R, seat: &mut Seat) -> Result<Session, Crowded>
         requires own { IsOf self.now seat.old }
         ensures call { SeatCalls (AllowsOn D.honest) seat.old (Opened (session_of result)) seat.new }
         ensures own { IsOf self.now seat.new }
@@ -143,7 +143,7 @@ impl<D: Disk, A: Allocator + Copy> Bench<D, A> {
     }
 
     /// Closes a session if it is open, in a turn. Returns the sessions whose lock requests were then granted.
-    pub fn close_session<R: Wait>(&self, rt: &R, seat: &mut Seat<A>, session: Session) -> Sessions
+    pub fn close_session<R: Wait>(&self, rt: &R, seat: &mut Seat, session: Session) -> Sessions
         requires own { IsOf self.now seat.old }
         ensures call { SeatCalls (AllowsOn D.honest) seat.old (Closed session result) seat.new }
         ensures own { IsOf self.now seat.new }
@@ -152,7 +152,7 @@ impl<D: Disk, A: Allocator + Copy> Bench<D, A> {
     }
 
     /// Drops the wait of a session if it is open, in a turn.
-    pub fn clear<R: Wait>(&self, rt: &R, seat: &mut Seat<A>, session: Session)
+    pub fn clear<R: Wait>(&self, rt: &R, seat: &mut Seat, session: Session)
         requires own { IsOf self.now seat.old }
         ensures call { SeatCalls (AllowsOn D.honest) seat.old (Cleared session) seat.new }
         ensures own { IsOf self.now seat.new }
@@ -161,7 +161,7 @@ impl<D: Disk, A: Allocator + Copy> Bench<D, A> {
     }
 
     /// If a session is open, records that a response was sent to it, in a turn. Returns the notifications after that.
-    pub fn mark_sent<R: Wait>(&self, rt: &R, seat: &mut Seat<A>, session: Session) -> Notifications
+    pub fn mark_sent<R: Wait>(&self, rt: &R, seat: &mut Seat, session: Session) -> Notifications
         requires own { IsOf self.now seat.old }
         ensures call { SeatCalls (AllowsOn D.honest) seat.old (Sent session result.requesting result.has_work) seat.new }
         ensures own { IsOf self.now seat.new }
@@ -170,7 +170,7 @@ impl<D: Disk, A: Allocator + Copy> Bench<D, A> {
     }
 
     /// If a session is open, records that what was sent to it is delivered, in a turn.
-    pub fn mark_delivered<R: Wait>(&self, rt: &R, seat: &mut Seat<A>, session: Session)
+    pub fn mark_delivered<R: Wait>(&self, rt: &R, seat: &mut Seat, session: Session)
         requires own { IsOf self.now seat.old }
         ensures call { SeatCalls (AllowsOn D.honest) seat.old (Delivered session) seat.new }
         ensures own { IsOf self.now seat.new }
@@ -179,7 +179,7 @@ impl<D: Disk, A: Allocator + Copy> Bench<D, A> {
     }
 
     /// Returns the response to a status query of a session, in a turn; 0 if the session isn't open.
-    pub fn query<R: Wait>(&self, rt: &R, seat: &mut Seat<A>, session: Session) -> u8
+    pub fn query<R: Wait>(&self, rt: &R, seat: &mut Seat, session: Session) -> u8
         requires own { IsOf self.now seat.old }
         ensures call { SeatCalls (AllowsOn D.honest) seat.old (Queried session result) seat.new }
         ensures own { IsOf self.now seat.new }
@@ -188,7 +188,7 @@ impl<D: Disk, A: Allocator + Copy> Bench<D, A> {
     }
 
     /// Fetches the service request of a session, in a turn; none if the session isn't open.
-    pub fn fetch<R: Wait>(&self, rt: &R, seat: &mut Seat<A>, session: Session) -> Option<u8>
+    pub fn fetch<R: Wait>(&self, rt: &R, seat: &mut Seat, session: Session) -> Option<u8>
         requires own { IsOf self.now seat.old }
         ensures call { SeatCalls (AllowsOn D.honest) seat.old (Fetched session result) seat.new }
         ensures own { IsOf self.now seat.new }
@@ -198,7 +198,7 @@ impl<D: Disk, A: Allocator + Copy> Bench<D, A> {
 
     /// Returns the sessions that have requested service since the last call, and whether a take would return a job,
     /// in a turn.
-    pub fn take_notifications<R: Wait>(&self, rt: &R, seat: &mut Seat<A>) -> Notifications
+    pub fn take_notifications<R: Wait>(&self, rt: &R, seat: &mut Seat) -> Notifications
         requires own { IsOf self.now seat.old }
         ensures call { SeatCalls (AllowsOn D.honest) seat.old (Notified result.requesting result.has_work) seat.new }
         ensures own { IsOf self.now seat.new }
@@ -211,7 +211,7 @@ impl<D: Disk, A: Allocator + Copy> Bench<D, A> {
     pub fn lock<R: Wait>(
         &self,
         rt: &R,
-        seat: &mut Seat<A>,
+        seat: &mut Seat,
         session: Session,
         kind: Kind,
         now: u64,
@@ -234,7 +234,7 @@ impl<D: Disk, A: Allocator + Copy> Bench<D, A> {
     pub fn release<R: Wait>(
         &self,
         rt: &R,
-        seat: &mut Seat<A>,
+        seat: &mut Seat,
         session: Session,
     ) -> Result<(Freed, Sessions), LockRefusal>
         requires own { IsOf self.now seat.old }
@@ -245,7 +245,7 @@ impl<D: Disk, A: Allocator + Copy> Bench<D, A> {
     }
 
     /// Fails the lock requests whose timeout has expired, in a turn.
-    pub fn tick<R: Wait>(&self, rt: &R, seat: &mut Seat<A>, now: u64) -> Sessions
+    pub fn tick<R: Wait>(&self, rt: &R, seat: &mut Seat, now: u64) -> Sessions
         requires own { IsOf self.now seat.old }
         ensures call { SeatCalls (AllowsOn D.honest) seat.old (Ticked now result) seat.new }
         ensures own { IsOf self.now seat.new }
@@ -254,7 +254,7 @@ impl<D: Disk, A: Allocator + Copy> Bench<D, A> {
     }
 
     /// Returns whether the exclusive lock is held, and how many sessions hold a lock, in a turn.
-    pub fn inform<R: Wait>(&self, rt: &R, seat: &mut Seat<A>) -> Info
+    pub fn inform<R: Wait>(&self, rt: &R, seat: &mut Seat) -> Info
         requires own { IsOf self.now seat.old }
         ensures call { SeatCalls (AllowsOn D.honest) seat.old (Informed result) seat.new }
         ensures own { IsOf self.now seat.new }
@@ -263,7 +263,7 @@ impl<D: Disk, A: Allocator + Copy> Bench<D, A> {
     }
 
     /// Returns the earliest time at which a waiting lock request fails, in a turn.
-    pub fn next_deadline<R: Wait>(&self, rt: &R, seat: &mut Seat<A>) -> Option<u128>
+    pub fn next_deadline<R: Wait>(&self, rt: &R, seat: &mut Seat) -> Option<u128>
         requires own { IsOf self.now seat.old }
         ensures call { SeatCalls (AllowsOn D.honest) seat.old (Due result) seat.new }
         ensures own { IsOf self.now seat.new }
@@ -272,7 +272,7 @@ impl<D: Disk, A: Allocator + Copy> Bench<D, A> {
     }
 
     /// Returns the number of calls so far. It waits for no other thread. It is for a program that watches others call.
-    pub fn progress(&self, seat: &mut Seat<A>) -> u64
+    pub fn progress(&self, seat: &mut Seat) -> u64
         requires own { IsOf self.now seat.old }
         ensures look { Sees (AllowsOn D.honest) seat.old seat.new }
         ensures length { result ≡ length seat.new.seen }
@@ -282,7 +282,7 @@ impl<D: Disk, A: Allocator + Copy> Bench<D, A> {
     }
 
     /// Creates a seat for another thread. It waits for no other thread.
-    pub fn split(&self, seat: &mut Seat<A>) -> Seat<A>
+    pub fn split(&self, seat: &mut Seat) -> Seat
         requires own { IsOf self.now seat.old }
         ensures same { seat.new ≡ seat.old }
         ensures split { Splits seat.old result }
@@ -293,7 +293,7 @@ impl<D: Disk, A: Allocator + Copy> Bench<D, A> {
 
     /// Consumes another seat; this seat has then seen its calls. It waits for no other thread. It is for a program that
     /// joins its threads, as the server never does.
-    pub fn join(&self, seat: &mut Seat<A>, other: Seat<A>)
+    pub fn join(&self, seat: &mut Seat, other: Seat)
         requires own { IsOf self.now seat.old × IsOf self.now other }
         ensures join { Joins (AllowsOn D.honest) seat.old other seat.new }
         ensures own { IsOf self.now seat.new }
@@ -303,7 +303,7 @@ impl<D: Disk, A: Allocator + Copy> Bench<D, A> {
 
     /// Waits for the last turn, and returns the state. It is for a program that joins its threads, as the server never
     /// does.
-    pub fn close<R: Wait>(self, rt: &R, seat: Seat<A>) -> Exec<D, A>
+    pub fn close<R: Wait>(self, rt: &R, seat: Seat) -> Exec<D, A>
         requires own { IsOf self seat }
         ensures close { Closes (AllowsOn D.honest) seat result.device }
     {

@@ -1,9 +1,9 @@
 //! The device's state in its box, as the object of the turn.
 ghost use Rattle.psu_bench.specs.Calls.{AllowsOn};
 
-use crate::Call;
+use crate::{Call, DeviceState};
 use psu_disk::Disk;
-use psu_exec::{Device, Exec};
+use psu_exec::Exec;
 use psu_turn::Machine;
 use std::alloc::Allocator;
 
@@ -15,7 +15,7 @@ pub(crate) struct BoxedDevice<D: Disk, A: Allocator + Copy> {
 }
 
 impl<D: Disk, A: Allocator + Copy> Machine for BoxedDevice<D, A> {
-    type State = Device<A>;
+    type State = DeviceState;
 
     type Entry = Call;
 

@@ -28,7 +28,7 @@ use std::sync::{Arc, Wait};
 #[derive(Drop)]
 pub struct Caller<D: ServedDisk> {
     bench: Arc<Bench<D, Global>>,
-    seat: Seat<Global>,
+    seat: Seat,
     gate: SharedGate<D::Gate>,
     ghost same: { seat.turn ≡ arc_value bench },
     ghost here: { is_some seat.opening ≡ true },
@@ -45,7 +45,7 @@ fn may_cause(outcome: &Outcome<Global>) -> bool
 fn caused_by<D: Disk, R: Wait>(
     rt: &R,
     bench: &Bench<D, Global>,
-    seat: &mut Seat<Global>,
+    seat: &mut Seat,
     outcome: &Outcome<Global>,
 ) -> Option<Caused>
     requires own { IsOf bench.now seat.old }

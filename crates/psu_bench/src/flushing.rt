@@ -17,10 +17,10 @@ use std::sync::Wait;
 pub fn flusher<D: Disk + Drop, A: Allocator + Copy, R: Wait, G: Gate>(
     rt: &R,
     bench: &Bench<D, A>,
-    mut seat: Seat<A>,
+    mut seat: Seat,
     rounds: u64,
     gate: &G,
-) -> Seat<A>
+) -> Seat
     requires own { IsOf bench.now seat }
     ensures same { IsSame seat result }
     ensures calls { (calls : List Entry) × (result.mine ≡ seat.mine ++ calls) × AreRounds A D.Disk rounds calls }
@@ -45,7 +45,7 @@ fn discard_stranger<D: Disk + Drop, A: Allocator + Copy>(given: Result<Sessions,
 fn one_round<D: Disk + Drop, A: Allocator + Copy, R: Wait, G: Gate>(
     rt: &R,
     bench: &Bench<D, A>,
-    seat: &mut Seat<A>,
+    seat: &mut Seat,
     gate: &G,
 )
     requires own { IsOf bench.now seat.old }

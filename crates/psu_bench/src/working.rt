@@ -19,7 +19,7 @@ use std::sync::Wait;
 pub fn session_worker<D: Disk, A: Allocator + Copy, R: Wait, G: Gate>(
     rt: &R,
     bench: &Bench<D, A>,
-    seat: &mut Seat<A>,
+    seat: &mut Seat,
     session: Session,
     request: &Request<'_>,
     tries: u64,
@@ -53,7 +53,7 @@ fn is_put_off<A: Allocator + Copy>(outcome: &Outcome<A>) -> bool
 fn next_try<D: Disk, A: Allocator + Copy, R: Wait>(
     rt: &R,
     bench: &Bench<D, A>,
-    seat: &mut Seat<A>,
+    seat: &mut Seat,
     session: Session,
     request: &Request<'_>,
     before: &Outcome<A>,

@@ -23,7 +23,7 @@ pub(crate) fn bench_on<D: Disk + Drop>(
     rt: &impl Abort,
     alloc: Global,
     disk: D,
-) -> (Bench<D, Global>, Seat<Global>)
+) -> (Bench<D, Global>, Seat)
     ensures { IsOf result.0 result.1 }
 {
     let exec = powered_on(alloc, disk).expect(rt, "a device");
@@ -37,7 +37,7 @@ pub(crate) fn bench_on<D: Disk + Drop>(
 pub(crate) fn is_flushed_at_close<D: Disk + Drop, R: Wait>(
     rt: &R,
     bench: Bench<D, Global>,
-    seat: Seat<Global>,
+    seat: Seat,
 ) -> bool
     requires { IsOf bench seat }
 {
@@ -48,7 +48,7 @@ pub(crate) fn is_flushed_at_close<D: Disk + Drop, R: Wait>(
 pub(crate) fn is_open_at_close<D: Disk + Drop, R: Wait>(
     rt: &R,
     bench: Bench<D, Global>,
-    seat: Seat<Global>,
+    seat: Seat,
     session: Session,
 ) -> bool
     requires { IsOf bench seat }
@@ -60,7 +60,7 @@ pub(crate) fn is_open_at_close<D: Disk + Drop, R: Wait>(
 pub(crate) fn opened<D: Disk, R: Wait + Abort>(
     rt: &R,
     bench: &Bench<D, Global>,
-    seat: &mut Seat<Global>,
+    seat: &mut Seat,
 ) -> Session
     requires { IsOf bench.now seat.old }
     ensures { IsOf bench.now seat.new }
@@ -85,7 +85,7 @@ pub(crate) fn read(text: &[u8]) -> Request<'_> {
 pub(crate) fn unit<D: Disk, R: Wait>(
     rt: &R,
     bench: &Bench<D, Global>,
-    seat: &mut Seat<Global>,
+    seat: &mut Seat,
     session: Session,
     text: &[u8],
 ) -> Outcome<Global>
@@ -107,7 +107,7 @@ pub(crate) fn is_answer(outcome: &Outcome<Global>, want: &[u8]) -> bool {
 pub(crate) fn executes<D: Disk, R: Wait>(
     rt: &R,
     bench: &Bench<D, Global>,
-    seat: &mut Seat<Global>,
+    seat: &mut Seat,
     session: Session,
     text: &[u8],
 ) -> bool

@@ -14,7 +14,7 @@ use std::thread::{Threads, join};
 type Device = Bench<MemDisk<Global>, Global>;
 
 // Whether a unit's outcome is `Later` and a status query finds nothing.
-fn comes_later<R: Wait>(rt: &R, bench: &Device, seat: &mut Seat<Global>, one: Session) -> bool
+fn comes_later<R: Wait>(rt: &R, bench: &Device, seat: &mut Seat, one: Session) -> bool
     requires { IsOf bench.now seat.old }
     ensures { IsOf bench.now seat.new }
 {
@@ -25,7 +25,7 @@ fn comes_later<R: Wait>(rt: &R, bench: &Device, seat: &mut Seat<Global>, one: Se
 }
 
 // Whether no lock is granted or held.
-fn holds_nothing<R: Wait>(rt: &R, bench: &Device, seat: &mut Seat<Global>, one: Session) -> bool
+fn holds_nothing<R: Wait>(rt: &R, bench: &Device, seat: &mut Seat, one: Session) -> bool
     requires { IsOf bench.now seat.old }
     ensures { IsOf bench.now seat.new }
 {
@@ -35,7 +35,7 @@ fn holds_nothing<R: Wait>(rt: &R, bench: &Device, seat: &mut Seat<Global>, one: 
 }
 
 // Makes the other calls of a session, and returns whether no session holds a lock or waits for one then.
-fn leaves_nothing<R: Wait>(rt: &R, bench: &Device, seat: &mut Seat<Global>, one: Session) -> bool
+fn leaves_nothing<R: Wait>(rt: &R, bench: &Device, seat: &mut Seat, one: Session) -> bool
     requires { IsOf bench.now seat.old }
     ensures { IsOf bench.now seat.new }
 {
@@ -51,7 +51,7 @@ fn leaves_nothing<R: Wait>(rt: &R, bench: &Device, seat: &mut Seat<Global>, one:
 }
 
 // Whether none of its twelve calls has an effect.
-fn acts_on_nothing<R: Wait>(rt: &R, bench: &Device, seat: &mut Seat<Global>, one: Session) -> bool
+fn acts_on_nothing<R: Wait>(rt: &R, bench: &Device, seat: &mut Seat, one: Session) -> bool
     requires { IsOf bench.now seat.old }
     ensures { IsOf bench.now seat.new }
 {
@@ -71,7 +71,7 @@ fn a_session_that_is_not_open_acts_on_nothing(rt: HostRuntime) {
 }
 
 // Whether the service request enable register reads as 4.
-fn reads<R: Wait>(rt: &R, bench: &Device, seat: &mut Seat<Global>, session: Session) -> bool
+fn reads<R: Wait>(rt: &R, bench: &Device, seat: &mut Seat, session: Session) -> bool
     requires { IsOf bench.now seat.old }
     ensures { IsOf bench.now seat.new }
 {
@@ -81,9 +81,9 @@ fn reads<R: Wait>(rt: &R, bench: &Device, seat: &mut Seat<Global>, session: Sess
 fn queried<R: Wait>(
     rt: &R,
     bench: &Device,
-    mut seat: Seat<Global>,
+    mut seat: Seat,
     session: Session,
-) -> (bool, Seat<Global>)
+) -> (bool, Seat)
     requires { IsOf bench.now seat }
     ensures { IsOf bench.now result.1 }
 {
@@ -95,15 +95,15 @@ fn queried<R: Wait>(
 fn queried_elsewhere<R: Threads + Wait + Sync>(
     rt: &R,
     bench: &Device,
-    seat: Seat<Global>,
+    seat: Seat,
     session: Session,
-) -> (bool, Seat<Global>)
+) -> (bool, Seat)
     requires { IsOf bench.now seat }
     ensures { IsOf bench.now result.1 }
 {
     let (queried, ()) = join(
         rt,
-        || -> (bool, Seat<Global>)
+        || -> (bool, Seat)
             requires { IsOf bench.now seat }
             ensures { IsOf bench.entry.now result.1 }
         { queried(rt, bench, seat, session) },
@@ -117,7 +117,7 @@ fn queried_elsewhere<R: Threads + Wait + Sync>(
 fn reads_elsewhere<R: Threads + Wait + Sync>(
     rt: &R,
     bench: &Device,
-    seat: &mut Seat<Global>,
+    seat: &mut Seat,
     session: Session,
 ) -> bool
     requires { IsOf bench.now seat.old }
@@ -135,7 +135,7 @@ fn reads_elsewhere<R: Threads + Wait + Sync>(
 fn is_read_elsewhere<R: Threads + Wait + Sync>(
     rt: &R,
     bench: &Device,
-    seat: &mut Seat<Global>,
+    seat: &mut Seat,
     session: Session,
 ) -> bool
     requires { IsOf bench.now seat.old }

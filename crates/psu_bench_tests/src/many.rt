@@ -15,7 +15,7 @@ const UNITS: u64 = 6_248;
 type Device = Bench<MemDisk<Global>, Global>;
 
 // Opens a session, executes units that are each answered, and closes it; returns the number of answers.
-fn one_thread<R: Wait>(rt: &R, bench: &Device, mut seat: Seat<Global>) -> (u64, Seat<Global>)
+fn one_thread<R: Wait>(rt: &R, bench: &Device, mut seat: Seat) -> (u64, Seat)
     requires { IsOf bench.now seat }
     ensures { IsOf bench.now result.1 }
 {
@@ -38,9 +38,9 @@ fn one_thread<R: Wait>(rt: &R, bench: &Device, mut seat: Seat<Global>) -> (u64, 
 fn threads<R: Threads + Wait + Sync>(
     rt: &R,
     bench: &Device,
-    mut seat: Seat<Global>,
+    mut seat: Seat,
     doublings: u32,
-) -> (u64, Seat<Global>)
+) -> (u64, Seat)
     requires { IsOf bench.now seat }
     ensures { IsOf bench.now result.1 }
 {
@@ -51,11 +51,11 @@ fn threads<R: Threads + Wait + Sync>(
     let other = bench.split(&mut seat);
     let ((some, mut seat), (more, other)) = join(
         rt,
-        || -> (u64, Seat<Global>)
+        || -> (u64, Seat)
             requires { IsOf bench.now seat }
             ensures { IsOf bench.entry.now result.1 }
         { threads(rt, bench, seat, half) },
-        || -> (u64, Seat<Global>)
+        || -> (u64, Seat)
             requires { IsOf bench.now other }
             ensures { IsOf bench.entry.now result.1 }
         { threads(rt, bench, other, half) },
@@ -78,9 +78,9 @@ fn sixteen_threads_make_100_000_calls(rt: HostRuntime) {
 fn until_later<R: Wait>(
     rt: &R,
     bench: &Device,
-    mut seat: Seat<Global>,
+    mut seat: Seat,
     session: Session,
-) -> (bool, Seat<Global>)
+) -> (bool, Seat)
     requires { IsOf bench.now seat }
     ensures { IsOf bench.now result.1 }
 {
@@ -95,7 +95,7 @@ fn until_later<R: Wait>(
     (false, seat)
 }
 
-fn closed<R: Wait>(rt: &R, bench: &Device, mut seat: Seat<Global>, session: Session) -> Seat<Global>
+fn closed<R: Wait>(rt: &R, bench: &Device, mut seat: Seat, session: Session) -> Seat
     requires { IsOf bench.now seat }
     ensures { IsOf bench.now result }
 {
@@ -107,7 +107,7 @@ fn closed<R: Wait>(rt: &R, bench: &Device, mut seat: Seat<Global>, session: Sess
 fn closed_beside<R: Threads + Wait + Sync>(
     rt: &R,
     bench: &Device,
-    seat: &mut Seat<Global>,
+    seat: &mut Seat,
     session: Session,
 ) -> bool
     requires { IsOf bench.now seat.old }
@@ -117,11 +117,11 @@ fn closed_beside<R: Threads + Wait + Sync>(
     let closing = bench.split(seat);
     let ((later, asking), closing) = join(
         rt,
-        || -> (bool, Seat<Global>)
+        || -> (bool, Seat)
             requires { IsOf bench.now asking }
             ensures { IsOf bench.entry.now result.1 }
         { until_later(rt, bench, asking, session) },
-        || -> Seat<Global>
+        || -> Seat
             requires { IsOf bench.now closing }
             ensures { IsOf bench.entry.now result }
         { closed(rt, bench, closing, session) },

@@ -27,7 +27,7 @@ fn is_outcome(outcome: &Outcome<Global>, wanted: &[u8]) -> bool {
 fn are_outcomes<D: Disk, R: Wait>(
     rt: &R,
     bench: &Bench<D, Global>,
-    seat: &mut Seat<Global>,
+    seat: &mut Seat,
     session: Session,
     first: [&[u8]; 2],
     hold: &Hold,
@@ -44,11 +44,11 @@ fn are_outcomes<D: Disk, R: Wait>(
 fn answered<D: Disk, R: Wait>(
     rt: &R,
     bench: &Bench<D, Global>,
-    mut seat: Seat<Global>,
+    mut seat: Seat,
     session: Session,
     first: [&[u8]; 2],
     hold: &Hold,
-) -> (bool, Seat<Global>)
+) -> (bool, Seat)
     requires { IsOf bench.now seat }
     ensures { IsOf bench.now result.1 }
 {
@@ -64,7 +64,7 @@ fn answered<D: Disk, R: Wait>(
 fn are_outcomes_beside<D: Disk + Drop + Send, R: Threads + Wait + Sync>(
     rt: &R,
     bench: &Bench<D, Global>,
-    seat: &mut Seat<Global>,
+    seat: &mut Seat,
     session: Session,
     first: [&[u8]; 2],
     hold: &Hold,
@@ -76,11 +76,11 @@ fn are_outcomes_beside<D: Disk + Drop + Send, R: Threads + Wait + Sync>(
     let asking = bench.split(seat);
     let ((are_outcomes, asking), flushing) = join(
         rt,
-        || -> (bool, Seat<Global>)
+        || -> (bool, Seat)
             requires { IsOf bench.now asking }
             ensures { IsOf bench.entry.now result.1 }
         { answered(rt, bench, asking, session, first, hold) },
-        || -> Seat<Global>
+        || -> Seat
             requires { IsOf bench.now flushing }
             ensures { IsOf bench.entry.now result }
         { flusher(rt, bench, flushing, 1, hold) },
@@ -91,7 +91,7 @@ fn are_outcomes_beside<D: Disk + Drop + Send, R: Threads + Wait + Sync>(
 }
 
 // Makes a round of the flusher that is not blocked.
-fn flush<D: Disk + Drop, R: Wait>(rt: &R, bench: &Bench<D, Global>, seat: &mut Seat<Global>)
+fn flush<D: Disk + Drop, R: Wait>(rt: &R, bench: &Bench<D, Global>, seat: &mut Seat)
     requires { IsOf bench.now seat.old }
     ensures { IsOf bench.now seat.new }
 {
@@ -104,7 +104,7 @@ fn flush<D: Disk + Drop, R: Wait>(rt: &R, bench: &Bench<D, Global>, seat: &mut S
 fn waits<D: Disk, R: Wait>(
     rt: &R,
     bench: &Bench<D, Global>,
-    seat: &mut Seat<Global>,
+    seat: &mut Seat,
     one: Session,
 ) -> bool
     requires { IsOf bench.now seat.old }
@@ -119,7 +119,7 @@ fn waits<D: Disk, R: Wait>(
 fn is_answered_beside<D: Disk + Drop + Send, R: Threads + Wait + Sync + Abort>(
     rt: &R,
     bench: &Bench<D, Global>,
-    seat: &mut Seat<Global>,
+    seat: &mut Seat,
     hold: &Hold,
 ) -> bool
     requires { IsOf bench.now seat.old }
@@ -150,7 +150,7 @@ fn a_session_is_answered_before_a_page_is_written(rt: HostRuntime) {
 fn is_refused_beside<D: Disk + Drop + Send, R: Threads + Wait + Sync + Abort>(
     rt: &R,
     bench: &Bench<D, Global>,
-    seat: &mut Seat<Global>,
+    seat: &mut Seat,
     hold: &Hold,
 ) -> bool
     requires { IsOf bench.now seat.old }

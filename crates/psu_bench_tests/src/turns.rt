@@ -16,8 +16,8 @@ const CALLS: u64 = 1_048_577;
 fn calls<R: Wait>(
     rt: &R,
     bench: &Bench<MemDisk<Global>, Global>,
-    mut seat: Seat<Global>,
-) -> Seat<Global>
+    mut seat: Seat,
+) -> Seat
     requires { IsOf bench.now seat }
     ensures { IsOf bench.now result }
 {

@@ -38,6 +38,7 @@ impl<D: Disk, A: Allocator + Copy> PoweredDevice<D, A> {
         ensures works { IfOk result (λ p. failures_of p.exec ≡ D.failures disk) }
         ensures size { IfOk result (λ p. extent_of p.exec ≡ D.extent disk) }
         ensures last { IfOk result (λ p. IsWornAtLast p.exec) }
+        ensures stored { IfOk result (λ p. p.exec.idle_store ≢ None) }
 
         ensures other { IfErr result (λ f. f.cause ≢ RunCause.Write) }
         ensures refused { D.honest → IfErr result (λ f. NotStarted (D.state disk).bytes (D.failures disk) (D.failures f.disk) f.cause) }

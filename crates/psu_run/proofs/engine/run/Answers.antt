@@ -97,7 +97,7 @@ returns-in_default-clause-time g c = λ h t.
     let on = c.in-Ok.ensures in
     let p = c.in-Ok.powered in
     let f = c.fault.ensures in
-    early_moments never (g.R.Source.remaining c.args.reader.now) _ _ c.args.disk p.exec c.fault.result h t (g.met.D.Disk.only_now t) (on.starts h) on.last (λ none. let bad = sym p.idle ∙ p.exec.away ∙ ap is_none none in cc) (on.time h t)
+    early_moments never (g.R.Source.remaining c.args.reader.now) _ _ c.args.disk p.exec c.fault.result h t (g.met.D.Disk.only_now t) (on.starts h) on.last on.stored (on.time h t)
     (early_unread never p.exec c.fault.result (g.R.Source.remaining c.args.reader.now) (g.W.Write.contents c.args.writer.now) Memory
     (record { cause_is = f.cause; failures = f.failures; extent = f.extent; state = f.state; reason = f.reason; disk = f.same }) (λ e. cc) (λ rest last. tt))
 
@@ -107,14 +107,14 @@ returns-in_err-disk-clause-time g c = λ h t.
     let p = c.in-Ok.powered in
     passed_disk c.from_residual.result c.in_err-disk.field-0.0 (λ d. LeavesOnly g.D.Disk.moment g.D.Disk.left_since c.args.disk d (IsOfRun (g.D.Disk.state c.args.disk) (g.R.Source.remaining c.args.reader.now))) c.from_residual.ensures.1
     (early_moments _ (g.R.Source.remaining c.args.reader.now) _ _ c.args.disk p.exec c.in_err-disk.field-0.0 h t (g.met.D.Disk.only_now t) (on.starts h) on.last
-    (λ none. let bad = sym p.idle ∙ p.exec.away ∙ ap is_none none in cc) (on.time h t) c.in_err-disk.ensures.early)
+    on.stored (on.time h t) c.in_err-disk.ensures.early)
 
 pub returns-clause-time : goal.returns-clause-time
 returns-clause-time g c = λ h t.
     let on = c.in-Ok.ensures in
     let p = c.in-Ok.powered in
     let whole = c.in_ok-disk.ensures.whole in
-    run_moments (g.R.Source.remaining c.args.reader.now) c.args.disk c.in_ok-disk.disk p.exec whole.0 t (g.met.D.Disk.only_now t) (on.starts h) (λ none. let bad = sym p.idle ∙ p.exec.away ∙ ap is_none none in cc) (on.time h t)
+    run_moments (g.R.Source.remaining c.args.reader.now) c.args.disk c.in_ok-disk.disk p.exec whole.0 t (g.met.D.Disk.only_now t) (on.starts h) on.stored (on.time h t)
     whole.1 (whole.2.ends h (born p.exec)).5
 
 pub returns-in-Err-clause-reads : goal.returns-in-Err-clause-reads

@@ -48,4 +48,4 @@ returns-clause-runs g c =
     let on = c.in_ok-powered.ensures in
     let disk = c.into_disk.ensures in
     restart_runs c.args.powered.exec c.reopen.new.exec c.in_ok-powered.powered.exec c.into_disk.result c.in-Ok.ensures.reopens disk.state disk.same (λ h. disk.stands h c.in-Ok.ensures.mended)
-    on.starts on.works disk.failures on.size disk.extent on.last (λ none. let bad = sym c.in_ok-powered.powered.idle ∙ c.in_ok-powered.powered.exec.away ∙ ap is_none none in cc) on.time
+    on.starts on.works disk.failures on.size disk.extent on.last on.stored on.time

@@ -16,4 +16,4 @@ returns-in-Some-Failed g c =
     let here = c.in-Some-Failed.is ∙ ap Some c.in-Some-Failed.field-0-is in
     let own = c.self.invariant.3 (Failed c.in-Some-Failed.broken) here in
     let is = device_is c.self.view_is in
-    (sym (store_is c.self.view_is) ∙ here, own.0 ∙ ap (λ (s : State). s.flush.before) is, own.1 ∙ ap (λ (s : State). s.flush.limit) is)
+    (sym (store_is c.self.view_is) ∙ here, own.0 ∙ ap (λ (s : State). s.flush.before) is, own.1 ∙ ap (λ (s : State). s.flush.limit) is, sym (ap (λ (s : State). s.flush.store) is) ∙ own.2)

@@ -1,4 +1,4 @@
-use Rattle.std.proofs.Common.{◌∙◌, ℕ, ◌+◌, ◌≤◌, ◌^◌, List, ap, subst, sym, not}
+use Rattle.std.proofs.Common.{◌∙◌, ℕ, ◌+◌, ◌≤◌, ◌^◌, List, ap, subst, sym}
 use Rattle.psu_disk.specs.Ranges.{reads_left}
 use Rattle.psu_map.specs.Map.{Item}
 use Rattle.psu_items.specs.Image.{Represents}
@@ -22,10 +22,10 @@ returns-in-Whole-clause-reason g c = λ h why worn.
     (subst (λ (n : ℕ). 2 ^ 64 ≤ n + 1) (sym reported) (worn_number c.args.self.exec store c.in-Whole.ensures.0 why worn))
 
 pub returns-in-Failed-clause-stands : goal.returns-in-Failed-clause-stands
-returns-in-Failed-clause-stands g c = λ h whole. let kind = c.args.self.exec.kind _ c.in-Failed.ensures.0 in let bad = kind ∙ ap not whole in cc
+returns-in-Failed-clause-stands g c = λ h whole. let bad = sym whole ∙ ap is_broken c.in-Failed.ensures.3 in cc
 
 pub returns-in-Failed-clause-reason : goal.returns-in-Failed-clause-reason
-returns-in-Failed-clause-reason g c = λ h why worn. let kind = c.args.self.exec.kind _ c.in-Failed.ensures.0 in let bad = kind ∙ ap (λ s. not (is_broken s)) worn in cc
+returns-in-Failed-clause-reason g c = λ h why worn. let bad = sym worn ∙ c.in-Failed.ensures.3 in cc
 
 pub returns-in-Whole-clause-same : goal.returns-in-Whole-clause-same
 returns-in-Whole-clause-same g c = λ h there. c.into_disk.ensures.value ∙ ap idle_disk (the_idle_store (idle_store.Whole c.in-Whole.store) h (sym c.in-Whole.ensures.0 ∙ there))

@@ -42,6 +42,9 @@ returns-in-Err-power_on-clause-time_refused g c = λ h t.
     subst (λ d. LeavesOnly g.D.Disk.moment g.D.Disk.left_since c.args.disk d (IsOldOrSame (g.D.Disk.state c.args.disk))) (sym c.into_disk.ensures.value)
     (subst (λ s. LeavesOnly g.D.Disk.moment g.D.Disk.left_since c.args.disk s.disk (IsOldOrSame (g.D.Disk.state c.args.disk))) (sym c.in-Err-power_on.ensures.back) (c.in-Ok.ensures.images.time h t))
 
+pub returns-clause-stored : goal.returns-clause-stored
+returns-clause-stored g c none = let bad = sym none ∙ (c.open_session.ensures.idle_store ∙ c.in-Ok-power_on.ensures.idle_store) in cc
+
 pub returns-clause-time : goal.returns-clause-time
 returns-clause-time g c = λ h t idle_store there.
     opened_moments c.args.disk c.in-Ok.store idle_store c.open_session.new.self (c.open_session.ensures.idle_store ∙ c.in-Ok-power_on.ensures.idle_store) there (c.in-Ok.ensures.images.time h t)
