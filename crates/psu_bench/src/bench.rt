@@ -5,17 +5,17 @@ ghost use Rattle.psu_exec.specs.Calls.Entry.{Executed, Settled, Took, GaveBack, 
 ghost use Rattle.psu_exec.specs.Shown.{outcome_of, over_of};
 ghost use Rattle.psu_bench.specs.Calls.{AllowsOn, session_of};
 
-use crate::{Call, DeviceState};
 use crate::boxed_device::BoxedDevice;
 use crate::operation::Operation;
 use crate::operations::{
     Clear, CloseSession, Execute, Fetch, GiveBack, Inform, Lock, MarkDelivered, MarkSent,
     NextDeadline, Notify, OpenSession, Query, Release, Settle, Take, Tick,
 };
+use crate::{Call, DeviceState};
 use psu_disk::Disk;
 use psu_exec::{
-    Crowded, Exec, Finished, Freed, Grant, Info, Job, Kind, LockRefusal, NoJob,
-    Notifications, Outcome, Request, Session, Sessions, Stranger,
+    Crowded, Exec, Finished, Freed, Grant, Info, Job, Kind, LockRefusal, NoJob, Notifications,
+    Outcome, Request, Session, Sessions, Stranger,
 };
 use psu_turn::{NoMemory, Turn};
 use std::alloc::Allocator;

@@ -78,12 +78,7 @@ fn reads<R: Wait>(rt: &R, bench: &Device, seat: &mut Seat, session: Session) -> 
     is_answer(&unit(rt, bench, seat, session, b"*SRE?"), b"4")
 }
 
-fn queried<R: Wait>(
-    rt: &R,
-    bench: &Device,
-    mut seat: Seat,
-    session: Session,
-) -> (bool, Seat)
+fn queried<R: Wait>(rt: &R, bench: &Device, mut seat: Seat, session: Session) -> (bool, Seat)
     requires { IsOf bench.now seat }
     ensures { IsOf bench.now result.1 }
 {

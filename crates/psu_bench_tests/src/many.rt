@@ -75,12 +75,7 @@ fn sixteen_threads_make_100_000_calls(rt: HostRuntime) {
 }
 
 // Executes units of a session until the outcome of one is `Later`, or a million were answered.
-fn until_later<R: Wait>(
-    rt: &R,
-    bench: &Device,
-    mut seat: Seat,
-    session: Session,
-) -> (bool, Seat)
+fn until_later<R: Wait>(rt: &R, bench: &Device, mut seat: Seat, session: Session) -> (bool, Seat)
     requires { IsOf bench.now seat }
     ensures { IsOf bench.now result.1 }
 {

@@ -101,12 +101,7 @@ fn flush<D: Disk + Drop, R: Wait>(rt: &R, bench: &Bench<D, Global>, seat: &mut S
 }
 
 // Whether a save begins, and a session waits for its end.
-fn waits<D: Disk, R: Wait>(
-    rt: &R,
-    bench: &Bench<D, Global>,
-    seat: &mut Seat,
-    one: Session,
-) -> bool
+fn waits<D: Disk, R: Wait>(rt: &R, bench: &Bench<D, Global>, seat: &mut Seat, one: Session) -> bool
     requires { IsOf bench.now seat.old }
     ensures { IsOf bench.now seat.new }
 {

@@ -13,11 +13,7 @@ use std::sync::Wait;
 const CALLS: u64 = 1_048_577;
 
 // Makes this many calls, which change nothing.
-fn calls<R: Wait>(
-    rt: &R,
-    bench: &Bench<MemDisk<Global>, Global>,
-    mut seat: Seat,
-) -> Seat
+fn calls<R: Wait>(rt: &R, bench: &Bench<MemDisk<Global>, Global>, mut seat: Seat) -> Seat
     requires { IsOf bench.now seat }
     ensures { IsOf bench.now result }
 {
