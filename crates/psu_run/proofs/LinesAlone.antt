@@ -51,8 +51,8 @@ units_from Asked from to list (Plain {place = place} {effects = before} u unit r
 units_from Asked from to list (Expanded {place = place} {effects = before} u unit body ended inner count inside over) = let low = units_from Asked from place before u in omega (arith, low)
 
 first_at : (Asked : ℕ → Request → Type 0) (from place : ℕ) (list : List Effect) → UnitsDone Asked from place list → (request : Request) → Asked place request → ((other : Request) × Asked from other) ⊎ (from < place)
-first_at Asked from place list u request asked = elim (cases_Bool (from == place)) [
-  | inl same ↦ let is : from ≡ place = grind (arith, nat_tests, same) in inl (request, subst (λ (n : ℕ). Asked n request) (sym is) asked)
+first_at Asked from place list u request requested = elim (cases_Bool (from == place)) [
+  | inl same ↦ let is : from ≡ place = grind (arith, nat_tests, same) in inl (request, subst (λ (n : ℕ). Asked n request) (sym is) requested)
   | inr other ↦ let low = units_from Asked from place list u in inr (grind (arith, nat_tests, other, low))
 ]
 
@@ -70,19 +70,19 @@ no_messages : (source : Source) (count : ℕ) (list : List Effect) → count ≡
 no_messages source count list none NoMessage = refl
 no_messages source count list none (OneMore {from = from} {effects = before} m to message is) = let some = is.some in absurd (omega (arith, some, none))
 
-message_told : (list : List Effect) → IsAnswered list ⊎ IsSilent list → text_sent list ≡ response (answers list)
-message_told list (inl a) =
+message_sends : (list : List Effect) → IsAnswered list ⊎ IsSilent list → text_sent list ≡ response (answers list)
+message_sends list (inl a) =
     let all : answers list ≡ answers a.before = ap answers a.ends ∙ (answers_append a.before (Sent a.piece true ∷ []) ∙ append-nil (answers a.before)) in
     a.text ∙ sym (ap response all ∙ ap (λ (b : Bool). joined (answers a.before) ++ end_of b) a.answered)
-message_told list (inr s) = s.text ∙ sym (ap response s.answers)
+message_sends list (inr s) = s.text ∙ sym (ap response s.answers)
 
 -- what is sent for a line is the response message of its units
-line_told : (source : Source) (count : ℕ) (list : List Effect) → IsLine source → AreMessages source count list → text_sent list ≡ response (answers list)
-line_told source count list line NoMessage = refl
-line_told source count list line (OneMore {from = from} {effects = before} m to message is) =
+line_sends : (source : Source) (count : ℕ) (list : List Effect) → IsLine source → AreMessages source count list → text_sent list ≡ response (answers list)
+line_sends source count list line NoMessage = refl
+line_sends source count list line (OneMore {from = from} {effects = before} m to message is) =
     let first = some_first (IsAskedIn source from) from to (acts message) is.units is.some in
     let zero_at = begins_line source from first.0 line (subst (λ (b : Bool). Asks source from first.0 b) (eq_itself from) first.1) in
-    subst (λ (z : List Effect). text_sent (z ++ message) ≡ response (answers (z ++ message))) (sym (no_messages source from before zero_at m)) (message_told message is.text)
+    subst (λ (z : List Effect). text_sent (z ++ message) ≡ response (answers (z ++ message))) (sym (no_messages source from before zero_at m)) (message_sends message is.text)
 
 -- ---- the text apart from the units
 
@@ -189,9 +189,9 @@ with_is all Later = sym (append-nil all)
 
 -- the answers with those of one more unit
 one_more : (base all : List (List ℕ)) (list unit : List Effect) (reply given : Reply) → all ≡ base ++ answers list → given ≡ reply → answers unit ≡ answer_in reply → with_answer all given ≡ base ++ answers (list ++ unit)
-one_more base all list unit reply given are same told =
+one_more base all list unit reply given are same added =
     ap (with_answer all) same ∙ (with_is all reply ∙ (ap (λ (l : List (List ℕ)). l ++ answer_in reply) are ∙ (append_assoc base (answers list) (answer_in reply)
-    ∙ ap (λ (l : List (List ℕ)). base ++ l) (ap (λ (l : List (List ℕ)). answers list ++ l) (sym told) ∙ sym (answers_append list unit)))))
+    ∙ ap (λ (l : List (List ℕ)). base ++ l) (ap (λ (l : List (List ℕ)). answers list ++ l) (sym added) ∙ sym (answers_append list unit)))))
 
 inside_join : (xs ys : List Request) (r : Rest) (all : List (List ℕ)) (mid end : Spoken) → SpeaksInside r all xs mid → SpeaksInside mid.rest mid.answers ys end → SpeaksInside r all (xs ++ ys) end
 inside_join [] ys r all mid end p q = subst (λ (z : Spoken). SpeaksInside z.rest z.answers ys end) p q
@@ -213,7 +213,7 @@ speaks_plain Later r all plain = refl
 
 -- ---- units, one after another
 
-pub record Inside (r : Rest) (body : List ℕ) (base : List (List ℕ)) (place : ℕ) (list : List Effect) (v : World) : Type 0 where
+pub record InsideSpeaks (r : Rest) (body : List ℕ) (base : List (List ℕ)) (place : ℕ) (list : List Effect) (v : World) : Type 0 where
   pub done : List Request
   pub within : FirstOf true body place done
   pub spoken : Spoken
@@ -221,17 +221,17 @@ pub record Inside (r : Rest) (body : List ℕ) (base : List (List ℕ)) (place :
   pub are : spoken.answers ≡ base ++ answers list
   pub quiet : Quiet spoken.rest v
 
-pub record Told (r : Rest) (source : Source) (place : ℕ) (list : List Effect) (v : World) : Type 0 where
+pub record UnitsSpeak (r : Rest) (source : Source) (place : ℕ) (list : List Effect) (v : World) : Type 0 where
   pub done : List Request
-  pub asked : FirstAsked source place done
+  pub requested : FirstAsked source place done
   pub spoken : Spoken
   pub speaks : Speaks r [] done spoken
   pub are : spoken.answers ≡ answers list
   pub quiet : Quiet spoken.rest v
 
 module _ (laws : Laws) where
-  inside_told : (r : Rest) (body : List ℕ) (base : List (List ℕ)) (place : ℕ) (list : List Effect) (w v : World) → InsideDone body place list → Quiet r w → effects.Runs On w list v → Inside r body base place list v
-  inside_told r body base place list w v NoneInside quiet runs = record {
+  inside_speaks : (r : Rest) (body : List ℕ) (base : List (List ℕ)) (place : ℕ) (list : List Effect) (w v : World) → InsideDone body place list → Quiet r w → effects.Runs On w list v → InsideSpeaks r body base place list v
+  inside_speaks r body base place list w v NoneInside quiet runs = record {
     done = [];
     within = first_none laws.some true body;
     spoken = record { rest = r; answers = base };
@@ -239,9 +239,9 @@ module _ (laws : Laws) where
     are = sym (append-nil base);
     quiet = subst (λ (z : World). Quiet r z) (sym runs) quiet;
   }
-  inside_told r body base place list w v (OneInside {place = at} {effects = before} i unit reply ended) quiet runs =
+  inside_speaks r body base place list w v (OneInside {place = at} {effects = before} i unit reply ended) quiet runs =
       let s = split before unit w v runs in
-      let t = inside_told r body base at before w s.0 i quiet s.1 in
+      let t = inside_speaks r body base at before w s.0 i quiet s.1 in
       let one = once (IsInside body at) unit reply s.0 v ended s.2 in
       let went = unit_alone t.spoken.rest s.0 v one.request reply t.quiet (inside_holds body at one.request one.is) one.runs in
       let next : Spoken = record { rest = went.0.rest; answers = with_answer t.spoken.answers went.0.reply } in
@@ -254,40 +254,40 @@ module _ (laws : Laws) where
         quiet = went.2.quiet;
       }
 
-  units_told : (r : Rest) (source : Source) (place : ℕ) (list : List Effect) (w v : World) → UnitsDone (IsAsked source) 0 place list → Quiet r w → effects.Runs On w list v → Told r source place list v
-  units_told r source place list w v NoUnit quiet runs = record {
+  units_speak : (r : Rest) (source : Source) (place : ℕ) (list : List Effect) (w v : World) → UnitsDone (IsAsked source) 0 place list → Quiet r w → effects.Runs On w list v → UnitsSpeak r source place list v
+  units_speak r source place list w v NoUnit quiet runs = record {
     done = [];
-    asked = asked_none laws.some source;
+    requested = asked_none laws.some source;
     spoken = record { rest = r; answers = [] };
     speaks = refl;
     are = refl;
     quiet = subst (λ (z : World). Quiet r z) (sym runs) quiet;
   }
-  units_told r source place list w v (Plain {place = at} {effects = before} u unit reply ended plain) quiet runs =
+  units_speak r source place list w v (Plain {place = at} {effects = before} u unit reply ended plain) quiet runs =
       let s = split before unit w v runs in
-      let t = units_told r source at before w s.0 u quiet s.1 in
+      let t = units_speak r source at before w s.0 u quiet s.1 in
       let one = once (IsAsked source at) unit reply s.0 v ended s.2 in
       let went = unit_alone t.spoken.rest s.0 v one.request reply t.quiet (asked_holds source at one.request one.is) one.runs in
       let next : Spoken = record { rest = went.0.rest; answers = with_answer t.spoken.answers went.0.reply } in
       record {
         done = t.done ++ one.request ∷ [];
-        asked = asked_next laws.ones source at t.done one.request one.is.0 t.asked one.is.1;
+        requested = asked_next laws.ones source at t.done one.request one.is.0 t.requested one.is.1;
         spoken = next;
         speaks = speaks_join t.done (one.request ∷ []) r [] t.spoken next t.speaks
             (went.0, next, went.1, speaks_plain went.0.reply went.0.rest t.spoken.answers (ap is_expansion went.2.reply ∙ plain), refl);
         are = one_more [] t.spoken.answers before unit reply went.0.reply t.are went.2.reply one.answers;
         quiet = went.2.quiet;
       }
-  units_told r source place list w v (Expanded {place = at} {effects = before} u unit body ended inner count inside over) quiet runs =
+  units_speak r source place list w v (Expanded {place = at} {effects = before} u unit body ended inner count inside over) quiet runs =
       let s = split before (unit ++ inner) w v runs in
       let s2 = split unit inner s.0 v s.2 in
-      let t = units_told r source at before w s.0 u quiet s.1 in
+      let t = units_speak r source at before w s.0 u quiet s.1 in
       let one = once (IsAsked source at) unit (Expand body) s.0 s2.0 ended s2.1 in
       let went = unit_alone t.spoken.rest s.0 s2.0 one.request (Expand body) t.quiet (asked_holds source at one.request one.is) one.runs in
-      let i = inside_told went.0.rest body t.spoken.answers count inner s2.0 v inside went.2.quiet s2.2 in
+      let i = inside_speaks went.0.rest body t.spoken.answers count inner s2.0 v inside went.2.quiet s2.2 in
       record {
         done = t.done ++ one.request ∷ [];
-        asked = asked_next laws.ones source at t.done one.request one.is.0 t.asked one.is.1;
+        requested = asked_next laws.ones source at t.done one.request one.is.0 t.requested one.is.1;
         spoken = i.spoken;
         speaks = speaks_join t.done (one.request ∷ []) r [] t.spoken i.spoken t.speaks (
           went.0,
@@ -306,22 +306,22 @@ module _ (laws : Laws) where
   -- the script's requests and answers of a line that was executed
   pub record Scripted (r : Rest) (source : Source) (text : List ℕ) (new : World) : Type 0 where
     pub requests : List Request
-    pub asked : AskedBy source requests
+    pub requested : AskedBy source requests
     pub spoken : Spoken
     pub speaks : Speaks r [] requests spoken
-    pub told : text ≡ response spoken.answers
+    pub text_is : text ≡ response spoken.answers
     pub quiet : Quiet spoken.rest new
 
   pub line_alone : (r : Rest) (source : Source) (w new : World) (text : List ℕ) → IsLine source → Quiet r w → LineRuns none w source text new → Scripted r source text new
   line_alone r source w new text line quiet (c, a, over) =
       let reached = a.reaches [] Beginning in
       let p = apart a.added (record { world = w; text = [] }) (record { world = new; text = text }) a.runs in
-      let t = units_told r source c.standing.units (acts a.added) w new (laws.done source a.added c reached over) quiet p.runs in
+      let t = units_speak r source c.standing.units (acts a.added) w new (laws.done source a.added c reached over) quiet p.runs in
       record {
         requests = t.done;
-        asked = asked_all laws.ones source c.standing.units t.done t.asked over.units;
+        requested = asked_all laws.ones source c.standing.units t.done t.requested over.units;
         spoken = t.spoken;
         speaks = t.speaks;
-        told = p.text ∙ (line_told source c.standing.units a.added line (laws.messages source a.added c reached over) ∙ sym (ap response (t.are ∙ p.answers)));
+        text_is = p.text ∙ (line_sends source c.standing.units a.added line (laws.messages source a.added c reached over) ∙ sym (ap response (t.are ∙ p.answers)));
         quiet = t.quiet;
       }

@@ -108,10 +108,10 @@ module _ (laws : Laws) where
       let s = line_alone laws r source w new text line q l in
       record {
         requests = s.requests;
-        asks = asks s.requests s.asked;
+        asks = asks s.requests s.requested;
         outcome = record { rest = s.spoken.rest; text = response s.spoken.answers };
         tells = tells s.requests s.spoken s.speaks;
-        same = record { text = sym s.told; quiet = s.quiet };
+        same = record { text = sym s.text_is; quiet = s.quiet };
       }
 
   message_alone : (m : Message) (r : Rest) (w new : World) (text : List ℕ) → IsWhole m → Quiet r w → MessageRuns none w m text new → SameMessage r m text new
