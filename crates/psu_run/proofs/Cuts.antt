@@ -6,25 +6,20 @@ use Rattle.std.proofs.lemmas.Grind.{common_steps}
 use Rattle.std.proofs.lemmas.Bool.Decides.{nat_tests}
 use Rattle.std.specs.Str.{bytes_eq}
 use Rattle.memchr.specs.Find.{IsFirstByte, is_byte}
-use Rattle.psu_run.specs.Lines.{first_onto, parts_of, first_part, after_part, has, Message, message_of, messages, coming, message_now, power_line, is_none_begun}
+use Rattle.psu_run.proofs.Common.{Message, coming, first_onto, has, is_none_begun, message_now, message_of, messages, parts_of, power_line}
+use Rattle.psu_run.specs.Lines.{first_part, after_part}
 
-pub no_head : (e x : ℕ) (p : List ℕ) → has e (x ∷ p) ≡ false → (x == e) ≡ false
-no_head e x p h = grind (arith, common_steps, h)
-
-pub no_tail : (e x : ℕ) (p : List ℕ) → has e (x ∷ p) ≡ false → has e p ≡ false
-no_tail e x p h = grind (arith, common_steps, h)
+pub has_none : (e x : ℕ) (p : List ℕ) → has e (x ∷ p) ≡ false → ((x == e) ≡ false) × (has e p ≡ false)
+has_none e x p h = grind (arith, common_steps, h)
 
 pub has_none_append : (e : ℕ) (a b : List ℕ) → has e a ≡ false → has e b ≡ false → has e (a ++ b) ≡ false
 has_none_append e [] b p q = q
-has_none_append e (x ∷ a) b p q = grind (arith, has_none_append e a b (no_tail e x a p) q, no_head e x a p)
-
-same_end : (e : ℕ) → (e == e) ≡ true
-same_end e = grind (arith, nat_tests)
+has_none_append e (x ∷ a) b p q = grind (arith, has_none_append e a b (has_none e x a p).1 q, (has_none e x a p).0)
 
 -- a part that ends
 pub parts_at : (e : ℕ) (p r : List ℕ) → has e p ≡ false → parts_of e (p ++ e ∷ r) ≡ p ∷ parts_of e r
-parts_at e [] r h = rw (same_end e) refl
-parts_at e (x ∷ p) r h = rw (no_head e x p h) (ap (first_onto x) (parts_at e p r (no_tail e x p h)))
+parts_at e [] r h = let end : (e == e) ≡ true = grind (arith, nat_tests) in rw end refl
+parts_at e (x ∷ p) r h = rw ((has_none e x p h).0) (ap (first_onto x) (parts_at e p r (has_none e x p h).1))
 
 begun : (e x : ℕ) (input : List ℕ) → first_onto x (parts_of e input) ≡ (x ∷ first_part e input) ∷ parts_of e (after_part e input)
 begun e x [] = refl
@@ -35,16 +30,16 @@ begun e x (y ∷ r) = elim (cases_Bool (y == e)) [
 
 pub parts_begun : (e x : ℕ) (p input : List ℕ) → has e (x ∷ p) ≡ false
     → parts_of e ((x ∷ p) ++ input) ≡ ((x ∷ p) ++ first_part e input) ∷ parts_of e (after_part e input)
-parts_begun e x [] input h = rw (no_head e x [] h) (begun e x input)
-parts_begun e x (y ∷ p) input h = rw (no_head e x (y ∷ p) h) (ap (first_onto x) (parts_begun e y p input (no_tail e x (y ∷ p) h)))
+parts_begun e x [] input h = rw ((has_none e x [] h).0) (begun e x input)
+parts_begun e x (y ∷ p) input h = rw ((has_none e x (y ∷ p) h).0) (ap (first_onto x) (parts_begun e y p input (has_none e x (y ∷ p) h).1))
 
 pub after_begun : (e : ℕ) (p input : List ℕ) → has e p ≡ false → after_part e (p ++ input) ≡ after_part e input
 after_begun e [] input h = refl
-after_begun e (x ∷ p) input h = rw (no_head e x p h) (after_begun e p input (no_tail e x p h))
+after_begun e (x ∷ p) input h = rw ((has_none e x p h).0) (after_begun e p input (has_none e x p h).1)
 
 pub parts_last : (e x : ℕ) (p : List ℕ) → has e (x ∷ p) ≡ false → parts_of e (x ∷ p) ≡ (x ∷ p) ∷ []
-parts_last e x [] h = rw (no_head e x [] h) refl
-parts_last e x (y ∷ p) h = rw (no_head e x (y ∷ p) h) (ap (first_onto x) (parts_last e y p (no_tail e x (y ∷ p) h)))
+parts_last e x [] h = rw ((has_none e x [] h).0) refl
+parts_last e x (y ∷ p) h = rw ((has_none e x (y ∷ p) h).0) (ap (first_onto x) (parts_last e y p (has_none e x (y ∷ p) h).1))
 
 -- a list with no such byte at any index has none
 free_of : (e : ℕ) (s : List ℕ) → ((j : ℕ) → j < length s → ¬ (slice_index s j == e ≡ true)) → has e s ≡ false
@@ -68,8 +63,7 @@ whole_tail s n = grind (arith, common_steps)
 
 pub found_parts : (e : ℕ) (s : List ℕ) (at : ℕ) → IsFirstByte (is_byte e) s (Some at) → s ≡ take at s ++ e ∷ drop (at + 1) s
 found_parts e s at h =
-    let within : at < length s = h.0.high in
-    let is : slice_index s at ≡ e = grind (arith, nat_tests, h.1) in
+    let within : at < length s = h.0.high in let is : slice_index s at ≡ e = grind (arith, nat_tests, h.1) in
     sym (take-append-drop at s) ∙ ap (λ (z : List ℕ). take at s ++ z) (drop-cons s at 0 within ∙ ap (λ (x : ℕ). x ∷ drop (suc at) s) is ∙ ap (λ (n : ℕ). e ∷ drop n s) (sym (add-one at)))
 
 long_message : (l : List ℕ) → 65536 < length l → message_of l ≡ Message.Overlong
@@ -104,11 +98,9 @@ coming_end false line input h = ap (map message_of) (parts_at 10 line input h)
 pub coming_last : (over : Bool) (line : List ℕ) → is_none_begun over line ≡ false → has 10 line ≡ false → coming over line [] ≡ message_now over line ∷ []
 coming_last true line begun free = refl
 coming_last false [] begun free = cc
-coming_last false (x ∷ p) begun free =
-    ap messages (append-nil (x ∷ p)) ∙ ap (λ (z : List (List ℕ)). map message_of z) (parts_last 10 x p free)
+coming_last false (x ∷ p) begun free = ap messages (append-nil (x ∷ p)) ∙ ap (λ (z : List (List ℕ)). map message_of z) (parts_last 10 x p free)
 
 -- no line has begun
 pub coming_none : (over : Bool) (line : List ℕ) → is_none_begun over line ≡ true → coming over line [] ≡ []
-coming_none true line h = cc
 coming_none false [] h = refl
-coming_none false (x ∷ p) h = absurd (grind (arith, nat_tests, h))
+coming_none over line h = absurd (grind (arith, nat_tests, h))

@@ -1,48 +1,25 @@
--- The lines of a piece, one after another.
-use Rattle.std.proofs.Common.{◌≡◌, ℕ, ◌+◌, ◌-◌, ◌≤◌, Bool, true, false, List, [], ◌∷◌, ◌++◌, length, take, drop, refl, sym, ap, ◌∙◌, subst, inl, inr, append_assoc, arith, Option, Some, None}
+-- The lines of a piece, one after another, and the pieces of an input.
+use Rattle.std.proofs.Common.{arith, ◌≡◌, ℕ, ◌+◌, ◌-◌, ◌≤◌, Bool, true, false, List, [], ◌∷◌, ◌++◌, length, take, drop, refl, sym, ap, ◌∙◌, subst, inr, append_assoc, Some, ◌⊎◌, inl, append-nil}
 use Rattle.std.specs.Str.{bytes_eq}
 use Rattle.memchr.specs.Find.{IsFirstByte, is_byte}
-use Rattle.std.specs.Option.{ForSome}
-use Rattle.psu_disk.specs.Disk.{DiskState, HasFailed, IsCrashImage, LeavesOnly}
-use Rattle.psu_disk.specs.declared.disk.Disk.{Ghosts}
-use Rattle.psu_items.specs.Finding.{IsOldOrSame}
-use Rattle.psu_items.specs.Image.{EachRepresents}
-use Rattle.psu_items.proofs.Opening.{still_represents}
-use Rattle.psu_exec.specs.Jobs.{idle_disk}
-use Rattle.psu_map.specs.Map.{Item}
-use Rattle.psu_messages.specs.Units.{Source}
-use Rattle.psu_exec.specs.Consistent.{IsConsistent}
-use Rattle.psu_exec.specs.World.{World}
-use Rattle.psu_exec.specs.declared.condition.Condition.TheVariants.{Worn}
-use Rattle.psu_exec.specs.Exec.{Exec}
-use Rattle.psu_run.specs.Causes.{IsWornOut, NotStarted}
-use Rattle.psu_run.specs.Failures.{extent_of, failures_of}
-use Rattle.psu_run.specs.Jobs.{IsWornAtLast}
-use Rattle.psu_run.specs.Lines.{Message, message_now, message_of, coming, has, is_power, power_line}
-use Rattle.psu_run.specs.Lives.{Life, born, disk_at, world_of, IsLeftBy, PowersOn}
-use Rattle.psu_run.specs.Output.{Says, SaysUntil, OutputState}
-use Rattle.psu_run.specs.Moments.{IsBetween, IsWhile, Since, disk_in}
-use Rattle.psu_run.specs.Progress.{Breaks, EachMoment, Fed, DeviceContinues, DeviceStops, RunsOn, Spans, Stopped, RunEnds, RunEndsHere}
-use Rattle.psu_run.specs.Reasons.{IsAtPower, IsHaltedBy, StopsFor, never}
-use Rattle.psu_run.specs.Runs.{Mishaps, any, none, Flushes, LineBegins, LineOf, LineRuns, MessageBegins, MessageRuns, NextBegins, Reopens, Runs}
-use Rattle.psu_run.specs.declared.run_cause.RunCause.{RunCause}
-use Rattle.psu_run.specs.declared.run_cause.RunCause.TheVariants.{Read, Write, Open, Device, TooLong, Memory as RunMemory}
-use Rattle.psu_run.specs.declared.run_fault.RunFault.{RunFault}
-use Rattle.psu_run.proofs.Calls.{Executes, begins_all, executes_none, flush_calls, job_calls, prefix_of_map, prefix_of_reached, reached_made}
+use Rattle.psu_run.proofs.Common.{Begins, DeviceStops, Effect, Exec, FaultOf, Fed, Ghosts, IsTry, IsUnit, Leads, LineRuns, Makes, Memory, Message, MessageRuns, OutputState, Request, RunCause, RunFault, RunStep, RunStops, Runs, Says, SaysUntil, Sent, Source, Stopped, Text, coming, has, held, line_source, message_now, message_of, never, power_line, text_sent}
+use Rattle.psu_run.specs.Progress.{IsDone, IsFailed, IsStopped}
+use Rattle.psu_run.specs.Lines.{is_power}
+use Rattle.psu_run.specs.Runs.{LineBegins, LineOf}
 use Rattle.psu_run.proofs.Cuts.{plain_message, power_message, coming_end, found_parts, whole_tail}
-use Rattle.psu_run.specs.Effects.{line_source}
-use Rattle.psu_run.proofs.OutputState.{says_join, says_none, until_after}
-use Rattle.psu_run.proofs.UnitEnds.{goes_as}
-use Rattle.psu_run.proofs.Lasting.{hands_now, hands_then, lasts_none}
-use Rattle.psu_run.proofs.Moments.{leads_none, since_as, since_back, since_from, since_idle, since_then, since_to}
-use Rattle.psu_run.proofs.Passing.{runs_one, idle_begins, while_begun, while_idle, while_here, run_one, then_moments, runs_none, runs_all}
-use Rattle.psu_run.proofs.Starting.{halted_stops, restart_stops}
-use Rattle.psu_run.proofs.Within.{within_as, within_at, within_any, within_here, within_later}
+use Rattle.psu_run.proofs.Going.{steps_as, steps_none, steps_then, device_stops_as, device_stops_then}
+use Rattle.psu_run.proofs.Fronts.{says_join, says_none, until_after, until_none, until_rest, until_still}
+use Rattle.psu_run.proofs.Stopping.{halted, runs_join, runs_one, stops_now, stops_then}
+use Rattle.psu_exec.specs.Device.{Answer}
+use Rattle.psu_messages.specs.Effects as effects
+use Rattle.psu_messages.specs.Effects.{Executed, Settled}
+use Rattle.psu_messages.specs.Executions.{Progress, Interruption, Advances, IsNext, IsOver, StopsAt, beginning}
+use Rattle.psu_messages.specs.Executions.Interruption.{Failed, Stopped as StoppedBetween, NotBuffered}
+use Rattle.psu_messages.specs.Executions.Reaches.{Begins as Beginning}
+use Rattle.psu_messages.specs.Relations.{Relations}
+use Rattle.psu_run.proofs.Walking.{begins_all, unit_executes}
 
--- ---- the result of a message
-
-abbrev pub OutputsLine : {D A : Type 0} {G : Ghosts D} → Message → Exec D A G → Exec D A G → OutputState → OutputState → Type 0
-OutputsLine m old new output now = (text : List ℕ) × Says output now text × RunsOn old new (m ∷ []) text
+-- ---- one message
 
 -- a line that isn't that of a power loss is the message of what is executed of it
 line_message : (P : Source → Type 0) (over : Bool) (line : List ℕ) → length line ≤ 65536 → is_power (message_now over line) ≡ false → P (line_source over line) → LineOf P (message_now over line)
@@ -52,230 +29,66 @@ line_message P false line short plain p = by (bytes_eq line power_line) refl whe
   by true e = let bad = sym (ap is_power (power_message line short e)) ∙ plain in cc
   by false e = subst (LineOf P) (sym (plain_message line short e)) p
 
-line_runs : (can : Mishaps) (w v : World) (text : List ℕ) (m : Message) → LineOf (λ source. LineRuns can w source text v) m → MessageRuns can w m text v
-line_runs can w v text Message.Power l = absurd l
-line_runs can w v text Message.Overlong l = l
-line_runs can w v text (Message.Units bytes) l = l
+line_runs : (m : Message) (text : List ℕ) (steps : List RunStep) → LineOf (λ source. LineRuns source text steps) m → MessageRuns m text steps
+line_runs x0 text steps l = grind arith
 
--- the result of a line that output this text
+-- a message is executed, and its text is output
+abbrev pub OutputsLine : {D A : Type 0} {G : Ghosts D} → Message → Exec D A G → Exec D A G → OutputState → OutputState → Type 0
+OutputsLine m old new output now = (text : List ℕ) × Says output now text × Leads old new (Runs (m ∷ []) text)
+
 pub outputs_line : {D A : Type 0} {G : Ghosts D} (over : Bool) (line text : List ℕ) (old new : Exec D A G) (a b : OutputState) → length line ≤ 65536 → is_power (message_now over line) ≡ false
-    → DeviceContinues old new (λ can w v. LineRuns can w (line_source over line) text v) → Says a b text → OutputsLine (message_now over line) old new a b
-outputs_line over line text old new a b short plain runs says =
+    → Leads old new (LineRuns (line_source over line) text) → Says a b text → OutputsLine (message_now over line) old new a b
+outputs_line over line text old new a b short plain goes says =
     let m = message_now over line in (
       text,
       says,
-      run_one old new m text plain (goes_as old new (λ can w v. LineRuns can w (line_source over line) text v) (λ can w v. MessageRuns can w m text v) runs
-          (λ can w v l. line_runs can w v text m (line_message (λ source. LineRuns can w source text v) over line short plain l))),
+      steps_as old new (LineRuns (line_source over line) text) (Runs (m ∷ []) text) goes
+          (λ steps l. runs_one m text steps (line_runs m text steps (line_message (λ source. LineRuns source text steps) over line short plain l))),
     )
 
+-- a message that stops early
 abbrev pub BrokenLine : {D A : Type 0} {G : Ghosts D} → Message → Exec D A G → Exec D A G → OutputState → OutputState → RunCause → Type 0
-BrokenLine m old new output now cause = (part : List ℕ) × SaysUntil cause output now part × Breaks old new (λ can w v. MessageBegins can w m part v) cause
+BrokenLine m old new output now cause = (part : List ℕ) × SaysUntil cause output now part × DeviceStops old new (λ steps. LineOf (λ source. LineBegins source part steps) m) cause
 
--- a line that stops early
 pub broken_line : {D A : Type 0} {G : Ghosts D} (over : Bool) (line part : List ℕ) (old new : Exec D A G) (a b : OutputState) (cause : RunCause) → length line ≤ 65536 → is_power (message_now over line) ≡ false
-    → Breaks old new (λ can w v. LineBegins can w (line_source over line) part v) cause → SaysUntil cause a b part → BrokenLine (message_now over line) old new a b cause
+    → DeviceStops old new (LineBegins (line_source over line) part) cause → SaysUntil cause a b part → BrokenLine (message_now over line) old new a b cause
 broken_line over line part old new a b cause short plain breaks until = (
   part,
   until,
-  record {
-    goes = goes_as old new (λ can w v. LineBegins can w (line_source over line) part v) (λ can w v. MessageBegins can w (message_now over line) part v) breaks.goes
-        (λ can w v l. line_message (λ source. LineBegins can w source part v) over line short plain l);
-    why = breaks.why;
-  },
+  device_stops_as old new (LineBegins (line_source over line) part) (λ steps. LineOf (λ source. LineBegins source part steps) (message_now over line)) cause breaks
+      (λ steps l. line_message (λ source. LineBegins source part steps) over line short plain l),
 )
 
--- ---- a restart
+pub is_power_line : (m : Message) → is_power m ≡ true → m ≡ Message.Power
+is_power_line x0 p = grind arith
 
-reopens_calls : (can : Mishaps) (w v : World) → Reopens can w v → Executes w [] v
-reopens_calls can w v (inl (shut, same)) = subst (λ (z : World). Executes w [] z) (sym same) (executes_none w)
-reopens_calls can w v (inr (broke, done, mended)) = job_calls can w v done
+-- the line of a power loss outputs nothing
+pub outputs_power : {D A : Type 0} {G : Ghosts D} (m : Message) (old new : Exec D A G) (t : OutputState) → is_power m ≡ true → Leads old new (Runs (Message.Power ∷ []) []) → OutputsLine m old new t t
+outputs_power m old new t p goes = subst (λ (z : Message). OutputsLine z old new t t) (sym (is_power_line m p)) ([], says_none t, goes)
 
--- every moment of a reopening, and of what follows it on the disk
-restart_moments : {D A : Type 0} {G : Ghosts D} (old mid : Exec D A G) (disk : D) (to : Option D) (life next : Life) (rest : List Message) → Executes (world_of life old) [] (world_of next mid)
-    → Spans old mid (world_of life old) (world_of next mid) → Ghosts.state G disk ≡ disk_at mid.idle_store → ForSome mid.idle_store (λ h. disk ≡ idle_disk h)
-    → EachRepresents (Ghosts.state G disk) mid.device.flush.limit mid.device.flush.before → Since G (Some disk) to (IsOldOrSame (Ghosts.state G disk))
-    → EachMoment life old to (Message.Power ∷ rest)
-restart_moments {D} {A} {G} old mid disk to life next rest e spans at same was opens t now r =
-    let w = world_of life old in
-    let over = world_of next mid in
-    let f = mid.device.flush in
-    let b = begins_all w over [] e in
-    since_then G (disk_in old.idle_store) (disk_in mid.idle_store) to (IsBetween w over) (IsOldOrSame (Ghosts.state G disk)) (IsWhile w (Message.Power ∷ rest)) (spans.time t now r)
-    (since_from mid.idle_store disk to (IsOldOrSame (Ghosts.state G disk)) same opens)
-    (λ x between. while_idle w over (Message.Power ∷ rest) x b between)
-    (λ x kept. while_idle w over (Message.Power ∷ rest) x b (
-      over,
-      spans.leads,
-      leads_none over,
-      prefix_of_map over f.limit f.before x (reached_made w over spans.leads r) (subst (λ (d : DiskState). EachRepresents d f.limit f.before) at was) (still_represents (Ghosts.state G disk) f.limit f.before was x kept),
-    ))
+-- ---- pieces, one after another
 
-pub restart_runs : {D A : Type 0} {G : Ghosts D} (old mid new : Exec D A G) (disk : D) → DeviceContinues old mid Reopens → Ghosts.state G disk ≡ disk_at mid.idle_store → ForSome mid.idle_store (λ h. disk ≡ idle_disk h)
-    → (Ghosts.honest G → EachRepresents (Ghosts.state G disk) mid.device.flush.limit mid.device.flush.before)
-    → (Ghosts.honest G → PowersOn (Ghosts.state G disk).bytes (world_of (born new) new)) → failures_of new ≡ Ghosts.failures G disk → Ghosts.failures G disk ≡ failures_of mid
-    → extent_of new ≡ Ghosts.extent G disk → Ghosts.extent G disk ≡ extent_of mid → IsWornAtLast new
-    → (new.idle_store ≡ None → ⊥) → (Ghosts.honest G → Ghosts.records G → ForSome new.idle_store (λ h. LeavesOnly (Ghosts.moment G) (Ghosts.left_since G) disk (idle_disk h) (IsOldOrSame (Ghosts.state G disk))))
-    → RunsOn old new (Message.Power ∷ []) []
-restart_runs {D} {A} {G} old mid new disk r at same_disk was starts works same size whole worn some time = record {
-  runs = λ h life. let g = r.runs h life in
-      let w = world_of life old in
-      let over = world_of g.0 mid in (
-        born new,
-        within_at _ _ _ (λ can. Runs can w (Message.Power ∷ []) [] (world_of (born new) new)) (works ∙ same)
-            (within_as _ _ (λ can. Reopens can w over) (λ can. Runs can w (Message.Power ∷ []) [] (world_of (born new) new)) g.1
-            (λ can x. runs_one can w (world_of (born new) new) Message.Power [] (refl, over, x, subst (λ (d : DiskState). PowersOn d.bytes (world_of (born new) new)) at (starts h)))),
-        λ t now reached. restart_moments old mid disk (disk_in new.idle_store) life g.0 [] (reopens_calls any w over (within_any _ _ (λ can. Reopens can w over) g.1)) g.2 at same_disk (was h)
-            (since_to new.idle_store disk (IsOldOrSame (Ghosts.state G disk)) some (time h t)) t now reached,
-      );
-  lasts = record {
-    extent = size ∙ whole ∙ r.lasts.extent;
-    later = subst (λ (n : ℕ). failures_of old ≤ n) (sym (works ∙ same)) r.lasts.later;
-    worn = λ e. worn;
-  };
-}
+pub fed_none : {D A : Type 0} {G : Ghosts D} (before : List ℕ → List Message) (exec : Exec D A G) (t : OutputState) → Fed before [] before exec exec t t
+fed_none before exec t = ([], [], says_none t, (λ input. refl), steps_none exec (Runs [] []) (refl, refl))
 
--- a restart that fails after the device was reopened
-pub restart_stops_here : {D A : Type 0} {G : Ghosts D} (old mid : Exec D A G) (disk : D) (fault : RunFault D) (rest : List Message)
-    → DeviceContinues old mid Reopens → Ghosts.state G disk ≡ disk_at mid.idle_store → ForSome mid.idle_store (λ h. disk ≡ idle_disk h) → Ghosts.failures G disk ≡ failures_of mid → Ghosts.extent G disk ≡ extent_of mid
-    → Ghosts.failures G disk ≤ Ghosts.failures G fault.disk → Ghosts.extent G fault.disk ≡ Ghosts.extent G disk
-    → (Ghosts.honest G → EachRepresents (Ghosts.state G disk) mid.device.flush.limit mid.device.flush.before)
-    → (Ghosts.honest G → (limit : ℕ) (map : List Item) → EachRepresents (Ghosts.state G disk) limit map → EachRepresents (Ghosts.state G fault.disk) limit map)
-    → (Ghosts.honest G → length (Ghosts.state G fault.disk).bytes ≡ length (Ghosts.state G disk).bytes)
-    → IsConsistent mid.device.flush → (Ghosts.honest G → NotStarted (Ghosts.state G disk).bytes (Ghosts.failures G disk) (Ghosts.failures G fault.disk) fault.cause)
-    → (Ghosts.honest G → Ghosts.records G → LeavesOnly (Ghosts.moment G) (Ghosts.left_since G) disk fault.disk (IsOldOrSame (Ghosts.state G disk)))
-    → RunEndsHere never old fault (Message.Power ∷ rest) []
-restart_stops_here {D} {A} {G} old mid disk fault rest r at same_disk same size rose whole was left long consistent why time =
-    let later : failures_of old ≤ Ghosts.failures G disk = subst (λ (n : ℕ). failures_of old ≤ n) (sym same) r.lasts.later in
-    record {
-      hands = record { extent = whole ∙ size ∙ r.lasts.extent; later = omega (arith, later, rose) };
-      stops = λ h worn life. let g = r.runs h life in (
-        world_of g.0 mid,
-        within_later (failures_of old) (failures_of mid) (Ghosts.failures G fault.disk) (λ can. NextBegins can (world_of life old) (Message.Power ∷ rest) [] (world_of g.0 mid))
-            (subst (λ (n : ℕ). n ≤ Ghosts.failures G fault.disk) same rose)
-            (within_as _ _ (λ can. Reopens can (world_of life old) (world_of g.0 mid)) (λ can. NextBegins can (world_of life old) (Message.Power ∷ rest) [] (world_of g.0 mid)) g.1
-            (λ can x. inl (begins_all (world_of life old) (world_of g.0 mid) [] (reopens_calls can (world_of life old) (world_of g.0 mid) x), refl))),
-        inr (mid.device.flush.limit, mid.device.flush.before, subst (λ (d : DiskState). EachRepresents d mid.device.flush.limit mid.device.flush.before) at (was h), left h _ _ (was h), long h ∙ ap (λ (d : DiskState). length d.bytes) at),
-        restart_stops never (failures_of old) (Ghosts.failures G disk) (Ghosts.failures G fault.disk) rest (world_of g.0 mid) (Ghosts.state G disk) (Ghosts.state G fault.disk).bytes fault.cause mid.device.flush
-            later consistent (was h) (why h),
-        λ t now reached. restart_moments old mid disk (Some fault.disk) life g.0 rest (reopens_calls any (world_of life old) (world_of g.0 mid) (within_any _ _ (λ can. Reopens can (world_of life old) (world_of g.0 mid)) g.1))
-            g.2 at same_disk (was h) (time h t) t now reached,
-      );
-    }
+pub fed_then : {D A : Type 0} {G : Ghosts D} (f : List ℕ → List Message) {g h : List ℕ → List Message} (a b : List ℕ) {s s1 s2 : Exec D A G} (t0 t1 t2 : OutputState) → Fed f a g s s1 t0 t1 → Fed g b h s1 s2 t1 t2 → Fed f (a ++ b) h s s2 t0 t2
+fed_then f {g} {h} a b {s} {s1} {s2} t0 t1 t2 p q = (
+  p.0 ++ q.0,
+  p.1 ++ q.1,
+  says_join t0 t1 t2 p.1 q.1 p.2 q.2,
+  λ input. ap f (append_assoc a b input) ∙ p.3 (b ++ input) ∙ ap (λ (z : List Message). p.0 ++ z) (q.3 input) ∙ sym (append_assoc p.0 q.0 (h input)),
+  steps_then s s1 s2 (Runs p.0 p.1) (Runs q.0 q.1) (Runs (p.0 ++ q.0) (p.1 ++ q.1)) p.4 q.4 (λ xs ys x y. runs_join p.0 q.0 p.1 q.1 xs ys x y),
+)
 
--- ---- a device that stops
-
-left_in : (disk : DiskState) (w : World) → disk ≡ w.disk → IsLeftBy w disk
-left_in disk w e = inl (λ image left. subst (λ (d : DiskState). IsCrashImage d image) e left)
-
--- the requirements on a fault of the device: its disk is that of the idle store, and its cause is the device's
-pub record FaultOf {D A : Type 0} {G : Ghosts D} (exec : Exec D A G) (fault : RunFault D) (cause : RunCause) : Type 0 where
-  pub cause_is : fault.cause ≡ cause
-  pub failures : Ghosts.failures G fault.disk ≡ failures_of exec
-  pub extent : Ghosts.extent G fault.disk ≡ extent_of exec
-  pub state : Ghosts.state G fault.disk ≡ disk_at exec.idle_store
-  pub disk : ForSome exec.idle_store (λ h. fault.disk ≡ idle_disk h)
-  pub reason : Ghosts.honest G → IsWornAtLast exec → exec.device.flush.store ≡ Worn → IsWornOut (Ghosts.state G fault.disk).bytes
-
--- the next message is not a power loss
-pub not_at_power : (m : Message) (rest : List Message) → is_power m ≡ false → IsAtPower (m ∷ rest) → ⊥
-not_at_power Message.Power rest plain at = cc
-not_at_power Message.Overlong rest plain at = absurd at
-not_at_power (Message.Units bytes) rest plain at = absurd at
-
--- a stop in a message
-pub broken_stop : {D A : Type 0} {G : Ghosts D} (old new : Exec D A G) (fault : RunFault D) (m : Message) (rest : List Message) (part : List ℕ) (cause : RunCause)
-    → Breaks old new (λ can w v. MessageBegins can w m part v) cause → FaultOf new fault cause → is_power m ≡ false → RunEndsHere never old fault (m ∷ rest) part
-broken_stop {D} {A} {G} old new fault m rest part cause s f plain = record {
-  hands = hands_now old new fault.disk s.goes.lasts f.extent f.failures;
-  stops = λ h worn life. let k = s.goes.runs h life in (
-    world_of k.0 new,
-    within_at _ _ _ (λ can. NextBegins can (world_of life old) (m ∷ rest) part (world_of k.0 new)) f.failures
-        (within_as _ _ (λ can. MessageBegins can (world_of life old) m part (world_of k.0 new)) (λ can. NextBegins can (world_of life old) (m ∷ rest) part (world_of k.0 new)) k.1 (λ can x. inr x)),
-    left_in (Ghosts.state G fault.disk) (world_of k.0 new) f.state,
-    halted_stops never old new (Ghosts.failures G fault.disk) (m ∷ rest) k.0 (Ghosts.state G fault.disk).bytes cause fault.cause f.cause_is f.failures (not_at_power m rest plain) (s.why h)
-        (f.reason h (s.goes.lasts.worn worn)),
-    λ t now r. since_back (disk_in old.idle_store) new.idle_store fault.disk (IsWhile (world_of life old) (m ∷ rest)) f.disk
-        (since_as G (disk_in old.idle_store) (disk_in new.idle_store) (IsBetween (world_of life old) (world_of k.0 new)) (IsWhile (world_of life old) (m ∷ rest)) (k.2.time t now r)
-        (λ x between. while_begun (world_of life old) (world_of k.0 new) (m ∷ rest) part x (inr (within_any _ _ (λ can. MessageBegins can (world_of life old) m part (world_of k.0 new)) k.1)) between)),
-  );
-}
-
--- a stop with no unit begun
-pub halts_idle : {D A : Type 0} {G : Ghosts D} (old new : Exec D A G) (fault : RunFault D) (rest : List Message) (cause : RunCause) → DeviceStops old new [] cause → FaultOf new fault cause
-    → (Ghosts.honest G → IsWornAtLast old → (life : Life) → StopsFor never (failures_of old) (Ghosts.failures G fault.disk) rest (world_of life new) (Ghosts.state G fault.disk).bytes fault.cause)
-    → RunEndsHere never old fault rest []
-halts_idle {D} {A} {G} old new fault rest cause s f why = record {
-  hands = hands_now old new fault.disk s.lasts f.extent f.failures;
-  stops = λ h worn life. let k = s.begun h life in (
-    world_of k.0 new,
-    (none, subst (λ (n : ℕ). failures_of old ≤ n) (sym f.failures) s.lasts.later, (λ e. cc), (λ can cov. idle_begins can (world_of life old) (world_of k.0 new) rest k.1)),
-    left_in (Ghosts.state G fault.disk) (world_of k.0 new) f.state,
-    why h worn k.0,
-    λ t now r. since_back (disk_in old.idle_store) new.idle_store fault.disk (IsWhile (world_of life old) rest) f.disk
-        (since_as G (disk_in old.idle_store) (disk_in new.idle_store) (IsBetween (world_of life old) (world_of k.0 new)) (IsWhile (world_of life old) rest) (k.2.time t now r)
-        (λ x between. while_idle (world_of life old) (world_of k.0 new) rest x k.1 between)),
-  );
-}
-
--- a store that can't be reopened
-pub reopen_stops : {D A : Type 0} {G : Ghosts D} (old new : Exec D A G) (fault : RunFault D) (rest : List Message) (cause : RunCause) → DeviceStops old new [] cause → FaultOf new fault cause
-    → (Ghosts.honest G → cause ≡ Device → HasFailed (failures_of old) (failures_of new)) → RunEndsHere never old fault (Message.Power ∷ rest) []
-reopen_stops {D} {A} {G} old new fault rest cause s f failed =
-    halts_idle old new fault (Message.Power ∷ rest) cause s f
-    (λ h worn life. subst (StopsFor never (failures_of old) (Ghosts.failures G fault.disk) (Message.Power ∷ rest) (world_of life new) (Ghosts.state G fault.disk).bytes) (sym f.cause_is) (by cause (s.why h) (failed h) life))
-  where
-    by : (cause : RunCause) → IsHaltedBy old new cause → (cause ≡ Device → HasFailed (failures_of old) (failures_of new)) → (life : Life)
-        → StopsFor never (failures_of old) (Ghosts.failures G fault.disk) (Message.Power ∷ rest) (world_of life new) (Ghosts.state G fault.disk).bytes cause
-    by Device w only life = inl (subst (λ (n : ℕ). HasFailed (failures_of old) n) (sym f.failures) (only refl))
-    by RunMemory w only life = tt
-    by (Open c) w only life = absurd w
-    by Read w only life = absurd w
-    by Write w only life = tt
-    by TooLong w only life = absurd w
-
-pub stops_now : {D A : Type 0} {G : Ghosts D} (by_input : RunCause → Type 0) (exec : Exec D A G) (fault : RunFault D) (rest : List Message) (cause : RunCause) → FaultOf exec fault cause
-    → ((last : World) → StopsFor by_input (failures_of exec) (Ghosts.failures G fault.disk) rest last (Ghosts.state G fault.disk).bytes cause) → RunEndsHere by_input exec fault rest []
-stops_now {D} {A} {G} by_input exec fault rest cause f why = record {
-  hands = hands_now exec exec fault.disk (lasts_none exec) f.extent f.failures;
-  stops = λ h worn life. (
-    world_of life exec,
-    within_at _ _ _ (λ can. NextBegins can (world_of life exec) rest [] (world_of life exec)) f.failures
-        (within_here _ (λ can. NextBegins can (world_of life exec) rest [] (world_of life exec))
-        (λ can. idle_begins can (world_of life exec) (world_of life exec) rest (begins_all (world_of life exec) (world_of life exec) [] (executes_none (world_of life exec))))),
-    left_in (Ghosts.state G fault.disk) (world_of life exec) f.state,
-    subst (StopsFor by_input (failures_of exec) (Ghosts.failures G fault.disk) rest (world_of life exec) (Ghosts.state G fault.disk).bytes) (sym f.cause_is) (why (world_of life exec)),
-    λ t now r. since_back (disk_in exec.idle_store) exec.idle_store fault.disk (IsWhile (world_of life exec) rest) f.disk
-        (since_idle exec.idle_store (IsWhile (world_of life exec) rest) now (λ x left. while_here (world_of life exec) rest x (prefix_of_reached (world_of life exec) x r left))),
-  );
-}
-
-pub stops_then : {D A : Type 0} {G : Ghosts D} (by_input : RunCause → Type 0) (old mid : Exec D A G) (fault : RunFault D) (done rest : List Message) (text part : List ℕ)
-    → RunsOn old mid done text → RunEndsHere by_input mid fault rest part → RunEnds by_input old fault done rest text part
-stops_then by_input old mid fault done rest text part goes stop = record {
-  hands = hands_then old mid fault.disk goes.lasts stop.hands;
-  stops = λ h worn life. let g = goes.runs h life in let s = stop.stops h (goes.lasts.worn worn) g.0 in
-      (world_of g.0 mid, s.0, failures_of mid, g.1, s.1, s.2, s.3, then_moments old mid (Some fault.disk) done rest text goes h life s.4);
-}
+pub stopped_then : {D A : Type 0} {G : Ghosts D} (by_input : RunCause → Type 0) (f g : List ℕ → List Message) (a b : List ℕ) (s s1 : Exec D A G) (fault : RunFault D) (t0 t1 t2 : OutputState) → Fed f a g s s1 t0 t1 → Stopped by_input g b s1 fault t1 t2
+    → Stopped by_input f (a ++ b) s fault t0 t2
+stopped_then by_input f g a b s s1 fault t0 t1 t2 p q = (
+  p.1 ++ q.0,
+  until_after fault.cause t0 t1 t2 p.1 q.0 p.2 q.1,
+  λ input. subst (λ (due : List Message). RunStops by_input s fault due (p.1 ++ q.0)) (sym (ap f (append_assoc a b input) ∙ p.3 (b ++ input))) (stops_then by_input s s1 fault p.0 (g (b ++ input)) p.1 q.0 p.4 (q.2 input)),
+)
 
 -- ---- the loop over the lines of a piece
-
--- nothing is read yet
-pub fed_none : {D A : Type 0} {G : Ghosts D} (before : List ℕ → List Message) (exec : Exec D A G) (t : OutputState) → Fed before [] before exec exec t t
-fed_none before exec t = ([], [], says_none t, (λ input. refl), runs_none exec)
-
--- one more line
-fed_line : {D A : Type 0} {G : Ghosts D} (before mid : List ℕ → List Message) (front part : List ℕ) (over : Bool) (line : List ℕ) (s s1 s2 : Exec D A G) (t0 t1 t2 : OutputState)
-    → Fed before front mid s s1 t0 t1 → ((input : List ℕ) → mid (part ++ input) ≡ coming over line input) → has 10 line ≡ false
-    → OutputsLine (message_now over line) s1 s2 t1 t2 → Fed before (front ++ (part ++ 10 ∷ [])) (coming false []) s s2 t0 t2
-fed_line before mid front part over line s s1 s2 t0 t1 t2 f shifted free output = (
-  f.0 ++ message_now over line ∷ [],
-  f.1 ++ output.0,
-  says_join t0 t1 t2 f.1 output.0 f.2 output.1,
-  λ input. ap before (append_assoc front (part ++ 10 ∷ []) input ∙ ap (λ (z : List ℕ). front ++ z) (append_assoc part (10 ∷ []) input))
-      ∙ f.3 (part ++ 10 ∷ input) ∙ ap (λ (z : List Message). f.0 ++ z) (shifted (10 ∷ input) ∙ coming_end over line input free)
-      ∙ sym (append_assoc f.0 (message_now over line ∷ []) (coming false [] input)),
-  runs_all s s1 s2 f.1 output.0 f.0 (message_now over line ∷ []) f.4 output.2,
-)
 
 -- the state of a piece of which this is the rest
 abbrev pub FedSo : {D A : Type 0} {G : Ghosts D} → (List ℕ → List Message) → List ℕ → List ℕ → (List ℕ → List Message) → Exec D A G → Exec D A G → OutputState → OutputState → Type 0
@@ -283,27 +96,16 @@ FedSo before piece rest mid s s1 t0 t1 = (front : List ℕ) × (piece ≡ front 
 
 -- a step of the loop
 pub feed_step : {D A : Type 0} {G : Ghosts D} (before mid : List ℕ → List Message) (piece rest : List ℕ) (at : ℕ) (over next_over : Bool) (line next : List ℕ) (s s1 s2 : Exec D A G) (t0 t1 t2 : OutputState)
-    → IsFirstByte (is_byte 10) rest (Some at) → FedSo before piece rest mid s s1 t0 t1
-    → ((input : List ℕ) → mid (take at rest ++ input) ≡ coming over line input) → has 10 line ≡ false
-    → OutputsLine (message_now over line) s1 s2 t1 t2 → next_over ≡ false → next ≡ []
-    → FedSo before piece (take (length rest - (at + 1)) (drop (at + 1) rest)) (coming next_over next) s s2 t0 t2
-feed_step before mid piece rest at over next_over line next s s1 s2 t0 t1 t2 found f shifted free output shut none = (
-  f.0 ++ (take at rest ++ 10 ∷ []),
-  f.1 ∙ ap (λ (z : List ℕ). f.0 ++ z) (found_parts 10 rest at found ∙ ap (λ (z : List ℕ). take at rest ++ 10 ∷ z) (sym (whole_tail rest (at + 1))) ∙ sym (append_assoc (take at rest) (10 ∷ []) _))
-      ∙ sym (append_assoc f.0 (take at rest ++ 10 ∷ []) _),
-  subst (λ (o : Bool). Fed before (f.0 ++ (take at rest ++ 10 ∷ [])) (coming o next) s s2 t0 t2) (sym shut)
-      (subst (λ (l : List ℕ). Fed before (f.0 ++ (take at rest ++ 10 ∷ [])) (coming false l) s s2 t0 t2) (sym none)
-      (fed_line before mid f.0 (take at rest) over line s s1 s2 t0 t1 t2 f.2 shifted free output)),
-)
-
-pub is_power_line : (m : Message) → is_power m ≡ true → m ≡ Message.Power
-is_power_line Message.Power p = refl
-is_power_line Message.Overlong p = cc
-is_power_line (Message.Units bytes) p = cc
-
--- the line of a power loss outputs nothing
-pub outputs_power : {D A : Type 0} {G : Ghosts D} (m : Message) (old new : Exec D A G) (t : OutputState) → is_power m ≡ true → RunsOn old new (Message.Power ∷ []) [] → OutputsLine m old new t t
-outputs_power m old new t p goes = subst (λ (z : Message). OutputsLine z old new t t) (sym (is_power_line m p)) ([], says_none t, goes)
+    → IsFirstByte (is_byte 10) rest (Some at) → FedSo before piece rest mid s s1 t0 t1 → ((input : List ℕ) → mid (take at rest ++ input) ≡ coming over line input) → has 10 line ≡ false
+    → OutputsLine (message_now over line) s1 s2 t1 t2 → next_over ≡ false → next ≡ [] → FedSo before piece (take (length rest - (at + 1)) (drop (at + 1) rest)) (coming next_over next) s s2 t0 t2
+feed_step before mid piece rest at over next_over line next s s1 s2 t0 t1 t2 found f shifted free output shut none =
+    let part = take at rest ++ 10 ∷ [] in
+    let ends : (input : List ℕ) → mid (part ++ input) ≡ message_now over line ∷ coming false [] input = λ input. ap mid (append_assoc (take at rest) (10 ∷ []) input) ∙ shifted (10 ∷ input) ∙ coming_end over line input free in (
+      f.0 ++ part,
+      f.1 ∙ ap (λ (z : List ℕ). f.0 ++ z) (found_parts 10 rest at found ∙ ap (λ (z : List ℕ). take at rest ++ 10 ∷ z) (sym (whole_tail rest (at + 1))) ∙ sym (append_assoc (take at rest) (10 ∷ []) _)) ∙ sym (append_assoc f.0 part _),
+      subst (λ (o : Bool). Fed before (f.0 ++ part) (coming o next) s s2 t0 t2) (sym shut)
+          (subst (λ (l : List ℕ). Fed before (f.0 ++ part) (coming false l) s s2 t0 t2) (sym none) (fed_then before f.0 part t0 t1 t2 f.2 (message_now over line ∷ [], output.0, output.1, ends, output.2))),
+    )
 
 -- the rest of the piece has no line feed
 pub feed_end : {D A : Type 0} {G : Ghosts D} (before mid after : List ℕ → List Message) (piece rest : List ℕ) (s s1 : Exec D A G) (t0 t1 : OutputState)
@@ -314,56 +116,121 @@ feed_end before mid after piece rest s s1 t0 t1 f shifted =
     (g.0, g.1, g.2, (λ input. ap before (append_assoc f.0 rest input) ∙ g.3 (rest ++ input) ∙ ap (λ (z : List Message). g.0 ++ z) (shifted input)), g.4)
 
 -- a fault after these lines
-pub feed_stops : {D A : Type 0} {G : Ghosts D} (before mid : List ℕ → List Message) (piece rest : List ℕ) (s s1 : Exec D A G) (fault : RunFault D) (t0 t1 t2 : OutputState) (part : List ℕ)
-    → FedSo before piece rest mid s s1 t0 t1 → SaysUntil fault.cause t1 t2 part → ((input : List ℕ) → RunEndsHere never s1 fault (mid (rest ++ input)) part) → Stopped before piece s fault t0 t2
-feed_stops before mid piece rest s s1 fault t0 t1 t2 part f until stop =
-    let g = f.2 in (
-      g.0,
-      g.1,
-      part,
-      until_after fault.cause t0 t1 t2 g.1 part g.2 until,
-      λ input. (
-        mid (rest ++ input),
-        ap before (ap (λ (z : List ℕ). z ++ input) f.1 ∙ append_assoc f.0 rest input) ∙ g.3 (rest ++ input),
-        stops_then never s s1 fault g.0 (mid (rest ++ input)) g.1 part g.4 (stop input),
-      ),
-    )
+pub feed_stops : {D A : Type 0} {G : Ghosts D} (before mid : List ℕ → List Message) (piece rest : List ℕ) (s s1 : Exec D A G) (fault : RunFault D) (t0 t1 t2 : OutputState) → FedSo before piece rest mid s s1 t0 t1 → Stopped never mid rest s1 fault t1 t2
+    → Stopped never before piece s fault t0 t2
+feed_stops before mid piece rest s s1 fault t0 t1 t2 f stopped =
+    subst (λ (z : List ℕ). Stopped never before z s fault t0 t2) (sym f.1) (stopped_then never before mid f.0 rest s s1 fault t0 t1 t2 f.2 stopped)
 
--- the line that has ended comes first in the rest
-pub line_first : (mid : List ℕ → List Message) (rest : List ℕ) (at : ℕ) (over : Bool) (line : List ℕ) (input : List ℕ) → IsFirstByte (is_byte 10) rest (Some at)
-    → ((more : List ℕ) → mid (take at rest ++ more) ≡ coming over line more) → has 10 line ≡ false
-    → mid (rest ++ input) ≡ message_now over line ∷ coming false [] (drop (at + 1) rest ++ input)
-line_first mid rest at over line input found shifted free =
-    ap (λ (z : List ℕ). mid (z ++ input)) (found_parts 10 rest at found) ∙ ap mid (append_assoc (take at rest) (10 ∷ drop (at + 1) rest) input)
-    ∙ shifted (10 ∷ (drop (at + 1) rest ++ input)) ∙ coming_end over line (drop (at + 1) rest ++ input) free
+-- memory is refused for the line
+pub feed_refused : {D A : Type 0} {G : Ghosts D} (before mid : List ℕ → List Message) (piece rest : List ℕ) (s s1 : Exec D A G) (fault : RunFault D) (t0 t1 : OutputState) → FedSo before piece rest mid s s1 t0 t1 → FaultOf s1 Memory fault
+    → Stopped never before piece s fault t0 t1
+feed_refused before mid piece rest s s1 fault t0 t1 f at =
+    feed_stops before mid piece rest s s1 fault t0 t1 t1 f ([], until_none fault.cause t1 (λ e. grind arith), λ input. stops_now never s1 Memory fault (mid (rest ++ input)) at tt (λ last. inr tt))
 
--- a flush that stops
-pub flush_stops : {D A : Type 0} {G : Ghosts D} (old new : Exec D A G) (fault : RunFault D) (cause : RunCause) → DeviceStops old new [] cause → FaultOf new fault cause → RunEndsHere never old fault [] []
-flush_stops {D} {A} {G} old new fault cause s f =
-    halts_idle old new fault [] cause s f
-    (λ h worn life. halted_stops never old new (Ghosts.failures G fault.disk) [] life (Ghosts.state G fault.disk).bytes cause fault.cause f.cause_is f.failures (λ at. at) (s.why h) (f.reason h (s.lasts.worn worn)))
+-- a fault in the line that has ended, which comes first in the rest
+pub line_stops : {D A : Type 0} {G : Ghosts D} (mid : List ℕ → List Message) (rest : List ℕ) (at : ℕ) (over : Bool) (line part : List ℕ) (s1 : Exec D A G) (fault : RunFault D) (t1 t2 : OutputState) → IsFirstByte (is_byte 10) rest (Some at)
+    → ((more : List ℕ) → mid (take at rest ++ more) ≡ coming over line more) → has 10 line ≡ false → SaysUntil fault.cause t1 t2 part
+    → ((later : List Message) → RunStops never s1 fault (message_now over line ∷ later) part) → Stopped never mid rest s1 fault t1 t2
+line_stops mid rest at over line part s1 fault t1 t2 found shifted free until stops = (
+  part,
+  until,
+  λ input.
+      let tail = drop (at + 1) rest ++ input in
+      let first : mid (rest ++ input) ≡ message_now over line ∷ coming false [] tail
+      = ap (λ (z : List ℕ). mid (z ++ input)) (found_parts 10 rest at found) ∙ ap mid (append_assoc (take at rest) (10 ∷ drop (at + 1) rest) input) ∙ shifted (10 ∷ tail) ∙ coming_end over line tail free in
+      subst (λ (due : List Message). RunStops never s1 fault due part) (sym first) (stops (coming false [] tail)),
+)
 
--- every moment of a flush
-pub flush_moments : {D A : Type 0} {G : Ghosts D} (old new : Exec D A G) (due : List Message) → DeviceContinues old new Flushes → (h : Ghosts.honest G) (life : Life) → EachMoment life old (disk_in new.idle_store) due
-flush_moments {D} {A} {G} old new due g h life t now r =
-    let k = g.runs h life in
-    let w = world_of life old in
-    let v = world_of k.0 new in
-    since_as G (disk_in old.idle_store) (disk_in new.idle_store) (IsBetween w v) (IsWhile w due) (k.2.time t now r)
-    (λ x between. while_idle w v due x (begins_all w v [] (flush_calls any w v (within_any _ _ (λ can. Flushes can w v) k.1))) between)
+-- the device stopped in it
+pub broken_stop : {D A : Type 0} {G : Ghosts D} (old new : Exec D A G) (cause : RunCause) (fault : RunFault D) (m : Message) (rest : List Message) (part : List ℕ) → DeviceStops old new (λ steps. LineOf (λ source. LineBegins source part steps) m) cause
+    → FaultOf new cause fault → is_power m ≡ false → RunStops never old fault (m ∷ rest) part
+broken_stop old new cause fault m rest part s f plain =
+    halted old new cause fault (m ∷ rest) part (device_stops_as old new (λ steps. LineOf (λ source. LineBegins source part steps) m) _ cause s (λ steps l. inr l)) f (λ at. grind arith)
 
--- a stop after a flush
-pub flushed_stops : {D A : Type 0} {G : Ghosts D} (old new : Exec D A G) (fault : RunFault D) → DeviceContinues old new Flushes → FaultOf new fault Device → (Ghosts.honest G → IsHaltedBy old new Device)
-    → RunEndsHere never old fault [] []
-flushed_stops {D} {A} {G} old new fault g f why = record {
-  hands = hands_now old new fault.disk g.lasts f.extent f.failures;
-  stops = λ h worn life. let k = g.runs h life in (
-    world_of k.0 new,
-    within_at _ _ _ (λ can. NextBegins can (world_of life old) [] [] (world_of k.0 new)) f.failures
-        (within_as _ _ (λ can. Flushes can (world_of life old) (world_of k.0 new)) (λ can. NextBegins can (world_of life old) [] [] (world_of k.0 new)) k.1
-        (λ can x. (begins_all (world_of life old) (world_of k.0 new) [] (flush_calls can (world_of life old) (world_of k.0 new) x), refl))),
-    left_in (Ghosts.state G fault.disk) (world_of k.0 new) f.state,
-    halted_stops never old new (Ghosts.failures G fault.disk) [] k.0 (Ghosts.state G fault.disk).bytes Device fault.cause f.cause_is f.failures (λ at. at) (why h) (f.reason h (g.lasts.worn worn)),
-    λ t now r. since_back (disk_in old.idle_store) new.idle_store fault.disk (IsWhile (world_of life old) []) f.disk (flush_moments old new [] g h life t now r),
-  );
-}
+-- ---- a line that is executed on a device and its output is executed in steps of the device
+
+-- The effects, faults and stops of an executor are those of a device and its output.
+
+module _ {D A : Type 0} {G : Ghosts D} {X : Type 0} (exec : X → Exec D A G) (output : X → OutputState) (does : X → Effect → X → Type 0)
+    (on : (x y : X) (effect : Effect) → does x effect y → IsDone (exec x) (output x) effect (exec y) (output y)) where
+  follow : (added : List Effect) (x y : X) → effects.Runs does x added y → Leads (exec x) (exec y) (Makes added) × Says (output x) (output y) (text_sent added)
+  follow [] x y same = subst (λ (z : X). Leads (exec x) (exec z) (Makes []) × Says (output x) (output z) []) (sym same) (steps_none (exec x) (Makes []) refl, says_none (output x))
+  follow (Executed request reply ∷ added) x y (mid, d, runs) =
+      let unit = on x mid (Executed request reply) d in
+      let rest = follow added mid y runs in (
+        steps_then (exec x) (exec mid) (exec y) (IsUnit request reply) (Makes added) (Makes (Executed request reply ∷ added)) unit.2 rest.0 (λ xs ys a b. (xs, ys, a, b, refl)),
+        subst (λ (t : OutputState). Says t (output y) (text_sent added)) unit.0 rest.1,
+      )
+  follow (Settled reply ∷ added) x y (mid, d, runs) = absurd (on x mid (Settled reply) d)
+  follow (Sent said last ∷ added) x y (mid, d, runs) =
+      let sent = on x mid (Sent said last) d in
+      let rest = follow added mid y runs in (subst (λ (z : Exec D A G). Leads z (exec y) (Makes added)) sent.0 rest.0, says_join (output x) (output mid) (output y) said (text_sent added) sent.1 rest.1)
+
+  -- a complete line
+  pub whole : (source : Source) (x y : X) (from c : Progress) → from ≡ beginning → Advances does source x from y c → IsOver source c → (text : List ℕ) × Leads (exec x) (exec y) (LineRuns source text) × Says (output x) (output y) text
+  whole source x y from c fresh went over =
+      let a = subst (λ (z : Progress). Advances does source x z y c) fresh went in
+      let f = follow a.added x y a.runs in (
+        text_sent a.added,
+        steps_as (exec x) (exec y) (Makes a.added) (LineRuns source (text_sent a.added)) f.0
+            (λ steps m. record { effects = a.added; end = c; reaches = a.reaches [] Beginning; over = over; makes = m; sent = refl }),
+        f.1,
+      )
+
+-- ---- a line that stopped early
+
+-- a unit that gave a response was executed
+responded : {D A : Type 0} {G : Ghosts D} (mid here : Exec D A G) (now then : OutputState) (parked : Bool) (request : Request) (effect : Effect) (response : List ℕ) → IsTry parked request effect (Answer response) → IsDone mid now effect here then
+    → (then ≡ now) × Leads mid here (Begins (request ∷ []))
+responded mid here now then false request (Executed other reply) response (same, is) d =
+    (d.0, steps_as mid here (IsUnit other reply) (Begins (request ∷ [])) d.2 (λ steps u. subst (λ (z : Request). Begins (z ∷ []) steps) same (begins_all (other ∷ []) steps (unit_executes other reply steps u))))
+responded mid here now then parked request effect response never d = grind arith
+
+module _ {D A : Type 0} {G : Ghosts D} {X : Type 0} (exec : X → Exec D A G) (output : X → OutputState) (r : Relations X RunCause) (source : Source)
+    (on : (x y : X) (effect : Effect) → r.does x effect y → IsDone (exec x) (output x) effect (exec y) (output y))
+    (fail : (x y : X) (request : Request) (cause : RunCause) → r.fails x request cause y → IsFailed (exec x) (output x) request cause (exec y) (output y))
+    (stop : (x y : X) (cause : RunCause) → r.stops x cause y → IsStopped (exec x) (output x) cause (exec y) (output y)) where
+  -- the line up to a stop, and its output with what is in the response buffer
+  abbrev Broken : X → X → RunCause → Text → Type 0
+  Broken x y cause left = (part : List ℕ) × DeviceStops (exec x) (exec y) (LineBegins source part) cause × SaysUntil cause (output x) (held (output y).written ((output y).gathered ++ left.rest)) part
+
+  -- the steps of these effects, and those of the next unit
+  line : (x mid : X) (c : Progress) (a : Advances r.does source x beginning mid c) (xs ys : List RunStep) → Makes a.added xs → (ys ≡ []) ⊎ ((request : Request) × IsNext source c request × Begins (request ∷ []) ys)
+      → LineBegins source (text_sent a.added ++ c.text.rest) (xs ++ ys)
+  line x mid c a xs ys makes begun = record { effects = a.added; at = c; reaches = a.reaches [] Beginning; made = xs; makes = makes; sent = refl; next = ys; begun = begun; all = refl }
+
+  broken_at : (x mid y : X) (cause : RunCause) (c : Progress) → Advances r.does source x beginning mid c → Interruption r source mid c cause y → Broken x y cause c.text
+  broken_at x mid y cause c a (Failed request next parked fails) =
+      let f = follow exec output r.does on a.added x mid a.runs in
+      let d = fail mid y request cause fails in (
+        text_sent a.added ++ c.text.rest,
+        device_stops_then (exec x) (exec mid) (exec y) (Makes a.added) (Begins (request ∷ [])) (LineBegins source (text_sent a.added ++ c.text.rest)) cause f.0 d.1 (λ xs ys m b. line x mid c a xs ys m (inr (request, next, b))),
+        until_rest cause (output x) (output mid) (output y) (text_sent a.added) c.text.rest f.1
+            (until_still cause (output mid) (output y) d.2 (ap (λ (t : OutputState). t.written) d.0) (ap (λ (t : OutputState). t.gathered) d.0)),
+      )
+  broken_at x mid y cause c a (StoppedBetween unended stops) =
+      let f = follow exec output r.does on a.added x mid a.runs in let d = stop mid y cause stops in
+      let text = text_sent a.added ++ c.text.rest in (
+        text,
+        subst (λ (z : Exec D A G). DeviceStops (exec x) z (LineBegins source text) cause) (sym d.0) (record {
+          leads = steps_as (exec x) (exec mid) (Makes a.added) (LineBegins source text) f.0 (λ xs m. subst (LineBegins source text) (append-nil xs) (line x mid c a xs [] m (inl refl)));
+          why = λ before t. let own = d.2 in grind arith;
+        }),
+        until_rest cause (output x) (output mid) (output y) (text_sent a.added) c.text.rest f.1 d.1,
+      )
+  broken_at x mid y cause c a (NotBuffered here request next effect response try does stops) =
+      let f = follow exec output r.does on a.added x mid a.runs in
+      let d = responded (exec mid) (exec here) (output mid) (output here) c.standing.parked request effect response try (on mid here effect does) in let s = stop here y cause stops in
+      let text = text_sent a.added ++ c.text.rest in (
+        text,
+        subst (λ (z : Exec D A G). DeviceStops (exec x) z (LineBegins source text) cause) (sym s.0) (record {
+          leads = steps_then (exec x) (exec mid) (exec here) (Makes a.added) (Begins (request ∷ [])) (LineBegins source text) f.0 d.1 (λ xs ys m b. line x mid c a xs ys m (inr (request, next, b)));
+          why = λ before t. let own = s.2 in grind arith;
+        }),
+        until_rest cause (output x) (output mid) (output y) (text_sent a.added) c.text.rest f.1 (subst (λ (t : OutputState). SaysUntil cause t (output y) []) d.0 s.1),
+      )
+
+  pub broken : (x y : X) (cause : RunCause) (left : Text) (from : Progress) → from ≡ beginning → StopsAt r source x from cause y left → Broken x y cause left
+  broken x y cause left from fresh stopped =
+      let s = subst (λ (z : Progress). StopsAt r source x z cause y left) fresh stopped in
+      subst (λ (t : Text). Broken x y cause t) (sym s.text) (broken_at x s.mid y cause s.new s.advances s.interruption)

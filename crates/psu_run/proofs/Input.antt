@@ -1,45 +1,23 @@
 -- The reads of an input, one after another.
-use Rattle.std.proofs.Common.{◌≡◌, ℕ, ◌+◌, ◌≤◌, List, [], ◌++◌, length, take, refl, sym, subst, arith, Some, None, Option}
+use Rattle.std.proofs.Common.{◌≡◌, ℕ, ◌+◌, ◌≤◌, List, [], ◌++◌, length, take, refl, subst, sym, arith, Option}
 use Rattle.std.proofs.KnownBytes.{Consumes-nil, Consumes-trans, Consumes-kept}
 use Rattle.std.proofs.lemmas.Grind.{common_steps}
 use Rattle.std.proofs.lemmas.List.{append-nil}
 use Rattle.std.specs.Io.KnownBytes.{Consumes, Keeps}
-use Rattle.psu_run.specs.Input.{Counts, GrewBy, HasRead, Reads, ReadsNoFurther}
-
--- ---- counts
-
-grew_then : (m n a b c : ℕ) → GrewBy m a b → GrewBy n b c → GrewBy (m + n) a c
-grew_then m n a b c p q = (
-  omega (arith, p.0, q.0),
-  λ low. let second : c ≡ b + n = q.1 low in
-      let first : b ≡ a + m = p.1 (omega (arith, second, low)) in
-      omega (arith, first, second),
-)
-
-grew_none : (a : ℕ) → GrewBy 0 a a
-grew_none a = (omega arith, λ low. omega arith)
+use Rattle.psu_run.proofs.Common.{HasRead}
+use Rattle.psu_run.specs.Input.{Counts, Reads, ReadsNoFurther}
 
 counts_then : (m f n g : ℕ) (a b c : Option Reads) → Counts m f a b → Counts n g b c → Counts (m + n) (f + g) a c
-counts_then m f n g None b c p q = tt
-counts_then m f n g (Some a) None c p q = absurd p
-counts_then m f n g (Some a) (Some b) None p q = absurd q
-counts_then m f n g (Some a) (Some b) (Some c) p q = (grew_then m n a.made b.made c.made p.0 q.0, grew_then f g a.filled b.filled c.filled p.1 q.1)
-
-counts_none : (a : Option Reads) → Counts 0 0 a a
-counts_none None = tt
-counts_none (Some a) = (grew_none a.made, grew_none a.filled)
-
--- ---- reads
+counts_then m f n g a b c p q = grind arith
 
 -- before the first read
 pub read_start : (made : ℕ) (from : Option (List ℕ)) (r : Option Reads) → made ≡ 0 → HasRead made made [] from from r r
-read_start made from r none =
-    subst (λ (k : ℕ). HasRead k k [] from from r r) (sym none) (record { taken = Consumes-nil from; counted = counts_none r; each = omega arith })
+read_start made from r none = grind arith
 
 -- one more read, which returns bytes
-pub read_more : (made next n : ℕ) (seen buf : List ℕ) (from to left : Option (List ℕ)) (r s t : Option Reads) → HasRead made made seen from to r s
+pub read_more : {made next : ℕ} (n : ℕ) {seen : List ℕ} (buf : List ℕ) {from to left : Option (List ℕ)} {r s t : Option Reads} → HasRead made made seen from to r s
     → Consumes to left (take n buf) → (1 ≤ n → Counts 1 1 s t) → (n ≡ 0 → ⊥) → n ≤ length buf → next ≡ made + 1 → HasRead next next (seen ++ take n buf) from left r t
-read_more made next n seen buf from to left r s t has took counts some bound is =
+read_more {made} {next} n {seen} buf {from} {to} {left} {r} {s} {t} has took counts some bound is =
     let least : 1 ≤ n = grind (arith, some) in
     subst (λ (k : ℕ). HasRead k k (seen ++ take n buf) from left r t) (sym is) (record {
       taken = Consumes-trans from to left seen (take n buf) has.taken took;
@@ -48,19 +26,17 @@ read_more made next n seen buf from to left r s t has took counts some bound is 
     })
 
 -- one more read, which returns none
-pub read_none : (made : ℕ) (seen : List ℕ) (from to left : Option (List ℕ)) (r s t : Option Reads) → HasRead made made seen from to r s → Consumes to left [] → Counts 1 0 s t
-    → HasRead (made + 1) made seen from left r t
-read_none made seen from to left r s t has took counts =
+pub read_none : {made : ℕ} {seen : List ℕ} {from to left : Option (List ℕ)} {r s t : Option Reads} → HasRead made made seen from to r s → Consumes to left [] → Counts 1 0 s t → HasRead (made + 1) made seen from left r t
+read_none {made} {seen} {from} {to} {left} {r} {s} {t} has took counts =
     let none : made + 0 ≡ made = omega arith in record {
-      taken = subst (λ (l : List ℕ). Consumes from left l) (append-nil seen) (Consumes-trans from to left seen [] has.taken took);
+      taken = subst (Consumes from left) (append-nil seen) (Consumes-trans from to left seen [] has.taken took);
       counted = subst (λ (k : ℕ). Counts (made + 1) k r t) none (counts_then made made 1 0 r s t has.counted counts);
       each = has.each;
     }
 
 -- one more read, which fails
-pub read_failed : (made : ℕ) (seen : List ℕ) (from to left : Option (List ℕ)) (r s t : Option Reads) → HasRead made made seen from to r s → Keeps to left → Counts 1 0 s t
-    → HasRead (made + 1) made seen from left r t
-read_failed made seen from to left r s t has kept counts = read_none made seen from to left r s t has (Consumes-kept to to left [] (Consumes-nil to) kept) counts
+pub read_failed : {made : ℕ} {seen : List ℕ} {from to left : Option (List ℕ)} {r s t : Option Reads} → HasRead made made seen from to r s → Keeps to left → Counts 1 0 s t → HasRead (made + 1) made seen from left r t
+read_failed {made} {seen} {from} {to} {left} has kept counts = read_none has (Consumes-kept to to left [] (Consumes-nil to) kept) counts
 
 -- ---- how far a run reads
 
@@ -68,16 +44,12 @@ read_failed made seen from to left r s t has kept counts = read_none made seen f
 pub no_reads : (piece : ℕ) (from : Option (List ℕ)) (r : Option Reads) → ReadsNoFurther piece from from r r
 no_reads piece from r = (0, 0, [], read_start 0 from r refl, omega arith, omega arith)
 
-pub further_as : (piece most : ℕ) (from left : Option (List ℕ)) (r t : Option Reads) → piece ≤ most → ReadsNoFurther piece from left r t → ReadsNoFurther most from left r t
-further_as piece most from left r t le reads = (reads.0, reads.1, reads.2, reads.3, reads.4, omega (arith, le, reads.5))
-
 -- a run whose last read returns no bytes
-pub further_none : (piece made : ℕ) (seen : List ℕ) (from left : Option (List ℕ)) (r t : Option Reads) → HasRead (made + 1) made seen from left r t → made + 1 ≤ 1048576
-    → length seen ≤ 16777216 → ReadsNoFurther piece from left r t
-further_none piece made seen from left r t has few short = (made + 1, made, seen, has, few, omega (arith, short))
+pub further_none : (piece : ℕ) {made : ℕ} {seen : List ℕ} {from left : Option (List ℕ)} {r t : Option Reads} → HasRead (made + 1) made seen from left r t → made + 1 ≤ 1048576 → length seen ≤ 16777216
+    → ReadsNoFurther piece from left r t
+further_none piece {made} {seen} has few short = (made + 1, made, seen, has, few, omega (arith, short))
 
 -- a run whose last read returns bytes
-pub further_more : (piece made n : ℕ) (seen buf : List ℕ) (from left : Option (List ℕ)) (r t : Option Reads) → HasRead made made (seen ++ take n buf) from left r t → made ≤ 1048576
+pub further_more : (piece n : ℕ) {made : ℕ} (seen buf : List ℕ) {from left : Option (List ℕ)} {r t : Option Reads} → HasRead made made (seen ++ take n buf) from left r t → made ≤ 1048576
     → length seen ≤ 16777216 → n ≤ length buf → n ≤ piece → ReadsNoFurther piece from left r t
-further_more piece made n seen buf from left r t has few short bound fits =
-    (made, made, seen ++ take n buf, has, few, grind (arith, common_steps, short, bound, fits))
+further_more piece n {made} seen buf has few short bound fits = (made, made, seen ++ take n buf, has, few, grind (arith, common_steps, short, bound, fits))

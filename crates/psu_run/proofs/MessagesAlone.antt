@@ -1,85 +1,210 @@
--- Where nothing goes wrong, the messages of an input have one text.
-use Rattle.std.proofs.Common.{◌≡◌, ℕ, ◌==◌, ◌||◌, nat_lt, if◌then◌else◌, Bool, true, false, List, [], ◌∷◌, ◌++◌, length, map, refl, sym, ap, ◌∙◌, subst, subst₂, inl, inr, Some}
-use Rattle.std.proofs.lemmas.Bool.{cases_Bool}
+-- Where nothing goes wrong, the messages of an input have one text, the script's.
+use Rattle.std.proofs.Common.{◌≡◌, ℕ, zero, suc, ◌||◌, ◌&&◌, Bool, true, false, List, [], ◌∷◌, ◌++◌, drop, refl, sym, ap, subst, append-nil, if◌then◌else◌, None, Some, ◌⊎◌, ◌==◌, ◌∙◌, subst₂, inl, inr, arith, append_assoc, map}
+use Rattle.psu_lex.specs.Bytes.{all_white, is_closed}
+use Rattle.psu_run.proofs.Common.{Asks, Called, Contents, Effect, Expand, Fault, GaveBack, HasMessageOutcome, HasOutcome, IsScript, IsTry, IsUnit, Job, LineRuns, Makes, Message, MessageOutcome, MessageRuns, Part, PowersOn, Reopened, Reopens, Reply, Request, Rest, Restarted, RunStep, Runs, ScriptAlone, Scripted, Sent, Source, Speaks, SpeaksInside, Spoken, State, Took, Walks, World, at_start, first_onto, has, items_of, message_of, parts_of, reads_left, response, restarted, text_sent, with_answer}
+use Rattle.psu_lex.specs.Message.{Reads, Token, Separator, Faulty, ended, fault_of, next_first, text_of, units_of}
+use Rattle.psu_run.proofs.Cuts.{has_none}
+use Rattle.std.proofs.lemmas.Bool.Decides.{nat_tests}
 use Rattle.std.specs.Prelude.{⊤}
-use Rattle.std.specs.Str.{bytes_eq}
-use Rattle.psu_disk.specs.Disk.{DiskState}
-use Rattle.psu_disk.specs.Ranges.{reads_left}
-use Rattle.psu_items.specs.Image.{EachRepresents}
+use Rattle.psu_messages.specs.Answers.{IsAnswered, IsSilent, answer_in, answers}
+use Rattle.psu_messages.specs.Effects.{Executed, Settled, needs}
+use Rattle.psu_messages.specs.Messages.{NoMessage, OneMore, AreMessages, IsAskedIn, OverIsMessages}
+use Rattle.psu_messages.specs.Turns.{NoneInside, OneInside, Untried, Again, NoUnit, Plain, Expanded, Ended, InsideDone, IsInside, Tried, UnitsDone, acts}
+use Rattle.psu_messages.specs.Units.{Text}
+use Rattle.psu_messages.proofs.Answering.{answers_append}
+use Rattle.psu_run.proofs.Alone.{Calmly, Still, calmly_as, outcome, parted, unit_alone, take_alone}
+use Rattle.psu_run.proofs.Readings.{AreLeft, AskedBy, AskedFrom, Holds, Ones, SomeUnits, asked_all, asked_next, asked_none, held_by, left_all, left_next, left_none}
+use Rattle.std.proofs.lemmas.Bool.{cases_Bool}
 use Rattle.psu_items.proofs.Standing.{represents_one}
 use Rattle.psu_lex.specs.declared.scpi_error.ScpiError.TheVariants.{TooMuchData}
-use Rattle.psu_nv.specs.Contents.{Contents, items_of}
 use Rattle.psu_nv.proofs.Determining.{same_contents}
-use Rattle.psu_tree.specs.declared.command.Request.{Request}
-use Rattle.psu_messages.specs.Response.{response}
-use Rattle.psu_messages.specs.Units.{Source, Fault, Text}
-use Rattle.psu_exec.specs.Device.{State, is_broken}
 use Rattle.psu_exec.specs.Calls.{opened}
-use Rattle.psu_exec.specs.World.{World}
-use Rattle.psu_run.specs.Lines.{Message, Asks, first_onto, has, message_of, messages, parts_of, power_line}
-use Rattle.psu_run.specs.Lives.{PowersOn}
-use Rattle.psu_run.specs.Script.{at_start, Rest, Spoken, MessageOutcome, Speaks, HasMessageOutcome, restarted, Scripted}
-use Rattle.psu_run.specs.Runs.{none, LineRuns, Reopens, ScriptAlone, MessageRuns, Runs}
-use Rattle.psu_run.proofs.Alone.{Quiet}
-use Rattle.psu_run.proofs.Asking.{AskedBy}
-use Rattle.psu_run.proofs.LinesAlone.{IsLine, Laws, line_alone}
-use Rattle.psu_run.proofs.OneMessage.{IsOneMessage, one_message}
+use Rattle.psu_messages.specs.Effects as effects
+use Rattle.psu_messages.specs.Units as units
+
+-- of these units at most the first is the first of a message, and none where `first` is false
+abbrev OneBegins : Bool → List Part → Type 0
+OneBegins first units = (place : ℕ) (p : Part) (after : List Part) → drop place units ≡ p ∷ after → p.first ≡ true → (place ≡ 0) × (first ≡ true)
+
+none_begins : (first : Bool) → OneBegins first []
+none_begins first zero p after here is = cc
+none_begins first (suc n) p after here is = cc
+
+begins_one : (p : Part) (units : List Part) → OneBegins false units → OneBegins p.first (p ∷ units)
+begins_one p units later zero other after here is = (refl, cc (here, is))
+begins_one p units later (suc n) other after here is = let never = (later n other after here is).1 in cc
+
+-- a text that is no unit where it is white space alone, and the units after it
+text_begins : (first white : Bool) (text : List ℕ) (units : Bool → List Part) → ((b : Bool) → OneBegins b (units b))
+    → OneBegins first ((let l : List Part = if white then [] else record { text = text; first = first; fault = None } ∷ [] in l) ++ units (first && white))
+text_begins true true text units rest = rest true
+text_begins false true text units rest = rest false
+text_begins true false text units rest = begins_one (record { text = text; first = true; fault = None }) (units false) (rest false)
+text_begins false false text units rest = begins_one (record { text = text; first = false; fault = None }) (units false) (rest false)
+
+has_not_behind : (e : ℕ) (a b : List ℕ) → has e (a ++ b) ≡ false → has e b ≡ false
+has_not_behind e [] b h = h
+has_not_behind e (x ∷ a) b h = has_not_behind e a b (has_none e x (a ++ b) h).1
+
+units_begin : (first : Bool) (text bytes : List ℕ) (tokens : List Token) → Reads is_closed bytes tokens → has 10 bytes ≡ false → OneBegins first (units_of first text tokens)
+units_begin first text bytes [] reads free = subst (OneBegins first) (append-nil (ended first text)) (text_begins first (all_white text) text (λ b. []) none_begins)
+units_begin first text bytes (Faulty rest ∷ tokens) reads free = begins_one (record { text = text ++ rest; first = first; fault = Some (fault_of rest) }) [] (none_begins false)
+units_begin first text bytes (Separator b ∷ tokens) (more, is, stands, reads) free =
+    let plain : has 10 (b ∷ more) ≡ false = subst (λ (z : List ℕ). has 10 z ≡ false) is free in
+    let next : next_first first text b ≡ (first && all_white text) = ap (λ (x : Bool). x || (first && all_white text)) (has_none 10 b more plain).0 in
+    rw next (text_begins first (all_white text) text (λ b. units_of b [] tokens) (λ first. units_begin first [] more tokens reads (has_none 10 b more plain).1))
+units_begin first text bytes (token ∷ tokens) (more, is, stands, reads) free = units_begin first _ more tokens reads (has_not_behind 10 (text_of token) more (subst (λ (z : List ℕ). has 10 z ≡ false) is free))
+
+-- ---- a line is one message
+
+-- a line has no line feed
+abbrev pub IsLine : Source → Type 0
+IsLine (units.Text bytes) = has 10 bytes ≡ false
+IsLine (Fault error) = ⊤
+
+begins_line : (source : Source) (place : ℕ) (request : Request) → IsLine source → units.Asks source place request true → place ≡ 0
+begins_line (units.Text bytes) place request line (part, unit, first) =
+    (units_begin true [] bytes unit.are.0 unit.are.1 line place part unit.after (subst (λ (z : List Part). drop place z ≡ part ∷ unit.after) unit.are.2 unit.here) first).0
+begins_line (Fault error) place request line (at, is, first) = at
+
+-- no unit is done from a place where none is asked
+none_done : {Asked : ℕ → Request → Type 0} {from to : ℕ} {list : List Effect} → ((request : Request) → Asked from request → ⊥) → UnitsDone Asked from to list → from ≡ to
+none_done never NoUnit = refl
+none_done never (Plain u unit reply ended plain) = absurd (never ended.request (rw (none_done never u) ended.is))
+none_done never (Expanded u unit body ended inner count inside over) = absurd (never ended.request (rw (none_done never u) ended.is))
+
+message_sends : (list : List Effect) → IsAnswered list ⊎ IsSilent list → text_sent list ≡ response (answers list)
+message_sends list (inl a) =
+    let append = answers_append a.before (Sent a.piece true ∷ []) in let none = append-nil (answers a.before) in grind arith
+message_sends list (inr s) = grind arith
+
+-- the units of a line were executed, and what was sent for it is their response message
+line_is : (source : Source) (count : ℕ) (list : List Effect) → IsLine source → AreMessages source count list → UnitsDone (IsAskedIn source 0) 0 count (acts list) × (text_sent list ≡ response (answers list))
+line_is source count list line NoMessage = (NoUnit, refl)
+line_is source count list line (OneMore NoMessage to message is) = (is.units, message_sends message is.text)
+line_is source count list line (OneMore (OneMore m from earlier was) to message is) = let some = is.some in let same = none_done never is.units in absurd (omega (arith, some, same)) where
+  never : (request : Request) → IsAskedIn source from from request → ⊥
+  never request first =
+      let here : (from == from) ≡ true = grind (arith, nat_tests) in
+      let begins = begins_line source from request line (subst (units.Asks source from request) here first) in
+      let some = was.some in omega (arith, some, begins)
+
+-- ---- the units of a line, one after another
+
+-- the device, and the answers of the line so far
+record LineState : Type 0 where
+  world : World
+  answers : List (List ℕ)
+
+-- a unit is executed, and nothing else
+abbrev Does : LineState → Effect → LineState → Type 0
+Does x (Executed request reply) y = (steps : List RunStep) × IsUnit request reply steps × Calmly x.world steps y.world × (y.answers ≡ with_answer x.answers reply)
+Does x effect y = ⊥
+
+line_does : (list : List Effect) (x : LineState) (last : World) (steps : List RunStep) → Makes list steps → Calmly x.world steps last
+    → (y : LineState) × effects.Runs Does x (acts list) y × (y.world ≡ last) × (y.answers ≡ x.answers ++ answers list)
+line_does [] x last steps none c = (x, refl, sym (calmly_as none c).walks, sym (append-nil x.answers))
+line_does (Executed request reply ∷ list) x last steps (unit, more, is, makes, all) c =
+    let a = parted unit more all c in let mid : LineState = record { world = a.0; answers = with_answer x.answers reply } in
+    let t = line_does list mid last more makes a.2 in
+    (t.0, (mid, (unit, is, a.1, refl), t.1), t.2, let says = t.3 in let none = append-nil x.answers in let all = append_assoc x.answers (answer_in reply) (answers list) in grind arith)
+line_does (Settled reply ∷ list) x last steps never c = absurd never
+line_does (Sent text end ∷ list) x last steps makes c = line_does list x last steps makes c
+
+split : (xs ys : List Effect) (x z : LineState) → effects.Runs Does x (xs ++ ys) z → (y : LineState) × effects.Runs Does x xs y × effects.Runs Does y ys z
+split [] ys x z runs = (x, refl, runs)
+split (effect ∷ xs) ys x z (next, d, runs) = let a = split xs ys next z runs in (a.0, (next, d, a.1), a.2)
+
+-- ---- a unit
+
+-- the data of a call exist
+unit_holds : {inside : Bool} {bytes : List ℕ} {place : ℕ} {part : Part} {request : Request} → units.IsUnit inside bytes place part request → Holds request
+unit_holds {request = request} unit = held_by unit.reads.call.0 request.call unit.reads.call.2
+
+asked_holds : (source : Source) (place : ℕ) (request : Request) (first : Bool) → units.Asks source place request first → Holds request
+asked_holds (units.Text bytes) place request first (part, unit, e) = unit_holds unit
+asked_holds (Fault error) place request first (at, is, e) = subst Holds (sym is) ([], refl)
+
+-- a unit that was executed to its end: its result by the script
+record Reported (Is : Request → Type 0) (r : Rest) (reply : Reply) (x y : LineState) : Type 0 where
+  request : Request
+  is : Is request
+  rest : Rest
+  has : HasOutcome r request (outcome rest reply)
+  still : Still rest y.world
+  said : y.answers ≡ with_answer x.answers reply
+
+-- it was tried once, since each reply is final
+once : (Is : Request → Type 0) (tries : List Effect) (parked : Bool) (request : Request) (effect : Effect) (r : Rest) (reply : Reply) (x y : LineState) → ((other : Request) → Is other → Holds other) → Tried Is tries parked
+    → Is request → IsTry parked request effect reply → Still r x.world → effects.Runs Does x (tries ++ effect ∷ []) y → Reported Is r reply x y
+once Is tries parked request (Executed other answer) r reply x y hold Untried is (same, was) q (mid, (steps, unit, walk, said), here) =
+    let u = unit_alone q (hold request is) (subst₂ (λ (c : Request) (o : Reply). IsUnit c o steps) same was unit) walk in
+    subst (Reported Is r reply x) (sym here) (record { request = request; is = is; rest = u.0; has = u.1; still = u.2; said = said ∙ ap (with_answer x.answers) was })
+once Is tries parked request effect r reply x y hold Untried is try q (mid, d, here) = absurd d
+once Is tries parked request effect r reply x y hold (Again {effects = before} {parked = was} t other is_other tried answer need try wants) is last q runs =
+    let a = split (before ++ tried ∷ []) (effect ∷ []) x y runs in let b = split before (tried ∷ []) x a.0 a.1 in
+    let d = b.2.1 in grind arith
+
+ended_told : {Is : Request → Type 0} {unit : List Effect} {r : Rest} {reply : Reply} {x y : LineState} → ((other : Request) → Is other → Holds other) → Ended Is unit reply → Still r x.world → effects.Runs Does x unit y
+    → Reported Is r reply x y
+ended_told {Is} {unit} {r} {reply} {x} {y} hold e q runs =
+    once Is e.tries e.parked e.request e.effect r reply x y hold e.tried e.is e.last q (subst (λ (z : List Effect). effects.Runs Does x z y) e.all runs)
+
+-- ---- units, one after another
+
+abbrev spoken : Rest → List (List ℕ) → Spoken
+spoken r answers = record { rest = r; answers = answers }
+
+-- The device after the units before a place is in the script's state. Requests that are left at the place, with a result
+-- by the script, continue those before them to all requests, with that result.
+abbrev Follows : (ℕ → List Request → Type 0) → (Rest → List (List ℕ) → List Request → Spoken → Type 0) → Rest → LineState → ℕ → LineState → Type 0
+Follows Left Says r x place y =
+    (rest : Rest) × Still rest y.world
+    × ((more : List Request) (end : Spoken) → Left place more → Says rest y.answers more end → (all : List Request) × Left 0 all × Says r x.answers all end)
+
+abbrev pub message : Rest → List ℕ → MessageOutcome
+message r text = record { rest = r; text = text }
+
+-- the requests of a line, and the script's result of it
+abbrev pub LineSpeaks : Rest → Source → List ℕ → World → Type 0
+LineSpeaks r source text last =
+    (requests : List Request) × (rest : Rest) × AskedBy source requests
+    × ((all : Spoken) × Speaks r [] requests all × (message rest text ≡ message all.rest (response all.answers))) × Still rest last
+
+-- ---- power
 
 -- a device that has just been powered on
-start_quiet : (image : List ℕ) (new : World) → (p : PowersOn image new) → Quiet (at_start p.on.limit p.on.start) new
-start_quiet image new p = record {
-  still = record {
-    state = ap (λ (z : World). z.state) p.opens.1.4 ∙ p.opens.1.2.1 ∙ ap (λ (s : State). opened s (Some 1)) p.start.state;
-    whole = refl;
-    holds = refl;
-    kept = p.start.sound;
-    sound = p.start.sound;
-    disk = subst (λ (d : DiskState). EachRepresents d p.on.limit (items_of p.on.start)) (sym (ap (λ (z : World). z.disk) p.opens.1.4 ∙ p.opens.1.3)) p.start.disk;
-  };
-  wait = refl;
-}
+start_still : (image : List ℕ) (new : World) (p : PowersOn image new) → Still (at_start p.on.limit p.on.start) new
+start_still image new p =
+    let state = p.opens.1.2.1 ∙ ap (λ (s : State). opened s (Some 1)) p.start.state in
+    let sound = p.start.sound in
+    subst (Still (at_start p.on.limit p.on.start)) (sym p.opens.1.4) (record { state = state; whole = refl; kept = sound; sound = sound; disk = rw p.opens.1.3 p.start.disk })
 
--- the text of a message and the device after it are the script's
-pub record SameOutcome (outcome : MessageOutcome) (all : List ℕ) (new : World) : Type 0 where
-  pub text : outcome.text ≡ all
-  pub quiet : Quiet outcome.rest new
-
-restart_alone : (r : Rest) (w new : World) → Quiet r w → PowersOn w.disk.bytes new → SameOutcome (record { rest = restarted r; text = [] }) [] new
+-- or powered on again
+restart_alone : (r : Rest) (w new : World) → Still r w → PowersOn w.disk.bytes new → Still (restarted r) new
 restart_alone r w new q p =
-    let same = represents_one p.on.limit r.state.flush.limit (items_of p.on.start) (items_of r.stored) w.disk.bytes p.found (q.still.disk w.disk.bytes (reads_left w.disk)) in
-    let contents : p.on.start ≡ r.stored = same_contents p.on.start r.stored p.start.sound q.still.kept same.1 in
-    record {
-      text = refl;
-      quiet = subst (λ (n : ℕ). Quiet (at_start n r.stored) new) same.0 (subst (λ (c : Contents). Quiet (at_start p.on.limit c) new) contents (start_quiet w.disk.bytes new p));
-    }
+    let same = represents_one p.on.limit r.state.flush.limit (items_of p.on.start) (items_of r.stored) w.disk.bytes p.found (q.disk w.disk.bytes (reads_left w.disk)) in
+    subst₂ (λ (n : ℕ) (c : Contents). Still (at_start n c) new) same.0 (same_contents p.on.start r.stored p.start.sound q.kept same.1) (start_still w.disk.bytes new p)
 
-pub record SameMessage (r : Rest) (m : Message) (text : List ℕ) (new : World) : Type 0 where
-  pub requests : List Request
-  pub asks : Asks m requests
-  pub outcome : MessageOutcome
-  pub tells : HasMessageOutcome r m requests outcome
-  pub same : SameOutcome outcome text new
+-- the store is not broken, so it is not reopened
+reopened_alone : {r : Rest} {w new : World} {steps : List RunStep} → Still r w → Reopens steps → Calmly w steps new → new ≡ w
+reopened_alone q (inl none) c = (calmly_as none c).walks
+reopened_alone q (inr (job, limit, map, over, kind, all)) c =
+    let commit = (take_alone q (parted (Called (Took (Job job)) ∷ []) (Called (GaveBack (Reopened limit map) (Some over)) ∷ []) all c).1).1 in cc
 
-reopened_same : (r : Rest) (w over : World) → Quiet r w → Reopens none w over → over ≡ w
-reopened_same r w over q (inl e) = e.1
-reopened_same r w over q (inr e) = let bad = sym (ap (λ (s : State). is_broken s.flush.store) q.still.state ∙ ap is_broken q.still.whole) ∙ e.0 in cc
+-- ---- lines without a line feed
 
 -- a message has no line feed
-abbrev pub IsWhole : Message → Type 0
-IsWhole (Message.Units bytes) = IsOneMessage bytes
+abbrev IsWhole : Message → Type 0
+IsWhole (Message.Units bytes) = has 10 bytes ≡ false
 IsWhole m = ⊤
-
-abbrev pub AreWhole : List Message → Type 0
-AreWhole [] = ⊤
-AreWhole (m ∷ ms) = IsWhole m × AreWhole ms
 
 abbrev AreFree : List (List ℕ) → Type 0
 AreFree [] = ⊤
 AreFree (part ∷ parts) = (has 10 part ≡ false) × AreFree parts
 
 free_onto : (x : ℕ) (parts : List (List ℕ)) → (x == 10) ≡ false → AreFree parts → AreFree (first_onto x parts)
-free_onto x [] e free = (ap (λ (b : Bool). b || false) e, tt)
-free_onto x (part ∷ parts) e free = (ap (λ (b : Bool). b || has 10 part) e ∙ free.0, free.1)
+free_onto x parts other free = grind arith
 
 parts_free : (input : List ℕ) → AreFree (parts_of 10 input)
 parts_free [] = tt
@@ -88,51 +213,77 @@ parts_free (x ∷ xs) = elim (cases_Bool (x == 10)) [
   | inr other ↦ rw other (free_onto x (parts_of 10 xs) other (parts_free xs))
 ]
 
-part_whole : (part : List ℕ) → has 10 part ≡ false → IsWhole (message_of part)
-part_whole part free = by (nat_lt 65536 (length part)) (bytes_eq part power_line) where
-  by : (long power : Bool) → IsWhole (if long then Message.Overlong else (if power then Message.Power else Message.Units part))
-  by true power = tt
-  by false true = tt
-  by false false = one_message part free
+-- ---- lines and messages
 
-all_whole : (parts : List (List ℕ)) → AreFree parts → AreWhole (map message_of parts)
-all_whole [] free = tt
-all_whole (part ∷ parts) free = (part_whole part free.0, all_whole parts free.1)
+-- the requests of a message, and the script's result of it
+abbrev MessageSpeaks : Rest → Message → List ℕ → World → Type 0
+MessageSpeaks r m text last = (requests : List Request) × (rest : Rest) × Asks m requests × HasMessageOutcome r m requests (message rest text) × Still rest last
 
-module _ (laws : Laws) where
-  -- the answers of a message, with the end of its line
-  line_message : (m : Message) (r : Rest) (w new : World) (text : List ℕ) (source : Source) → ((requests : List Request) → AskedBy source requests → Asks m requests)
-      → ((requests : List Request) (all : Spoken) → Speaks r [] requests all → HasMessageOutcome r m requests (record { rest = all.rest; text = response all.answers }))
-      → IsLine source → Quiet r w → LineRuns none w source text new → SameMessage r m text new
-  line_message m r w new text source asks tells line q l =
-      let s = line_alone laws r source w new text line q l in
-      record {
-        requests = s.requests;
-        asks = asks s.requests s.requested;
-        outcome = record { rest = s.spoken.rest; text = response s.spoken.answers };
-        tells = tells s.requests s.spoken s.speaks;
-        same = record { text = sym s.text_is; quiet = s.quiet };
-      }
+module _ (ones : Ones) (some : SomeUnits) (over_is_messages : OverIsMessages) where
+  inside_speaks : (r : Rest) (body : List ℕ) (place : ℕ) (list : List Effect) (x y : LineState) → InsideDone body place list → Still r x.world → effects.Runs Does x list y
+      → Follows (AreLeft true body) SpeaksInside r x place y
+  inside_speaks r body place list x y NoneInside q none = subst (Follows (AreLeft true body) SpeaksInside r x 0) (sym none) (r, q, λ more end left says. (more, left, says))
+  inside_speaks r body place list x y (OneInside {place = at} {effects = before} i unit reply ended) q runs =
+      let s = split before unit x y runs in let t = inside_speaks r body at before x s.0 i q s.1 in
+      let one = ended_told {Is = IsInside body at} (λ request is. unit_holds is.1) ended t.1 s.2 in (
+        one.rest,
+        one.still,
+        λ more end left says. t.2 (one.request ∷ more) end (left_next more ones one.is.1 left)
+            (outcome one.rest reply, one.has, subst (λ (l : List (List ℕ)). SpeaksInside one.rest l more end) one.said says),
+      )
 
-  message_alone : (m : Message) (r : Rest) (w new : World) (text : List ℕ) → IsWhole m → Quiet r w → MessageRuns none w m text new → SameMessage r m text new
-  message_alone Message.Power r w new text whole q (none_is, over, reopens, p) = record {
-    requests = [];
-    asks = refl;
-    outcome = record { rest = restarted r; text = [] };
-    tells = refl;
-    same = subst (λ (z : List ℕ). SameOutcome (record { rest = restarted r; text = [] }) z new) (sym none_is)
-        (restart_alone r w new q (subst (λ (z : World). PowersOn z.disk.bytes new) (reopened_same r w over q reopens) p));
-  }
-  message_alone Message.Overlong r w new text whole q l = line_message Message.Overlong r w new text (Fault TooMuchData) (λ requests a. a) (λ requests all s. (all, s, refl)) tt q l
-  message_alone (Message.Units bytes) r w new text whole q l = line_message (Message.Units bytes) r w new text (Text bytes) (λ requests a. a) (λ requests all s. (all, s, refl)) whole q l
+  units_speak : (r : Rest) (source : Source) (place : ℕ) (list : List Effect) (x y : LineState) → UnitsDone (IsAskedIn source 0) 0 place list → Still r x.world → effects.Runs Does x list y
+      → Follows (AskedFrom source) Speaks r x place y
+  units_speak r source place list x y NoUnit q none = subst (Follows (AskedFrom source) Speaks r x 0) (sym none) (r, q, λ more end left says. (more, left, says))
+  units_speak r source place list x y (Plain {place = at} {effects = before} u unit reply ended plain) q runs =
+      let s = split before unit x y runs in let t = units_speak r source at before x s.0 u q s.1 in
+      let one = ended_told {Is = IsAskedIn source 0 at} (λ request is. asked_holds source at request (at == 0) is) ended t.1 s.2 in (
+        one.rest,
+        one.still,
+        λ more end left says. t.2 (one.request ∷ more) end (asked_next ones source at one.request (at == 0) more one.is left)
+            (outcome one.rest reply, spoken one.rest y.answers, one.has, (let said = one.said in grind arith), says),
+      )
+  units_speak r source place list x y (Expanded {place = at} {effects = before} u unit body ended inner count inside over) q runs =
+      let s = split before (unit ++ inner) x y runs in let e = split unit inner s.0 y s.2 in
+      let t = units_speak r source at before x s.0 u q s.1 in
+      let one = ended_told {Is = IsAskedIn source 0 at} (λ request is. asked_holds source at request (at == 0) is) ended t.1 e.1 in
+      let i = inside_speaks one.rest body count inner e.0 y inside one.still e.2 in
+      let all = i.2 [] (spoken i.0 y.answers) (left_none ones over) refl in
+      let expanded = subst (λ (l : List (List ℕ)). SpeaksInside one.rest l all.0 (spoken i.0 y.answers)) one.said all.2 in (
+        i.0,
+        i.1,
+        λ more end left says. t.2 (one.request ∷ more) end (asked_next ones source at one.request (at == 0) more one.is left)
+            (outcome one.rest (Expand body), spoken i.0 y.answers, one.has, (all.0, left_all some all.1, expanded), says),
+      )
 
-  runs_alone : (ms : List Message) (r : Rest) (w last : World) (text : List ℕ) → AreWhole ms → Quiet r w → Runs none w ms text last → Scripted r ms text
-  runs_alone [] r w last text whole q u = u.1
-  runs_alone (m ∷ ms) r w last text whole q (first, more, mid, u, us, is) =
-      let a = message_alone m r w mid first whole.0 q u in
-      (a.requests, a.outcome, more, a.asks, a.tells, runs_alone ms a.outcome.rest mid last more whole.1 a.same.quiet us, is ∙ ap (λ (z : List ℕ). z ++ more) (sym a.same.text))
+  line_alone : (r : Rest) (source : Source) (w last : World) (text : List ℕ) (steps : List RunStep) → IsLine source → Still r w → LineRuns source text steps → Calmly w steps last → LineSpeaks r source text last
+  line_alone r source w last text steps line q l c =
+      let count = l.end.standing.units in
+      let m = line_is source count l.effects line (over_is_messages source l.effects l.end l.reaches l.over) in
+      let d = line_does l.effects (record { world = w; answers = [] }) last steps l.makes c in
+      let t = units_speak r source count (acts l.effects) (record { world = w; answers = [] }) d.0 m.0 q d.1 in
+      let all = t.2 [] (spoken t.0 d.0.answers) (asked_none ones source count l.over.units) refl in
+      let says = ap (message t.0) (l.sent ∙ m.1 ∙ ap response (sym d.3)) in
+      (all.0, t.0, asked_all some source all.0 all.1, (spoken t.0 d.0.answers, all.2, says), subst (Still t.0) d.2 t.1)
+
+  message_alone : (m : Message) (r : Rest) (w last : World) (text : List ℕ) (steps : List RunStep) → IsWhole m → Still r w → MessageRuns m text steps → Calmly w steps last → MessageSpeaks r m text last
+  message_alone Message.Power r w last text steps whole q (none, reopening, reopens, all) c =
+      let a = parted reopening (Restarted ∷ []) all c in let same = reopened_alone q reopens a.1 in
+      ([], restarted r, refl, ap (message (restarted r)) none, power a.0 (subst (λ (z : World). Still r z) (sym same) q) a.2.walks)
+    where
+      power : (mid : World) → Still r mid → Walks mid (Restarted ∷ []) last → Still (restarted r) last
+      power mid q (on, (whole, p), here) = restart_alone r mid last q (subst (PowersOn mid.disk.bytes) (sym here) p)
+  message_alone Message.Overlong r w last text steps whole q l c = line_alone r (Fault TooMuchData) w last text steps tt q l c
+  message_alone (Message.Units bytes) r w last text steps whole q l c = line_alone r (Text bytes) w last text steps whole q l c
+
+  parts_alone : (parts : List (List ℕ)) (r : Rest) (w last : World) (text : List ℕ) (steps : List RunStep) → AreFree parts → Still r w → Runs (map message_of parts) text steps → Calmly w steps last → Scripted r (map message_of parts) text
+  parts_alone [] r w last text steps free q runs c = runs.0
+  parts_alone (part ∷ parts) r w last text steps free q (first, more, made, others, one, rest, is, all) c =
+      let a = parted made others all c in
+      let s = message_alone (message_of part) r w a.0 first made (let here = free.0 in grind arith) q one a.1 in
+      (s.0, message s.1 first, more, s.2, s.3, parts_alone parts s.1 a.0 last more others free.1 s.4 rest a.2, is)
 
   pub script_is_alone : ScriptAlone
-  script_is_alone image input text first last p runs =
-      subst₂ (λ (n : ℕ) (c : Contents). Scripted (at_start n c) (messages input) text) (sym (ap (λ (w : World). w.limit) p.opens.1.4)) (sym (ap (λ (w : World). w.start) p.opens.1.4))
-      (runs_alone (messages input) (at_start p.on.limit p.on.start) first last text (all_whole (parts_of 10 input) (parts_free input)) (start_quiet image first p) runs)
+  script_is_alone image input text steps first last p runs walks calm =
+      subst (λ (w : World). IsScript w.start w.limit input text) (sym p.opens.1.4)
+      (parts_alone (parts_of 10 input) (at_start p.on.limit p.on.start) first last text steps (parts_free input) (start_still image first p) runs (record { walks = walks; calm = calm }))

@@ -1,223 +1,35 @@
--- The pieces that a run reads, one after another.
-use Rattle.std.proofs.Common.{◌≡◌, ◌≢◌, ℕ, ◌+◌, ◌<◌, Bool, true, false, List, [], ◌∷◌, ◌++◌, length, refl, sym, ap, ◌∙◌, subst, arith, append_assoc, Some, None, Option, length-append}
+-- The output of a piece is written, one piece after another, up to the end of the input.
+use Rattle.std.proofs.Common.{◌≡◌, ◌≢◌, ℕ, ◌+◌, ◌-◌, ◌<◌, ◌≤◌, Bool, true, false, List, [], ◌∷◌, ◌++◌, length, take, drop, refl, sym, ap, ◌∙◌, subst, inr, ⊎_elim, arith, append_assoc, Some, None, Option, length-append, IfSome, IsErrAnd, Result, inl}
+use Rattle.std.proofs.lemmas.Grind.{common_steps}
 use Rattle.std.proofs.lemmas.List.{append-nil}
-use Rattle.std.proofs.KnownBytes.{Appends-trans, Appends-nil, Consumes-trans, Consumes-nil}
+use Rattle.std.proofs.Math.Seq.{take-add}
+use Rattle.std.proofs.KnownBytes.{Appends-trans, Consumes-trans, Consumes-nil}
 use Rattle.std.specs.Io.KnownBytes.{Appends, Consumes, IsAtEnd}
 use Rattle.std.specs.Io.{StartsWith}
-use Rattle.std.specs.Option.{ForSome}
-use Rattle.psu_disk.specs.declared.disk.Disk.{Ghosts}
-use Rattle.psu_exec.specs.Jobs.{idle_disk}
-use Rattle.psu_exec.specs.Exec.{Exec}
-use Rattle.psu_exec.specs.World.{World}
-use Rattle.psu_run.specs.Failures.{extent_of, failures_of}
-use Rattle.psu_run.specs.Lines.{Message, Brings, message_now, messages, coming, has, is_none_begun}
-use Rattle.psu_run.specs.Lives.{disk_at, world_of}
-use Rattle.psu_run.specs.Output.{Says, OutputState, WritesShort, WritesUntil}
-use Rattle.psu_run.specs.Reasons.{StopsFor, never}
-use Rattle.psu_run.specs.declared.run_cause.RunCause.{RunCause}
-use Rattle.psu_run.specs.declared.run_cause.RunCause.TheVariants.{Write}
-use Rattle.psu_run.specs.declared.run_fault.RunFault.{RunFault}
-use Rattle.psu_run.specs.Runs.{Flushes, Runs}
-use Rattle.psu_run.specs.Moments.{IsWhile, Since, disk_in}
-use Rattle.psu_run.specs.Progress.{Answered, Answers, EndsEarly, Fed, DeviceContinues, RanAll, RunsOn, Stopped, RunEnds, RunEndsHere}
-use Rattle.psu_run.proofs.Causes.{is_write, never_long}
-use Rattle.psu_run.proofs.Feeding.{FaultOf, flush_moments, stops_now, stops_then}
-use Rattle.psu_run.proofs.Passing.{runs_all, runs_join, runs_none, then_moments}
-use Rattle.psu_run.proofs.Moments.{since_back}
-use Rattle.psu_run.proofs.Lasting.{hands_now, hands_then}
-use Rattle.psu_run.proofs.Fronts.{starts_after}
+use Rattle.psu_run.proofs.Common.{AreCalm, DiskState, EachRepresents, EndsFor, Exec, FaultOf, Fed, Ghosts, HasFailed, IsAlong, IsFlush, IsNow, IsOf, IsOfRun, IsOldOrSame, IsScript, Leads, LeavesOnly, Message, OutputState, PowersOn, Ran, RunCause, RunFault, RunStep, RunStops, Runs, RunsUpTo, Says, SaysUntil, ScriptAlone, Since, Stopped, StopsAt, StopsFor, Walks, World, Write, WritesShort, born, coming, disk_in, failures_of, has, held, idle_disk, is_none_begun, items_of, message_now, messages, never, state_in, world_of}
+use Rattle.psu_run.specs.Lines.{Brings}
+use Rattle.psu_run.specs.Output.{WritesUntil}
+use Rattle.psu_run.specs.Progress.{Answers, EndsEarly, RanAll, RunsWhole}
 use Rattle.psu_run.proofs.Cuts.{coming_end, coming_last, coming_none}
-use Rattle.psu_run.proofs.OutputState.{longer, short_behind}
-use Rattle.psu_run.proofs.Within.{within_at, within_then}
+use Rattle.psu_run.proofs.Feeding.{stopped_then}
+use Rattle.psu_run.proofs.Fronts.{starts_after, longer, says_join, says_none, until_after, until_none}
+use Rattle.psu_run.proofs.Going.{steps_none, ran_then}
+use Rattle.psu_run.proofs.Stopping.{IsOther, runs_join, stops_after, stops_for, stops_now, stops_then, ends_for, whole_up_to}
+use Rattle.std.specs.Option.{ForSome}
+use Rattle.psu_items.proofs.Fitting.{represents_readable}
+use Rattle.psu_exec.proofs.Moments.{keeps_map}
+use Rattle.psu_run.specs.Results.{WritesFirst, WritesRun, disk_of}
+use Rattle.psu_run.proofs.Moments.{since_then, since_to}
+use Rattle.psu_run.proofs.OneList.{left_leads, reached_on, reached_walk, run_leads}
+use Rattle.psu_run.proofs.Prefixes.{flushed_stands, leaves_prefix}
+use Rattle.psu_run.proofs.Walking.{begins_all, calm_split, flush_executes, walk_running, walks_split}
 
--- ---- ends
-
-stops_more : {D A : Type 0} {G : Ghosts D} (by_input : RunCause → Type 0) (old mid : Exec D A G) (fault : RunFault D) (xs done rest : List Message) (text more part : List ℕ)
-    → RunsOn old mid xs text → RunEnds by_input mid fault done rest more part → RunEnds by_input old fault (xs ++ done) rest (text ++ more) part
-stops_more {D} {A} {G} by_input old mid fault xs done rest text more part goes stop = record {
-  hands = hands_then old mid fault.disk goes.lasts stop.hands;
-  stops = λ h worn life. let g = goes.runs h life in let s = stop.stops h (goes.lasts.worn worn) g.0 in (
-    s.0,
-    s.1,
-    s.2,
-    within_then (failures_of old) (failures_of mid) s.2 (λ can. Runs can (world_of life old) xs text (world_of g.0 mid)) (λ can. Runs can (world_of g.0 mid) done more s.0)
-        (λ can. Runs can (world_of life old) (xs ++ done) (text ++ more) s.0) g.1 s.3 (λ can x y. runs_join can (world_of life old) (world_of g.0 mid) s.0 text more xs done x y),
-    s.4,
-    s.5,
-    s.6,
-    λ t now r. subst (λ (m : List Message). Since G (disk_in old.idle_store) (Some fault.disk) (IsWhile (world_of life old) m)) (sym (append_assoc xs done rest))
-        (then_moments old mid (Some fault.disk) xs (done ++ rest) text goes h life s.7 t now r),
-  );
-}
-
--- an early end at which nothing was executed and nothing was written
-pub early_here : {D A : Type 0} {G : Ghosts D} (by_input : RunCause → Type 0) (old : Exec D A G) (fault : RunFault D) (due : List Message) (w : Option (List ℕ)) (cause : RunCause) → FaultOf old fault cause → cause ≢ Write
-    → ((last : World) → StopsFor by_input (failures_of old) (Ghosts.failures G fault.disk) due last (Ghosts.state G fault.disk).bytes cause) → EndsEarly by_input old fault due w w
-early_here by_input old fault due w cause f other why = record {
-  done = [];
-  rest = due;
-  is = refl;
-  text = [];
-  part = [];
-  stops = stops_then by_input old old fault [] due [] [] (runs_none old) (stops_now by_input old fault due cause f why);
-  wrote = record { whole = λ e. Appends-nil w; missing = λ e. absurd (other (sym f.cause_is ∙ e)) };
-}
-
--- after messages that were answered
-pub early_after : {D A : Type 0} {G : Ghosts D} (by_input : RunCause → Type 0) (old mid : Exec D A G) (fault : RunFault D) (due done more : List Message) (text : List ℕ) (u v w : Option (List ℕ)) → due ≡ done ++ more
-    → RunsOn old mid done text → Appends u v text → EndsEarly by_input mid fault more v w → EndsEarly by_input old fault due u w
-early_after by_input old mid fault due done more text u v w is goes p b = record {
-  done = done ++ b.done;
-  rest = b.rest;
-  is = is ∙ ap (λ (z : List Message). done ++ z) b.is ∙ sym (append_assoc done b.done b.rest);
-  text = text ++ b.text;
-  part = b.part;
-  stops = stops_more by_input old mid fault done b.done b.rest text b.text b.part goes b.stops;
-  wrote = subst (WritesUntil fault.cause u w) (sym (append_assoc text b.text b.part)) (record {
-    whole = λ e. Appends-trans u v w text (b.text ++ b.part) p (b.wrote.whole e);
-    missing = λ e. short_behind u v w text (b.text ++ b.part) p (b.wrote.missing e);
-  });
-}
-
--- what ends a run early while nothing is read ends it also where something is
-pub early_never_long : {D A : Type 0} {G : Ghosts D} (by_input : RunCause → Type 0) (old : Exec D A G) (fault : RunFault D) (due : List Message) (u v : Option (List ℕ)) → EndsEarly never old fault due u v → EndsEarly by_input old fault due u v
-early_never_long {D} {A} {G} by_input old fault due u v p = record {
-  done = p.done;
-  rest = p.rest;
-  is = p.is;
-  text = p.text;
-  part = p.part;
-  stops = record {
-    hands = p.stops.hands;
-    stops = λ h worn life. let s = p.stops.stops h worn life in
-        (s.0, s.1, s.2, s.3, s.4, s.5, never_long by_input s.2 (Ghosts.failures G fault.disk) p.rest s.1 (Ghosts.state G fault.disk).bytes fault.cause s.6, s.7);
-  };
-  wrote = p.wrote;
-}
-
--- ---- pieces
-
--- the state after what was read and answered so far
-abbrev pub Ran : {D A : Type 0} {G : Ghosts D} → (List ℕ → List Message) → Exec D A G → Exec D A G → Option (List ℕ) → Option (List ℕ) → Option (List ℕ) → Option (List ℕ) → Type 0
-Ran mid s s1 from to old new = (seen : List ℕ) × Consumes from to seen × Answered messages seen mid s s1 old new
-
--- before the first read
-pub ran_start : {D A : Type 0} {G : Ghosts D} (over : Bool) (line : List ℕ) (s : Exec D A G) (from old : Option (List ℕ)) → over ≡ false → line ≡ []
-    → Ran (coming over line) s s from from old old
-ran_start over line s from old shut none =
-    subst (λ (o : Bool). Ran (coming o line) s s from from old old) (sym shut)
-    (subst (λ (l : List ℕ). Ran (coming false l) s s from from old old) (sym none) ([], Consumes-nil from, ([], [], Appends-nil old, (λ input. refl), runs_none s)))
-
-answered_then : {D A : Type 0} {G : Ghosts D} (f mid after : List ℕ → List Message) (seen piece : List ℕ) (s s1 s2 : Exec D A G) (u v w : Option (List ℕ))
-    → Answered f seen mid s s1 u v → Answered mid piece after s1 s2 v w → Answered f (seen ++ piece) after s s2 u w
-answered_then f mid after seen piece s s1 s2 u v w p q = (
-  p.0 ++ q.0,
-  p.1 ++ q.1,
-  Appends-trans u v w p.1 q.1 p.2 q.2,
-  λ input. ap f (append_assoc seen piece input) ∙ p.3 (piece ++ input) ∙ ap (λ (z : List Message). p.0 ++ z) (q.3 input) ∙ sym (append_assoc p.0 q.0 (after input)),
-  runs_all s s1 s2 p.1 q.1 p.0 q.0 p.4 q.4,
-)
-
--- one more piece
-pub ran_on : {D A : Type 0} {G : Ghosts D} (mid after : List ℕ → List Message) (piece : List ℕ) (s s1 s2 : Exec D A G) (from to next u v w : Option (List ℕ))
-    → Ran mid s s1 from to u v → Consumes to next piece → Answered mid piece after s1 s2 v w → Ran after s s2 from next u w
-ran_on mid after piece s s1 s2 from to next u v w r p q =
-    (r.0 ++ piece, Consumes-trans from to next r.0 piece r.1 p, answered_then messages mid after r.0 piece s s1 s2 u v w r.2 q)
-
--- the rest of an input, where it is known
-abbrev left_of : Option (List ℕ) → List ℕ
-left_of None = []
-left_of (Some rest) = rest
-
--- an input brings the messages of what was read and of the rest
-brought : (from to : Option (List ℕ)) (seen : List ℕ) → Consumes from to seen → Brings from (messages (seen ++ left_of to))
-brought None to seen p = tt
-brought (Some x) None seen p = absurd p
-brought (Some x) (Some y) seen p = ap messages (sym p)
-
--- at its end, an input brings the messages of what was read
-brought_all : (from to next : Option (List ℕ)) (seen : List ℕ) → Consumes from to seen → Consumes to next [] → IsAtEnd next → Brings from (messages (seen ++ []))
-brought_all None to next seen p q e = tt
-brought_all (Some x) None next seen p q e = absurd p
-brought_all (Some x) (Some y) None seen p q e = absurd q
-brought_all (Some x) (Some y) (Some z) seen p q e = ap messages (sym (p ∙ ap (λ (l : List ℕ). seen ++ l) (q ∙ e)))
-
--- a run of the messages that the input brings ended early, or ran them all
-abbrev pub Early : {D A : Type 0} {G : Ghosts D} → (RunCause → Type 0) → Exec D A G → RunFault D → Option (List ℕ) → Option (List ℕ) → Option (List ℕ) → Type 0
-Early by_input s fault from u w = (due : List Message) × Brings from due × EndsEarly by_input s fault due u w
-
-abbrev pub Whole : {D A : Type 0} {G : Ghosts D} → Exec D A G → D → Option (List ℕ) → Option (List ℕ) → Option (List ℕ) → Type 0
-Whole s disk from u w = (due : List Message) × Brings from due × RanAll s due disk u w
-
--- why a run ends before the messages to come
-abbrev pub Reason : {D A : Type 0} {G : Ghosts D} → (RunCause → Type 0) → Exec D A G → RunFault D → RunCause → Type 0
-Reason {D} {A} {G} by_input s fault cause = (rest : List Message) (last : World) → StopsFor by_input (failures_of s) (Ghosts.failures G fault.disk) rest last (Ghosts.state G fault.disk).bytes cause
-
-pub early_seen : {D A : Type 0} {G : Ghosts D} (by_input : RunCause → Type 0) (f mid : List ℕ → List Message) (seen input : List ℕ) (s s1 : Exec D A G) (fault : RunFault D) (u v w : Option (List ℕ))
-    → Answered f seen mid s s1 u v → EndsEarly by_input s1 fault (mid input) v w → EndsEarly by_input s fault (f (seen ++ input)) u w
-early_seen by_input f mid seen input s s1 fault u v w p q = early_after by_input s s1 fault (f (seen ++ input)) p.0 (mid input) p.1 u v w (p.3 input) p.4 p.2 q
-
--- an early end at which nothing was read and nothing was written
-pub early_unread : {D A : Type 0} {G : Ghosts D} (by_input : RunCause → Type 0) (s : Exec D A G) (fault : RunFault D) (from w : Option (List ℕ)) (cause : RunCause) → FaultOf s fault cause → cause ≢ Write → Reason by_input s fault cause → Early by_input s fault from w w
-early_unread by_input s fault from w cause f other why =
-    (messages (left_of from), brought from from [] (Consumes-nil from), early_here by_input s fault (messages (left_of from)) w cause f other (why (messages (left_of from))))
-
--- a fault in a piece
-pub ran_stop : {D A : Type 0} {G : Ghosts D} (by_input : RunCause → Type 0) (mid : List ℕ → List Message) (piece : List ℕ) (s s1 : Exec D A G) (fault : RunFault D) (from to next u v w : Option (List ℕ))
-    → Ran mid s s1 from to u v → Consumes to next piece → ((input : List ℕ) → EndsEarly by_input s1 fault (mid (piece ++ input)) v w) → Early by_input s fault from u w
-ran_stop by_input mid piece s s1 fault from to next u v w r p q =
-    let rest = left_of next in (
-      messages (r.0 ++ (piece ++ rest)),
-      subst (λ (l : List ℕ). Brings from (messages l)) (append_assoc r.0 piece rest) (brought from next (r.0 ++ piece) (Consumes-trans from to next r.0 piece r.1 p)),
-      early_seen by_input messages mid r.0 (piece ++ rest) s s1 fault u v w r.2 (q rest),
-    )
-
--- a fault before anything of the next piece is answered
-pub ran_front : {D A : Type 0} {G : Ghosts D} (by_input : RunCause → Type 0) (mid : List ℕ → List Message) (s s1 : Exec D A G) (fault : RunFault D) (from to u v : Option (List ℕ)) (cause : RunCause) → Ran mid s s1 from to u v
-    → FaultOf s1 fault cause → cause ≢ Write → Reason by_input s1 fault cause → Early by_input s fault from u v
-ran_front by_input mid s s1 fault from to u v cause r f other why =
-    ran_stop by_input mid [] s s1 fault from to to u v v r (Consumes-nil to) (λ input. early_here by_input s1 fault (mid input) v cause f other (why (mid input)))
-
--- the end of what was read
-ran_all_after : {D A : Type 0} {G : Ghosts D} (s s1 : Exec D A G) (disk : D) (due done more : List Message) (text : List ℕ) (u v w : Option (List ℕ)) → due ≡ done ++ more
-    → RunsOn s s1 done text → Appends u v text → RanAll s1 more disk v w → RanAll s due disk u w
-ran_all_after {D} {A} {G} s s1 disk due done more text u v w is goes p q = record {
-  hands = hands_then s s1 disk goes.lasts q.hands;
-  text = text ++ q.text;
-  written = Appends-trans u v w text q.text p q.written;
-  ends = λ h life. let g = goes.runs h life in let e = q.ends h g.0 in (
-    e.0,
-    e.1,
-    within_then (failures_of s) (failures_of s1) (Ghosts.failures G disk) (λ can. Runs can (world_of life s) done text (world_of g.0 s1)) (λ can. Runs can (world_of g.0 s1) more q.text e.0 × Flushes can e.0 e.1)
-        (λ can. Runs can (world_of life s) due (text ++ q.text) e.0 × Flushes can e.0 e.1) g.1 e.2
-        (λ can x y. (subst (λ (m : List Message). Runs can (world_of life s) m (text ++ q.text) e.0) (sym is) (runs_join can (world_of life s) (world_of g.0 s1) e.0 text q.text done more x y.0), y.1)),
-    e.3,
-    e.4,
-    λ t now r. subst (λ (m : List Message). Since G (disk_in s.idle_store) (Some disk) (IsWhile (world_of life s) m)) (sym is) (then_moments s s1 (Some disk) done more text goes h life e.5 t now r),
-  );
-}
-
-pub ran_end : {D A : Type 0} {G : Ghosts D} (mid : List ℕ → List Message) (s s1 : Exec D A G) (disk : D) (from to next u v w : Option (List ℕ)) → Ran mid s s1 from to u v
-    → Consumes to next [] → IsAtEnd next → RanAll s1 (mid []) disk v w → Whole s disk from u w
-ran_end mid s s1 disk from to next u v w r p e q = (
-  messages (r.0 ++ []),
-  brought_all from to next r.0 r.1 p e,
-  ran_all_after s s1 disk (messages (r.0 ++ [])) r.2.0 (mid []) r.2.1 u v w (r.2.3 []) r.2.4 r.2.2 q,
-)
-
--- a fault at the end of what was read
-pub ran_end_front : {D A : Type 0} {G : Ghosts D} (by_input : RunCause → Type 0) (mid : List ℕ → List Message) (s s1 : Exec D A G) (fault : RunFault D) (from to next u v w : Option (List ℕ))
-    → Ran mid s s1 from to u v → Consumes to next [] → IsAtEnd next → EndsEarly never s1 fault (mid []) v w → Early by_input s fault from u w
-ran_end_front by_input mid s s1 fault from to next u v w r p e q = (
-  messages (r.0 ++ []),
-  brought_all from to next r.0 r.1 p e,
-  early_seen by_input messages mid r.0 [] s s1 fault u v w r.2 (early_never_long by_input s1 fault (mid []) v w q),
-)
+-- ---- the output of a piece is written
 
 -- a text that is output to an empty buffer is written once the buffer is
-said_written : (a b : OutputState) (text : List ℕ) (v : Option (List ℕ)) → a.gathered ≡ [] → Says a b text → Appends b.written v b.gathered → Appends a.written v text
-said_written a b text v none says w =
-    subst (λ (z : List ℕ). Appends a.written v z) (says.2 ∙ ap (λ (z : List ℕ). z ++ text) none) (Appends-trans a.written b.written v says.0 b.gathered says.1 w)
+said : (a b : OutputState) (text : List ℕ) (v : Option (List ℕ)) → a.gathered ≡ [] → Says a b text → Appends b.written v b.gathered → Says (held a.written []) (held v []) text
+said a b text v none says w =
+    (text, subst (λ (z : List ℕ). Appends a.written v z) (says.2 ∙ ap (λ (z : List ℕ). z ++ text) none) (Appends-trans a.written b.written v says.0 b.gathered says.1 w), append-nil text)
 
 -- a proper prefix of the text is written where the writer fails
 said_short : (a b : OutputState) (text : List ℕ) (v : Option (List ℕ)) → a.gathered ≡ [] → Says a b text → WritesShort b.written v b.gathered → WritesShort a.written v text
@@ -229,67 +41,39 @@ said_short a b text v none says w =
       subst (λ (z : List ℕ). length (says.0 ++ w.0) < length z) all (longer says.0 w.0 b.gathered w.3),
     )
 
--- the output of a piece is written
-pub fed_written : {D A : Type 0} {G : Ghosts D} (f mid : List ℕ → List Message) (piece : List ℕ) (s s1 : Exec D A G) (a b : OutputState) (shown : List ℕ) (v : Option (List ℕ))
-    → Fed f piece mid s s1 a b → a.gathered ≡ [] → shown ≡ b.gathered → Appends b.written v shown → Answered f piece mid s s1 a.written v
-fed_written f mid piece s s1 a b shown v p none d w = (p.0, p.1, said_written a b p.1 v none p.2 (subst (Appends b.written v) d w), p.3, p.4)
+fails : (cause : RunCause) (a b : OutputState) (text : List ℕ) → cause ≡ Write → WritesShort a.written b.written (a.gathered ++ text) → SaysUntil cause a b text
+fails cause a b text is w = grind arith
 
-early_as : {D A : Type 0} {G : Ghosts D} (s : Exec D A G) (fault : RunFault D) (due done rest : List Message) (text part : List ℕ) (u v : Option (List ℕ)) → due ≡ done ++ rest
-    → RunEnds never s fault done rest text part → WritesShort u v (text ++ part) → fault.cause ≡ Write → EndsEarly never s fault due u v
-early_as s fault due done rest text part u v is stops w write = record {
-  done = done;
-  rest = rest;
-  is = is;
-  text = text;
-  part = part;
-  stops = stops;
-  wrote = record { whole = λ e. absurd (e write); missing = λ e. w };
-}
+module _ {D A : Type 0} {G : Ghosts D} (f : List ℕ → List Message) (piece : List ℕ) (s : Exec D A G) (a b : OutputState) (shown : List ℕ) (v : Option (List ℕ)) (none : a.gathered ≡ []) (is : shown ≡ b.gathered) where
+  pub fed_written : (mid : List ℕ → List Message) (s1 : Exec D A G) → Fed f piece mid s s1 a b → Appends b.written v shown → Fed f piece mid s s1 (held a.written []) (held v [])
+  fed_written mid s1 p w = (p.0, p.1, said a b p.1 v none p.2 (subst (Appends b.written v) is w), p.3, p.4)
 
--- a proper prefix of the output of a piece is written, and the device is the one after the piece
-pub fed_front : {D A : Type 0} {G : Ghosts D} (f mid : List ℕ → List Message) (piece : List ℕ) (s s1 : Exec D A G) (fault : RunFault D) (a b : OutputState) (shown : List ℕ) (v : Option (List ℕ))
-    → Fed f piece mid s s1 a b → a.gathered ≡ [] → shown ≡ b.gathered → WritesShort b.written v shown → FaultOf s1 fault Write → (input : List ℕ) → EndsEarly never s fault (f (piece ++ input)) a.written v
-fed_front f mid piece s s1 fault a b shown v p none d w at input =
-    early_as s fault (f (piece ++ input)) p.0 (mid input) p.1 [] a.written v (p.3 input) (stops_then never s s1 fault p.0 (mid input) p.1 [] p.4 (stops_now never s1 fault (mid input) Write at (λ last. tt)))
-    (subst (λ (z : List ℕ). WritesShort a.written v z) (sym (append-nil p.1)) (said_short a b p.1 v none p.2 (subst (WritesShort b.written v) d w))) at.cause_is
+  pub fed_short : (mid : List ℕ → List Message) (s1 : Exec D A G) (fault : RunFault D) → Fed f piece mid s s1 a b → WritesShort b.written v shown → FaultOf s1 Write fault → Stopped never f piece s fault (held a.written []) (held v [])
+  fed_short mid s1 fault p w at = (
+    p.1,
+    fails fault.cause (held a.written []) (held v []) p.1 at.cause_is (said_short a b p.1 v none p.2 (subst (WritesShort b.written v) is w)),
+    λ input. subst (λ (due : List Message). RunStops never s fault due p.1) (sym (p.3 input)) (subst (RunStops never s fault (p.0 ++ mid input)) (append-nil p.1)
+        (stops_then never s s1 fault p.0 (mid input) p.1 [] p.4 (stops_now never s1 Write fault (mid input) at tt (λ last. inr tt)))),
+  )
 
--- a fault in a piece: the output before it is written
-pub stopped_whole : {D A : Type 0} {G : Ghosts D} (f : List ℕ → List Message) (piece : List ℕ) (s : Exec D A G) (fault : RunFault D) (a b : OutputState) (shown : List ℕ) (v : Option (List ℕ))
-    → Stopped f piece s fault a b → a.gathered ≡ [] → fault.cause ≢ Write → shown ≡ b.gathered → Appends b.written v shown → (input : List ℕ) → EndsEarly never s fault (f (piece ++ input)) a.written v
-stopped_whole f piece s fault a b shown v p none own d w input = record {
-  done = p.0;
-  rest = (p.4 input).0;
-  is = (p.4 input).1;
-  text = p.1;
-  part = p.2;
-  stops = (p.4 input).2;
-  wrote = record { whole = λ e. said_written a b (p.1 ++ p.2) v none (p.3.whole own) (subst (Appends b.written v) d w); missing = λ e. absurd (own e) };
-}
+  -- a fault in a piece: the output before it is written
+  pub stopped_written : (fault : RunFault D) → Stopped never f piece s fault a b → fault.cause ≢ Write → Appends b.written v shown → Stopped never f piece s fault (held a.written []) (held v [])
+  stopped_written fault p own w = (p.0, record { whole = λ e. said a b p.0 v none (p.1.whole own) (subst (Appends b.written v) is w); missing = λ e. absurd (own e) }, p.2)
+
+  -- a fault in a piece, after which the writer failed
+  pub stopped_short : (fault : RunFault D) → Stopped never f piece s fault a b → fault.cause ≢ Write → WritesShort b.written v shown → Stopped never f piece s (record fault { cause = Write }) (held a.written []) (held v [])
+  stopped_short fault p own w = (
+    p.0,
+    fails Write (held a.written []) (held v []) p.0 refl (said_short a b p.0 v none (p.1.whole own) (subst (WritesShort b.written v) is w)),
+    λ input. stops_for never never s fault Write (f (piece ++ input)) p.0 (p.2 input) (λ before rest last why. inr tt)
+        (λ before by. record { opening = λ e. cc; device = λ e whole. cc; worn = by.worn }),
+  )
 
 -- a fault of the writer in a piece
-pub stopped_short : {D A : Type 0} {G : Ghosts D} (f : List ℕ → List Message) (piece : List ℕ) (s : Exec D A G) (fault : RunFault D) (a b : OutputState)
-    → Stopped f piece s fault a b → a.gathered ≡ [] → fault.cause ≡ Write → (input : List ℕ) → EndsEarly never s fault (f (piece ++ input)) a.written b.written
-stopped_short f piece s fault a b p none is input =
-    early_as s fault (f (piece ++ input)) p.0 (p.4 input).0 p.1 p.2 a.written b.written (p.4 input).1 (p.4 input).2
-    (subst (λ (z : List ℕ). WritesShort a.written b.written (z ++ (p.1 ++ p.2))) none (p.3.missing is)) is
-
--- a write fault replaces the fault that was to be returned
-write_instead : {D A : Type 0} {G : Ghosts D} (s : Exec D A G) (old fault : RunFault D) (done rest : List Message) (text part : List ℕ) → RunEnds never s old done rest text part → fault.cause ≡ Write → fault.disk ≡ old.disk
-    → RunEnds never s fault done rest text part
-write_instead {D} {A} {G} s old fault done rest text part p is same =
-    subst (λ (e : D). RunEnds never s (record fault { disk = e }) done rest text part) (sym same) (record {
-      hands = p.hands;
-      stops = λ h worn life. let q = p.stops h worn life in
-          (q.0, q.1, q.2, q.3, q.4, q.5, is_write never q.2 (Ghosts.failures G old.disk) rest q.1 (Ghosts.state G old.disk).bytes fault.cause is, q.7);
-    })
-
--- a fault in a piece, after which the writer failed
-pub stopped_front : {D A : Type 0} {G : Ghosts D} (f : List ℕ → List Message) (piece : List ℕ) (s : Exec D A G) (old fault : RunFault D) (a b : OutputState) (shown : List ℕ) (v : Option (List ℕ))
-    → Stopped f piece s old a b → a.gathered ≡ [] → old.cause ≢ Write → shown ≡ b.gathered → WritesShort b.written v shown → fault.cause ≡ Write → fault.disk ≡ old.disk → (input : List ℕ)
-    → EndsEarly never s fault (f (piece ++ input)) a.written v
-stopped_front f piece s old fault a b shown v p none own d w is same input =
-    early_as s fault (f (piece ++ input)) p.0 (p.4 input).0 p.1 p.2 a.written v (p.4 input).1 (write_instead s old fault p.0 (p.4 input).0 p.1 p.2 (p.4 input).2 is same)
-    (said_short a b (p.1 ++ p.2) v none (p.3.whole own) (subst (WritesShort b.written v) d w)) is
+pub stopped_writing : {D A : Type 0} {G : Ghosts D} (f : List ℕ → List Message) (piece : List ℕ) (s : Exec D A G) (fault : RunFault D) (a b : OutputState) → Stopped never f piece s fault a b → a.gathered ≡ [] → fault.cause ≡ Write
+    → Stopped never f piece s fault (held a.written []) (held b.written [])
+stopped_writing f piece s fault a b p none is =
+    (p.0, fails fault.cause (held a.written []) (held b.written []) p.0 is (subst (λ (z : List ℕ). WritesShort a.written b.written (z ++ p.0)) none (p.1.missing is)), p.2)
 
 -- ---- the last line of the input
 
@@ -308,51 +92,250 @@ last_done over next_over line next done begun free none is =
     nothing [] e = refl
     nothing (m ∷ l) e = absurd (omega (arith, e))
 
-pub last_answered : {D A : Type 0} {G : Ghosts D} (over next_over : Bool) (line next piece : List ℕ) (s s1 : Exec D A G) (u v : Option (List ℕ)) → is_none_begun over line ≡ false → has 10 line ≡ false → has 10 next ≡ false
-    → piece ≡ 10 ∷ [] → Answered (coming over line) piece (coming next_over next) s s1 u v → Answers (coming over line []) s s1 u v
-last_answered over next_over line next piece s s1 u v begun free none is p =
-    let due = last_done over next_over line next p.0 begun free none (λ input. ap (λ (z : List ℕ). coming over line (z ++ input)) (sym is) ∙ p.3 input) in
-    (p.1, p.2, subst (λ (m : List Message). RunsOn s s1 m p.1) (sym due) p.4)
+pub last_answered : {D A : Type 0} {G : Ghosts D} (over next_over : Bool) (line next : List ℕ) (s s1 : Exec D A G) (a b : OutputState) → is_none_begun over line ≡ false → has 10 line ≡ false → has 10 next ≡ false
+    → Fed (coming over line) (10 ∷ []) (coming next_over next) s s1 a b → Answers (coming over line []) s s1 a b
+last_answered over next_over line next s s1 a b begun free none p = (p.1, p.2, subst (λ (m : List Message). Leads s s1 (Runs m p.1)) (sym (last_done over next_over line next p.0 begun free none p.3)) p.4)
 
-pub last_early : {D A : Type 0} {G : Ghosts D} (over : Bool) (line piece : List ℕ) (s : Exec D A G) (fault : RunFault D) (u v : Option (List ℕ)) → is_none_begun over line ≡ false → has 10 line ≡ false
-    → piece ≡ 10 ∷ [] → ((input : List ℕ) → EndsEarly never s fault (coming over line (piece ++ input)) u v) → EndsEarly never s fault (coming over line []) u v
-last_early over line piece s fault u v begun free is q =
-    subst (λ (m : List Message). EndsEarly never s fault m u v) (ap (λ (z : List ℕ). coming over line (z ++ [])) is ∙ coming_end over line [] free ∙ sym (coming_last over line begun free)) (q [])
+pub last_early : {D A : Type 0} {G : Ghosts D} (over : Bool) (line : List ℕ) (s : Exec D A G) (fault : RunFault D) (a b : OutputState) → is_none_begun over line ≡ false → has 10 line ≡ false
+    → Stopped never (coming over line) (10 ∷ []) s fault a b → EndsEarly never s fault (coming over line []) a b
+last_early over line s fault a b begun free q = (q.0, q.1, subst (λ (m : List Message). RunStops never s fault m q.0) (coming_end over line [] free ∙ sym (coming_last over line begun free)) (q.2 []))
 
 -- no line has begun, and nothing is answered
-pub answers_none : {D A : Type 0} {G : Ghosts D} (over : Bool) (line : List ℕ) (s : Exec D A G) (w : Option (List ℕ)) → is_none_begun over line ≡ true → Answers (coming over line []) s s w w
-answers_none over line s w none = subst (λ (m : List Message). Answers m s s w w) (sym (coming_none over line none)) ([], Appends-nil w, runs_none s)
+pub answers_none : {D A : Type 0} {G : Ghosts D} (over : Bool) (line : List ℕ) (s : Exec D A G) (a : OutputState) → is_none_begun over line ≡ true → Answers (coming over line []) s s a a
+answers_none over line s a none = subst (λ (m : List Message). Answers m s s a a) (sym (coming_none over line none)) ([], says_none a, steps_none s (Runs [] []) (refl, refl))
 
--- responses that are complete, and then a fault
-pub answers_early : {D A : Type 0} {G : Ghosts D} (due : List Message) (s s1 : Exec D A G) (fault : RunFault D) (u v : Option (List ℕ)) → Answers due s s1 u v → fault.cause ≢ Write
-    → RunEndsHere never s1 fault [] [] → EndsEarly never s fault due u v
-answers_early due s s1 fault u v p other stop = record {
-  done = due;
-  rest = [];
-  is = sym (append-nil due);
-  text = p.0;
-  part = [];
-  stops = stops_then never s s1 fault due [] p.0 [] p.2 stop;
-  wrote = record { whole = λ e. subst (Appends u v) (sym (append-nil p.0)) p.1; missing = λ e. absurd (other e) };
-}
+-- ---- after the last line
 
--- responses that are complete, and then a flush that leaves nothing unflushed
-pub answers_flushed : {D A : Type 0} {G : Ghosts D} (due : List Message) (s s1 s2 : Exec D A G) (disk : D) (u v : Option (List ℕ)) → Answers due s s1 u v → DeviceContinues s1 s2 Flushes
-    → s2.device.flush.unflushed ≡ 0 → Ghosts.failures G disk ≡ failures_of s2 → Ghosts.extent G disk ≡ extent_of s2 → Ghosts.state G disk ≡ disk_at s2.idle_store → ForSome s2.idle_store (λ h. disk ≡ idle_disk h) → RanAll s due disk u v
-answers_flushed {D} {A} {G} due s s1 s2 disk u v p f clean same size at there = record {
-  hands = hands_then s s1 disk p.2.lasts (hands_now s1 s2 disk f.lasts size same);
-  text = p.0;
-  written = p.1;
-  ends = λ h life. let g = p.2.runs h life in let k = f.runs h g.0 in (
-    world_of g.0 s1,
-    world_of k.0 s2,
-    within_at _ _ _ (λ can. Runs can (world_of life s) due p.0 (world_of g.0 s1) × Flushes can (world_of g.0 s1) (world_of k.0 s2)) same
-        (within_then _ _ _ (λ can. Runs can (world_of life s) due p.0 (world_of g.0 s1)) (λ can. Flushes can (world_of g.0 s1) (world_of k.0 s2))
-        (λ can. Runs can (world_of life s) due p.0 (world_of g.0 s1) × Flushes can (world_of g.0 s1) (world_of k.0 s2)) g.1 k.1 (λ can x y. (x, y))),
-    clean,
-    sym at,
-    λ t now r. since_back (disk_in s.idle_store) s2.idle_store disk (IsWhile (world_of life s) due) there
-        (subst (λ (m : List Message). Since G (disk_in s.idle_store) (disk_in s2.idle_store) (IsWhile (world_of life s) m)) (append-nil due)
-        (then_moments s s1 (disk_in s2.idle_store) due [] p.0 p.2 h life (flush_moments s1 s2 [] f h g.0) t now r)),
-  );
-}
+-- a fault
+pub answers_stop : {D A : Type 0} {G : Ghosts D} (due : List Message) (s s1 : Exec D A G) (fault : RunFault D) (a b : OutputState) → Answers due s s1 a b → fault.cause ≢ Write → RunStops never s1 fault [] [] → EndsEarly never s fault due a b
+answers_stop due s s1 fault a b p other stop = (p.0, record { whole = λ e. p.1; missing = λ e. absurd (other e) }, stops_after never s s1 fault due p.0 p.2 stop)
+
+-- a flush that leaves nothing unflushed
+pub answers_flushed : {D A : Type 0} {G : Ghosts D} (due : List Message) (s s1 s2 : Exec D A G) (disk : D) (a b : OutputState) → Answers due s s1 a b → Leads s1 s2 IsFlush → s2.device.flush.unflushed ≡ 0 → disk_in s2.idle_store ≡ Some disk
+    → RanAll s due disk a b
+answers_flushed {D} {A} {G} due s s1 s2 disk a b p f clean there =
+    let Q : List RunStep → World → Type 0 = λ steps last. IsOf s2 last × IsFlush steps in (
+      p.0,
+      p.1,
+      ran_then s s1 (Some disk) (Runs due p.0) Q (λ steps last. RunsWhole due p.0 steps last × (last.disk ≡ Ghosts.state G disk)) p.2 (subst (λ (to : Option D). Ran s1 to Q) there f.ran)
+          (λ xs ys last broke r q. (
+            record { made = xs; runs = r; flush = ys; flushes = q.1; all = refl; flushed = ap (λ (w : World). w.state.flush.unflushed) q.0.1 ∙ clean },
+            ap (λ (w : World). w.disk) q.0.1 ∙ ap (λ (to : Option D). state_in G to) there,
+          )),
+    )
+
+-- ---- the input that was read
+
+-- the rest of an input, where it is known
+abbrev left_of : Option (List ℕ) → List ℕ
+left_of None = []
+left_of (Some rest) = rest
+
+-- an input brings the messages of what was read and of the rest
+brought : (from to : Option (List ℕ)) (seen : List ℕ) → Consumes from to seen → Brings from (messages (seen ++ left_of to))
+brought x0 to seen p = grind arith
+
+-- at its end, an input brings the messages of what was read
+brought_all : (from to next : Option (List ℕ)) (seen : List ℕ) → Consumes from to seen → Consumes to next [] → IsAtEnd next → Brings from (messages (seen ++ []))
+brought_all x0 to next seen p q e = grind arith
+
+-- a run of the messages that the input brings ended early, or ran them all
+abbrev pub Early : {D A : Type 0} {G : Ghosts D} → (RunCause → Type 0) → Exec D A G → RunFault D → Option (List ℕ) → Option (List ℕ) → Option (List ℕ) → Type 0
+Early by_input s fault from u w = (due : List Message) × Brings from due × EndsEarly by_input s fault due (held u []) (held w [])
+
+abbrev pub Whole : {D A : Type 0} {G : Ghosts D} → Exec D A G → D → Option (List ℕ) → Option (List ℕ) → Option (List ℕ) → Type 0
+Whole s disk from u w = (due : List Message) × Brings from due × RanAll s due disk (held u []) (held w [])
+
+-- why a run ends before the messages to come
+abbrev pub Reason : {D A : Type 0} {G : Ghosts D} → (RunCause → Type 0) → Exec D A G → RunFault D → RunCause → Type 0
+Reason {D} {A} {G} by_input s fault cause = (rest : List Message) (last : World) → StopsFor by_input (failures_of s) (Ghosts.failures G fault.disk) rest last (Ghosts.state G fault.disk).bytes cause
+
+-- a stop for this reason, in a piece of which nothing was executed
+pub stopped_now : {D A : Type 0} {G : Ghosts D} (by_input : RunCause → Type 0) (f : List ℕ → List Message) (piece : List ℕ) (s : Exec D A G) (cause : RunCause) (fault : RunFault D) (t : OutputState) → FaultOf s cause fault → IsOther cause → cause ≢ Write → Reason by_input s fault cause
+    → Stopped by_input f piece s fault t t
+stopped_now by_input f piece s cause fault t at plain other why =
+    ([], until_none fault.cause t (λ e. other (sym at.cause_is ∙ e)), λ input. stops_now by_input s cause fault (f (piece ++ input)) at plain (why (f (piece ++ input))))
+
+-- what stops a run while nothing is read stops it also where something is
+stops_by : {D A : Type 0} {G : Ghosts D} (by_input : RunCause → Type 0) (s : Exec D A G) (fault : RunFault D) (due : List Message) (text : List ℕ) → RunStops never s fault due text → RunStops by_input s fault due text
+stops_by by_input s fault due text p = stops_for never by_input s fault fault.cause due text p (λ before rest last why. ⊎_elim (λ n. absurd n) inr why) (λ before by. by)
+
+pub stopped_by : {D A : Type 0} {G : Ghosts D} (by_input : RunCause → Type 0) (f : List ℕ → List Message) (piece : List ℕ) (s : Exec D A G) (fault : RunFault D) (a b : OutputState) → Stopped never f piece s fault a b → Stopped by_input f piece s fault a b
+stopped_by by_input f piece s fault a b p = (p.0, p.1, λ input. stops_by by_input s fault (f (piece ++ input)) p.0 (p.2 input))
+
+module _ {D A : Type 0} {G : Ghosts D} {mid : List ℕ → List Message} (seen : List ℕ) {s s1 : Exec D A G} (from to u v : Option (List ℕ)) (took : Consumes from to seen) (fed : Fed messages seen mid s s1 (held u []) (held v [])) where
+  -- a stop in the next piece
+  pub read_stop : (by_input : RunCause → Type 0) (piece : List ℕ) (fault : RunFault D) (next w : Option (List ℕ)) → Consumes to next piece → Stopped by_input mid piece s1 fault (held v []) (held w []) → Early by_input s fault from u w
+  read_stop by_input piece fault next w p q =
+      let all = stopped_then by_input messages mid seen piece s s1 fault (held u []) (held v []) (held w []) fed q in
+      (messages ((seen ++ piece) ++ left_of next), brought from next (seen ++ piece) (Consumes-trans from to next seen piece took p), (all.0, all.1, all.2 (left_of next)))
+
+  -- before it
+  pub read_front : (by_input : RunCause → Type 0) (cause : RunCause) (fault : RunFault D) → FaultOf s1 cause fault → IsOther cause → cause ≢ Write → Reason by_input s1 fault cause → Early by_input s fault from u v
+  read_front by_input cause fault at plain other why = read_stop by_input [] fault to v (Consumes-nil to) (stopped_now by_input mid [] s1 cause fault (held v []) at plain other why)
+
+  -- in a piece of which only a part is taken, or after that part
+  cut_stop : (by_input : RunCause → Type 0) (n count : ℕ) (buf : List ℕ) (fault : RunFault D) (next w : Option (List ℕ)) → n ≤ count → Consumes to next (take count buf)
+      → Stopped by_input mid (take n buf ++ take (count - n) (drop n buf)) s1 fault (held v []) (held w []) → Early by_input s fault from u w
+  cut_stop by_input n count buf fault next w le p q =
+      let sum : count ≡ n + (count - n) = omega (arith, le) in
+      read_stop by_input (take count buf) fault next w p (subst (λ (z : List ℕ). Stopped by_input mid z s1 fault (held v []) (held w [])) (sym (ap (λ (k : ℕ). take k buf) sum ∙ take-add n (count - n) buf)) q)
+
+  pub cut_front : (by_input : RunCause → Type 0) (n count : ℕ) (buf : List ℕ) (fault : RunFault D) (next w : Option (List ℕ)) → n ≤ count → Consumes to next (take count buf) → Stopped never mid (take n buf) s1 fault (held v []) (held w [])
+      → Early by_input s fault from u w
+  cut_front by_input n count buf fault next w le p q =
+      let more = take (count - n) (drop n buf) in
+      cut_stop by_input n count buf fault next w le p (q.0, q.1, λ input. subst (λ (z : List ℕ). RunStops by_input s1 fault (mid z) q.0) (sym (append_assoc (take n buf) more input)) (stops_by by_input s1 fault _ q.0 (q.2 (more ++ input))))
+
+  pub cut_after : (by_input : RunCause → Type 0) (after : List ℕ → List Message) (n count : ℕ) (buf : List ℕ) (s2 : Exec D A G) (cause : RunCause) (fault : RunFault D) (next w : Option (List ℕ)) → n ≤ count → Consumes to next (take count buf)
+      → Fed mid (take n buf) after s1 s2 (held v []) (held w []) → FaultOf s2 cause fault → IsOther cause → cause ≢ Write → Reason by_input s2 fault cause → Early by_input s fault from u w
+  cut_after by_input after n count buf s2 cause fault next w le p q at plain other why =
+      let more = take (count - n) (drop n buf) in
+      cut_stop by_input n count buf fault next w le p (stopped_then by_input mid after (take n buf) more s1 s2 fault (held v []) (held w []) (held w []) q (stopped_now by_input after more s2 cause fault (held w []) at plain other why))
+
+  -- the end of the input
+  pub read_end : (disk : D) (next w : Option (List ℕ)) → Consumes to next [] → IsAtEnd next → RanAll s1 (mid []) disk (held v []) (held w []) → Whole s disk from u w
+  read_end disk next w p e q =
+      let is : messages (seen ++ []) ≡ fed.0 ++ mid [] = fed.3 [] in
+      let text = fed.1 ++ q.0 in (
+        messages (seen ++ []),
+        brought_all from to next seen took p e,
+        (
+          text,
+          says_join (held u []) (held v []) (held w []) fed.1 q.0 fed.2 q.1,
+          ran_then s s1 (Some disk) (Runs fed.0 fed.1) (λ steps last. RunsWhole (mid []) q.0 steps last × (last.disk ≡ Ghosts.state G disk)) (λ steps last. RunsWhole (messages (seen ++ [])) text steps last × (last.disk ≡ Ghosts.state G disk)) fed.4 q.2
+              (λ xs ys last broke r o. (
+                record {
+                  made = xs ++ o.0.made;
+                  runs = subst (λ (m : List Message). Runs m text (xs ++ o.0.made)) (sym is) (runs_join fed.0 (mid []) fed.1 q.0 xs o.0.made r o.0.runs);
+                  flush = o.0.flush;
+                  flushes = o.0.flushes;
+                  all = ap (λ (z : List RunStep). xs ++ z) o.0.all ∙ sym (append_assoc xs o.0.made o.0.flush);
+                  flushed = o.0.flushed;
+                },
+                o.1,
+              )),
+        ),
+      )
+
+  -- a fault there
+  pub end_stop : (by_input : RunCause → Type 0) (fault : RunFault D) (next w : Option (List ℕ)) → Consumes to next [] → IsAtEnd next → EndsEarly never s1 fault (mid []) (held v []) (held w []) → Early by_input s fault from u w
+  end_stop by_input fault next w p e q = (
+    messages (seen ++ []),
+    brought_all from to next seen took p e,
+    (
+      fed.1 ++ q.0,
+      until_after fault.cause (held u []) (held v []) (held w []) fed.1 q.0 fed.2 q.1,
+      subst (λ (due : List Message). RunStops by_input s fault due (fed.1 ++ q.0)) (sym (fed.3 [])) (stops_then by_input s s1 fault fed.0 (mid []) fed.1 q.0 fed.4 (stops_by by_input s1 fault (mid []) q.0 q.2)),
+    ),
+  )
+
+-- all of the input was taken
+pub read_all : (most : ℕ) (seen : List ℕ) (from to next : Option (List ℕ)) → Consumes from to seen → Consumes to next [] → IsAtEnd next → length seen ≤ most → IfSome from (λ input. length input ≤ most)
+read_all most seen None to next p q e le = tt
+read_all most seen (Some x) None next p q e le = absurd p
+read_all most seen (Some x) (Some y) None p q e le = absurd q
+read_all most seen (Some x) (Some y) (Some z) p q e le =
+    let is : x ≡ seen = p ∙ ap (λ (l : List ℕ). seen ++ l) (q ∙ e) ∙ append-nil seen in
+    subst (λ (l : List ℕ). length l ≤ most) (sym is) le
+
+pub taken_more : (seen buf : List ℕ) (count a b c : ℕ) → length seen ≡ a → count ≤ length buf → b ≡ a → c ≡ b + count → length (seen ++ take count buf) ≡ c
+taken_more seen buf count a b c taken bound same more = grind (arith, common_steps, taken, bound, same, more)
+
+-- ---- the result of a whole run, stated on the image that it began on
+
+-- the disk of a fault that is propagated
+pub passed_disk : {D : Type 0} (r : Result D (RunFault D)) (fault : RunFault D) (P : D → Type 0) → IsErrAnd r (λ reported. reported ≡ fault) → P fault.disk → P (disk_of r)
+passed_disk x0 fault x2 is x4 = grind arith
+
+-- the text that was output is written
+wrote : (cause : RunCause) (u v : Option (List ℕ)) (text : List ℕ) → SaysUntil cause (held u []) (held v []) text → WritesUntil cause u v text
+wrote cause u v text s = record { whole = λ e. let p = s.whole e in subst (Appends u v) (sym (append-nil p.0) ∙ p.2) p.1; missing = s.missing }
+
+-- the text that is written for a known input where nothing goes wrong
+script_of : ScriptAlone → (from : Option (List ℕ)) (image : List ℕ) (due : List Message) (text : List ℕ) (steps : List RunStep) (first last : World) → Brings from due → PowersOn image first → Runs due text steps → Walks first steps last → AreCalm steps
+    → IfSome from (λ input. IsScript first.start first.limit input text)
+script_of alone None image due text steps first last brought starts runs walks calm = tt
+script_of alone (Some input) image due text steps first last brought starts runs walks calm = alone image input text steps first last starts (subst (λ (m : List Message). Runs m text steps) brought runs) walks calm
+
+module _ {D A : Type 0} {G : Ghosts D} (s : Exec D A G) (image : List ℕ) (before : ℕ) (h : Ghosts.honest G) (starts : PowersOn image (world_of (born s) s)) (same : failures_of s ≡ before) (from u v : Option (List ℕ)) where
+  -- the run ended early
+  pub run_early : (by_input : RunCause → Type 0) (fault : RunFault D) → Early by_input s fault from u v → WritesFirst by_input fault.cause image from before (Ghosts.failures G fault.disk) u v (Ghosts.state G fault.disk)
+  run_early by_input fault (due, brought, (text, said, ran)) =
+      let first = world_of (born s) s in let a = ran.ran.walked h (born s) in
+      let p : StopsAt G by_input before fault due text a.steps a.last = subst (λ (n : ℕ). StopsAt G by_input n fault due text a.steps a.last) same a.is in
+      let behind = left_leads a.last (Ghosts.state G fault.disk) p.left in record {
+        first = first;
+        starts = starts;
+        due = due;
+        brought = brought;
+        rest = p.rest;
+        text = text;
+        steps = a.steps;
+        last = a.last;
+        runs = p.runs;
+        walks = a.walks;
+        wrote = wrote fault.cause u v text said;
+        kept = leaves_prefix a.last (Ghosts.state G fault.disk) (reached_walk a.steps first a.last a.walks (reached_on image first starts)) p.left;
+        count = p.count;
+        later = p.later;
+        failed = p.failed;
+        later_then = p.later_then;
+        failed_then = p.failed_then;
+        why = p.why;
+        since = λ w is. run_leads image a.steps first a.last w starts a.walks is;
+        stopped = behind.0;
+        behind = behind.1;
+        back = behind.2;
+      }
+
+  -- why
+  pub run_cause : (by_input : RunCause → Type 0) (fault : RunFault D) → Early by_input s fault from u v → EndsFor image before (Ghosts.failures G fault.disk) (Ghosts.state G fault.disk).bytes by_input fault.cause
+  run_cause by_input fault early =
+      let w = run_early by_input fault early in
+      ends_for image before w.count (Ghosts.failures G fault.disk) w.rest w.last (Ghosts.state G fault.disk).bytes by_input fault.cause (represents_readable _ _ _ starts.found) w.later w.why
+
+  -- the run succeeded
+  pub run_whole : ScriptAlone → (disk : D) → Whole s disk from u v → WritesRun image from before (Ghosts.failures G disk) u v (Ghosts.state G disk)
+  run_whole alone disk (due, brought, (text, says, ran)) =
+      let first = world_of (born s) s in let a = ran.walked h (born s) in let r = a.is.0 in
+      let walk = walks_split r.made r.flush first a.last (subst (λ (z : List RunStep). Walks first z a.last) r.all a.walks) in record {
+        first = first;
+        starts = starts;
+        due = due;
+        brought = brought;
+        text = text;
+        written = subst (Appends u v) (sym (append-nil says.0) ∙ says.2) says.1;
+        steps = a.steps;
+        last = a.last;
+        runs = r;
+        walks = a.walks;
+        failed = λ b. subst (λ (n : ℕ). HasFailed n (Ghosts.failures G disk)) same (a.failed b);
+        calm = λ c. script_of alone from image due text r.made first walk.0 brought starts r.runs walk.1 (calm_split r.made r.flush (subst AreCalm r.all c)).0;
+        kept = subst (λ (d : DiskState). EachRepresents d a.last.limit (items_of a.last.state.flush.contents)) a.is.1
+            (flushed_stands a.last (reached_walk a.steps first a.last a.walks (reached_on image first starts)) (walk_running a.steps first a.last a.walks refl) r.flushed);
+        since = λ w is. run_leads image a.steps first a.last w starts a.walks is;
+        back = a.is.1;
+      }
+
+-- ---- each moment
+
+module _ {D A : Type 0} {G : Ghosts D} (s : Exec D A G) (given : D) (h : Ghosts.honest G) (t : Ghosts.records G) (now : IsNow G) (starts : PowersOn (Ghosts.state G given).bytes (world_of (born s) s)) (some : s.idle_store ≡ None → ⊥)
+    (opens : ForSome s.idle_store (λ h. LeavesOnly (Ghosts.moment G) (Ghosts.left_since G) given (idle_disk h) (IsOldOrSame (Ghosts.state G given)))) (from u v : Option (List ℕ)) where
+  moments : (over : D) (due rest : List Message) (text : List ℕ) (steps : List RunStep) → Brings from due → RunsUpTo rest due text steps → Since G (disk_in s.idle_store) (Some over) (IsAlong (world_of (born s) s) steps)
+      → LeavesOnly (Ghosts.moment G) (Ghosts.left_since G) given over (IsOfRun (Ghosts.state G given) from)
+  moments over due rest text steps brought runs since =
+      let disk = Ghosts.state G given in
+      since_then G (Some given) (disk_in s.idle_store) (Some over) (IsOldOrSame disk) (IsAlong (world_of (born s) s) steps) (IsOfRun disk from) (since_to s.idle_store given (IsOldOrSame disk) some opens) since
+      (λ x kept. inl (keeps_map disk x kept))
+      (λ x along. inr (record { first = world_of (born s) s; starts = starts; due = due; brought = brought; rest = rest; text = text; steps = steps; runs = runs; along = along }))
+
+  pub early_moments : (by_input : RunCause → Type 0) (fault : RunFault D) → Early by_input s fault from u v → LeavesOnly (Ghosts.moment G) (Ghosts.left_since G) given fault.disk (IsOfRun (Ghosts.state G given) from)
+  early_moments by_input fault (due, brought, (text, said, ran)) =
+      let a = ran.ran.walked h (born s) in
+      moments fault.disk due a.is.rest text a.steps brought a.is.runs (a.time t now (reached_on (Ghosts.state G given).bytes (world_of (born s) s) starts))
+
+  pub whole_moments : (disk : D) → Whole s disk from u v → LeavesOnly (Ghosts.moment G) (Ghosts.left_since G) given disk (IsOfRun (Ghosts.state G given) from)
+  whole_moments disk (due, brought, (text, says, ran)) =
+      let a = ran.walked h (born s) in let r = a.is.0 in let flush = begins_all [] r.flush (flush_executes r.flush r.flushes) in
+      moments disk due [] text a.steps brought (subst (RunsUpTo [] due text) (sym r.all) (whole_up_to due text r.made r.flush r.runs flush)) (a.time t now (reached_on (Ghosts.state G given).bytes (world_of (born s) s) starts))

@@ -1,91 +1,108 @@
--- One reading of a unit, one path after it, and some macro call that it may be.
-use Rattle.std.proofs.Common.{◌≡◌, ℕ, Bool, true, false, List, [], ◌∷◌, refl, sym, ap, ◌∙◌, subst, inl, inr, Option, Some, None, Result, Ok, Err, is_ok}
-use Rattle.psu_lex.specs.Message.{Part}
-use Rattle.psu_lex.specs.Names.{is_label}
-use Rattle.psu_lex.specs.Shown.{HoldsData, TailLists}
-use Rattle.psu_lex.specs.Syntax.{Datum, HeaderParts, IsBefore, IsHeader, Lists, Syntax, SyntaxGives, FaultGives, TextGives, UnitReads, has_high, header_text}
-use Rattle.psu_lex.specs.declared.data.Data.{Data}
-use Rattle.psu_lex.specs.declared.unit.UnitFault.{UnitFault}
-use Rattle.psu_lex.specs.declared.scpi_error.ScpiError.{ScpiError}
-use Rattle.psu_tree.specs.Path.{path_after}
-use Rattle.psu_tree.specs.Reading.{Reads, Moves, CallsMacro, SyntaxReads, SyntaxMoves, SyntaxCalls}
-use Rattle.psu_tree.specs.declared.command.Command.{Command}
-use Rattle.psu_tree.specs.declared.command.MacroCall.{MacroCall}
+-- The readings of units, and the requests of what is executed, from a place on.
+use Rattle.std.proofs.Common.{◌≡◌, ℕ, Bool, List, [], refl, sym, ap, ◌∙◌, Option, None, Some, Result, Ok, Err, ◌+◌, false, ◌∷◌, ◌++◌, take, drop, subst, arith}
+use Rattle.psu_run.proofs.Common.{AreAsked, AreRequests, Command, Datum, Fault, HoldsParameters, IsRequest, MacroCall, Part, Reads, Request, ScpiError, Source, Syntax, SyntaxCalls, SyntaxGives, SyntaxMoves, path_at}
+use Rattle.psu_lex.specs.Message.{IsMessage}
+use Rattle.psu_lex.specs.Syntax.{HeaderParts, IsHeader, header_text}
+use Rattle.psu_messages.specs.Units.{Root, Behind, Asks, HasNone, IsBehind, IsUnit, LeadsToPath, faulty}
+use Rattle.std.proofs.lemmas.List.{drop-drop, drop_all}
+use Rattle.std.proofs.Math.Seq.{take-add}
+use Rattle.psu_messages.specs.Units as units
 
--- every unit reads in some way at a path, and in one way
-abbrev pub SomeReading : Type 0
-SomeReading = (path : List (List ℕ)) (unit : Part) → (reading : Result Command ScpiError) × Reads path unit reading
+-- every list of bytes has units
+abbrev pub SomeUnits : Type 0
+SomeUnits = (bytes : List ℕ) → (list : List Part) × IsMessage bytes list
 
-abbrev pub OneReading : Type 0
-OneReading = (path : List (List ℕ)) (unit : Part) (reading other : Result Command ScpiError) → Reads path unit reading → Reads path unit other → reading ≡ other
+-- Bytes have one list of units. A unit has one syntax, a text is that of one header, and a unit reads in one way.
+pub record Ones : Type 0 where
+  pub units : (bytes : List ℕ) (list others : List Part) → IsMessage bytes list → IsMessage bytes others → list ≡ others
+  pub syntax : (unit : Part) (result other : Result Syntax ScpiError) → SyntaxGives unit result → SyntaxGives unit other → result ≡ other
+  pub header : (one other : HeaderParts) → IsHeader one → IsHeader other → header_text one ≡ header_text other → one ≡ other
+  pub reading : (path : List (List ℕ)) (unit : Part) (result other : Result Command ScpiError) → Reads path unit result → Reads path unit other → result ≡ other
 
--- the laws of psu_lex
-abbrev pub OneSyntax : Type 0
-OneSyntax = (unit : Part) (result other : Result Syntax ScpiError) → SyntaxGives unit result → SyntaxGives unit other → result ≡ other
+one_moved : Ones → (path : List (List ℕ)) (given : Result Syntax ScpiError) (reading : Result Command ScpiError) (next other : List (List ℕ)) → SyntaxMoves path given reading next → SyntaxMoves path given reading other
+    → next ≡ other
+one_moved o path (Err e) reading next other a b = a ∙ sym b
+one_moved o path (Ok syntax) reading next other (h, is, text, moves) (k, is_too, text_too, moves_too) = let same = o.header h k is is_too (sym text ∙ text_too) in grind arith
 
-abbrev pub OneHeader : Type 0
-OneHeader = (header other : HeaderParts) → IsHeader header → IsHeader other → header_text header ≡ header_text other → header ≡ other
+-- a unit has one reading, and the path after it is unique
+pub one_next : {inside : Bool} {from : List (List ℕ)} {part : Part} {request other : Request} {next late : List (List ℕ)} → Ones → IsRequest inside from part request next → IsRequest inside from part other late
+    → (request.reading ≡ other.reading) × (late ≡ next)
+one_next {from = from} {part = part} {request = request} {other = other} {next = next} {late = late} o here too =
+    let same = o.reading from part request.reading other.reading here.reading too.reading in
+    let syntax = o.syntax part too.moves.0 here.moves.0 too.moves.1 here.moves.1 in
+    (same, one_moved o from here.moves.0 request.reading late next (rw (← syntax, same) too.moves.2) here.moves.2)
 
--- ---- the path
+-- the data written for a call exist
+abbrev pub Holds : Request → Type 0
+Holds request = (list : List Datum) × HoldsParameters request.call list
 
-abbrev pub OneMove : Type 0
-OneMove = (path : List (List ℕ)) (unit : Part) (reading : Result Command ScpiError) (next other : List (List ℕ)) → Moves path unit reading next → Moves path unit reading other → next ≡ other
+pub held_by : (given : Result Syntax ScpiError) (call : Option MacroCall) → SyntaxCalls given call → (list : List Datum) × HoldsParameters call list
+held_by given None c = ([], refl)
+held_by (Ok syntax) (Some call) c = (syntax.parameters, c.2)
+held_by given call c = cc
 
-one_moved : OneHeader → (path : List (List ℕ)) (given : Result Syntax ScpiError) (reading : Result Command ScpiError) (next other : List (List ℕ))
-    → SyntaxMoves path given reading next → SyntaxMoves path given reading other → next ≡ other
-one_moved header path (Err e) reading next other a b = a ∙ sym b
-one_moved header path (Ok syntax) reading next other (h, is, text, moves) (k, is_too, text_too, moves_too) =
-    moves ∙ ap (λ (z : HeaderParts). path_after (is_ok reading) path z) (header h k is is_too (sym text ∙ text_too)) ∙ sym moves_too
+-- ---- the path after units
 
--- the path moves in one way
-pub one_move : OneSyntax → OneHeader → OneMove
-one_move syntax header path unit reading next other (given, gives, moves) (given_too, gives_too, moves_too) =
-    one_moved header path given reading next other moves
-    (subst (λ (z : Result Syntax ScpiError). SyntaxMoves path z reading other) (syntax unit given_too given gives_too gives) moves_too)
+-- units are read one after another, the first from this path, and lead to the other
+abbrev Passes : Bool → List (List ℕ) → List Part → List (List ℕ) → Type 0
+Passes inside path [] end = end ≡ path
+Passes inside path (part ∷ parts) end = (request : Request) × (next : List (List ℕ)) × IsRequest inside (path_at path part) part request next × Passes inside next parts end
 
-some_moved : (path : List (List ℕ)) (given : Result Syntax ScpiError) (reading : Result Command ScpiError) → SyntaxReads path given reading
-    → (next : List (List ℕ)) × SyntaxMoves path given reading next
-some_moved path (Err e) reading r = (path, refl)
-some_moved path (Ok syntax) reading (h, is, text, form) = (path_after (is_ok reading) path h, (h, is, text, refl))
+passes_more : {inside : Bool} {part : Part} {request : Request} {next : List (List ℕ)} (parts : List Part) (path end : List (List ℕ)) → Passes inside path parts end → IsRequest inside (path_at end part) part request next
+    → Passes inside path (parts ++ part ∷ []) next
+passes_more {inside} {part} {request} {next} [] path end here is = (request, next, rw (← here) is, refl)
+passes_more (p ∷ parts) path end (first, mid, reads, on) is = (first, mid, reads, passes_more parts mid end on is)
 
-pub some_move : (path : List (List ℕ)) (unit : Part) (reading : Result Command ScpiError) → Reads path unit reading → (next : List (List ℕ)) × Moves path unit reading next
-some_move path unit reading (given, gives, reads) = let m = some_moved path given reading reads in (m.0, (given, gives, m.1))
+passes : {inside : Bool} {parts : List Part} {path : List (List ℕ)} → LeadsToPath inside parts path → Passes inside [] parts path
+passes Root = refl
+passes (Behind {parts = before} {path = from} l part request next is) = passes_more before [] from (passes l) is
 
--- ---- calls
+one_end : Ones → (inside : Bool) (parts : List Part) (path end late : List (List ℕ)) → Passes inside path parts end → Passes inside path parts late → end ≡ late
+one_end o inside [] path end late a b = a ∙ sym b
+one_end o inside (p ∷ parts) path end late (first, mid, is, on) (second, there, is_too, on_too) = one_end o inside parts mid end late on (rw (← (one_next o is is_too).1) on_too)
 
-text_reads : (high : Bool) (text : List ℕ) (s : Syntax) → TextGives high text (Ok s) → UnitReads text s
-text_reads true text s g = absurd (cc (g))
-text_reads false text s (inl (t, u, e)) = let same : t ≡ s = cc (e) in subst (UnitReads text) same u
-text_reads false text s (inr (none, e)) = absurd (cc (e))
+-- ---- the requests of some bytes
 
-fault_reads : (fault : Option UnitFault) (text : List ℕ) (s : Syntax) → FaultGives fault text (Ok s) → UnitReads text s
-fault_reads (Some e) text s g = absurd (cc (g))
-fault_reads None text s (tokens, reads, g) = text_reads (has_high tokens) text s g
+-- those of the units from a place on, whichever path the units before it lead to
+abbrev pub AreLeft : Bool → List ℕ → ℕ → List Request → Type 0
+AreLeft inside bytes place requests = (parts : List Part) → IsMessage bytes parts → (path : List (List ℕ)) → LeadsToPath inside (take place parts) path → AreRequests inside path (drop place parts) requests
 
-some_tail : (next rest : List ℕ) (list : List Datum) → IsBefore next rest list → Lists rest list → (tail : List ℕ) × TailLists tail list
-some_tail next rest [] before lists = ([], refl)
-some_tail next rest (d ∷ list) before lists = (44 ∷ rest, (rest, refl, lists))
+pub left_next : {inside : Bool} {bytes : List ℕ} {place : ℕ} {part : Part} {request : Request} (more : List Request) → Ones → IsUnit inside bytes place part request → AreLeft inside bytes (place + 1) more
+    → AreLeft inside bytes place (request ∷ more)
+left_next {inside} {bytes} {place} {part} {request} more o u left = λ parts are. rw (← o.units bytes u.units parts u.are are) (λ path leads.
+    let at : u.path ≡ path = one_end o inside (take place u.units) [] u.path path (passes u.leads) (passes leads) in
+    let is : IsRequest inside (path_at path part) part request u.next = rw (← at) u.reads in
+    let front : take place u.units ++ part ∷ [] ≡ take (place + 1) u.units = sym (take-add place 1 u.units ∙ ap (λ (l : List Part). take place u.units ++ take 1 l) u.here) in
+    let behind : drop (place + 1) u.units ≡ u.after = sym (drop-drop 1 place u.units) ∙ ap (drop 1) u.here in
+    rw u.here (request, more, u.next, is, rw (← behind) (left u.units u.are u.next (rw (← front) (Behind leads part request u.next is))), refl))
 
--- data that contain a list, at any place
-some_data : (list : List Datum) (text : List ℕ) → Lists text list → (held : Data) × HoldsData held list
-some_data [] text lists = (record { found = None }, refl)
-some_data (d ∷ list) text (space, next, rest, white, is, datum, before, lists) =
-    let tail = some_tail next rest list before lists in (
-      record { found = Some (record { datum = record { class = d.class; text = record { ref_ptr = (0, 0); now = d.text } }; tail = record { ref_ptr = (0, 0); now = tail.0 } }) },
-      (list, refl, (next, datum), tail.1),
-    )
+pub left_none : {inside : Bool} {bytes : List ℕ} {place : ℕ} → Ones → IsBehind bytes place → AreLeft inside bytes place []
+left_none {inside} {bytes} {place} o (units, are, short) = λ parts are_too path leads.
+    let none : drop place parts ≡ [] = drop_all place parts (rw (← o.units bytes units parts are are_too) short) in rw none refl
 
-some_label : (s : Syntax) (text : List ℕ) (label : Bool) → is_label s.header ≡ label → Lists text s.parameters → (call : Option MacroCall) × SyntaxCalls (Ok s) call
-some_label s text false is lists = (None, is)
-some_label s text true is lists =
-    let held = some_data s.parameters text lists in
-    (Some (record { label = record { ref_ptr = (0, 0); now = s.header }; args = held.0 }), (is, refl, held.1))
+pub left_all : {inside : Bool} {bytes : List ℕ} {requests : List Request} → SomeUnits → AreLeft inside bytes 0 requests → AreAsked inside bytes requests
+left_all {bytes = bytes} some left = let parts = some bytes in (parts.0, parts.1, left parts.0 parts.1 [] Root)
 
-some_called : (unit : Part) (given : Result Syntax ScpiError) → SyntaxGives unit given → (call : Option MacroCall) × SyntaxCalls given call
-some_called unit (Err e) gives = (None, refl)
-some_called unit (Ok s) gives =
-    let u = fault_reads unit.fault unit.text s gives in
-    some_label s u.1 (is_label s.header) refl u.6
+-- ---- what is executed
 
-pub some_call : (path : List (List ℕ)) (unit : Part) (reading : Result Command ScpiError) → Reads path unit reading → (call : Option MacroCall) × CallsMacro unit call
-some_call path unit reading (given, gives, reads) = let c = some_called unit given gives in (c.0, (given, gives, c.1))
+-- the requests from a place on
+abbrev pub AskedFrom : Source → ℕ → List Request → Type 0
+AskedFrom (units.Text bytes) place requests = AreLeft false bytes place requests
+AskedFrom (Fault error) place requests = requests ≡ drop place (faulty error ∷ [])
+
+-- all of them
+abbrev pub AskedBy : Source → List Request → Type 0
+AskedBy (units.Text bytes) requests = AreAsked false bytes requests
+AskedBy (Fault error) requests = requests ≡ faulty error ∷ []
+
+pub asked_next : Ones → (source : Source) (place : ℕ) (request : Request) (first : Bool) (more : List Request) → Asks source place request first → AskedFrom source (place + 1) more → AskedFrom source place (request ∷ more)
+asked_next o (units.Text bytes) place request first more (part, u, e) left = left_next more o u left
+asked_next o (Fault error) place request first more (none, is, e) left =
+    subst (λ (n : ℕ). request ∷ more ≡ drop n (faulty error ∷ [])) (sym none) (cc (is, left ∙ ap (λ (n : ℕ). drop (n + 1) (faulty error ∷ [])) none))
+
+pub asked_none : Ones → (source : Source) (place : ℕ) → HasNone source place → AskedFrom source place []
+asked_none o (units.Text bytes) place over = left_none o over
+asked_none o (Fault error) place over = sym (drop_all place (faulty error ∷ []) (omega (arith, over)))
+
+pub asked_all : SomeUnits → (source : Source) (requests : List Request) → AskedFrom source 0 requests → AskedBy source requests
+asked_all some source requests left = grind (arith, left_all)

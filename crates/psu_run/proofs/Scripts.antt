@@ -1,173 +1,252 @@
--- The requests of a message: they exist, and two readings of them are alike.
-use Rattle.std.proofs.Common.{◌≡◌, ℕ, Bool, true, false, List, [], ◌∷◌, refl, sym, ap, ◌∙◌, subst, Option, None, Some, Result, Ok, Err}
+-- Every input has a script, and only one.
+use Rattle.std.proofs.Common.{arith, ◌≡◌, ℕ, Bool, true, false, List, [], ◌∷◌, ◌++◌, refl, subst, Option, None, Some, Result, Ok, Err, is_ok, sym, ◌∙◌}
 use Rattle.std.specs.Prelude.{⊤}
-use Rattle.psu_lex.specs.Message.{Part, IsMessage}
+use Rattle.psu_lex.specs.Macros.{ExpandsTo}
+use Rattle.psu_run.proofs.Common.{AreAsked, AreRequests, Asks, ByMacro, ByMeaning, Command, Datum, Early, Expand, HasMessageOutcome, HasOutcome, HasOutcomeFrom, HoldsParameters, IsRequest, Later, MacroCall, Message, MessageOutcome, Part, Reads, Replies, Reply, Request, Rest, ScpiError, Scripted, Speaks, SpeaksInside, Spoken, State, Syntax, SyntaxCalls, SyntaxGives, SyntaxMoves, UnitOutcome, after_reply, flushed, path_at, response, restarted, with_answer}
 use Rattle.psu_lex.specs.Names.{is_label}
-use Rattle.psu_lex.specs.Shown.{HoldsFound, TailLists}
-use Rattle.psu_lex.specs.Syntax.{Datum, Lists, Syntax, datum_of}
+use Rattle.psu_lex.specs.Shown.{HoldsData, TailLists, HoldsFound}
+use Rattle.psu_lex.specs.Syntax.{IsBefore, Lists, UnitReads}
+use Rattle.psu_lex.specs.declared.data.Data.{Data}
+use Rattle.psu_lex.specs.declared.scpi_error.ScpiError.TheVariants.{MacroRecursionError}
+use Rattle.psu_tree.specs.Path.{path_after}
+use Rattle.psu_tree.specs.Reading.{SyntaxReads}
+use Rattle.psu_instrument.specs.Macros.{ExpandsAt, written, label_in}
+use Rattle.psu_exec.specs.Device.{answer_call, answer_meant, called, here, is_later, meant}
+use Rattle.psu_run.specs.Lines.{too_much}
+use Rattle.psu_run.specs.Script.{SpeaksReply, Expands}
+use Rattle.psu_run.proofs.Readings.{Holds, SomeUnits, held_by, Ones, one_next}
 use Rattle.psu_lex.specs.declared.data.Found.{Found}
-use Rattle.psu_lex.specs.declared.scpi_error.ScpiError.{ScpiError}
 use Rattle.psu_lex.proofs.DataLists.{one_list}
-use Rattle.psu_tree.specs.Reading.{Moves, SyntaxCalls}
-use Rattle.psu_tree.specs.declared.command.Command.{Command}
-use Rattle.psu_tree.specs.declared.command.MacroCall.{MacroCall}
-use Rattle.psu_tree.specs.declared.command.Request.{Request}
-use Rattle.psu_instrument.specs.Macros.{HoldsParameters, label_in}
-use Rattle.psu_messages.specs.Units.{path_at}
-use Rattle.psu_run.specs.Lines.{Message, AreAsked, AreRequests, Asks, too_much}
-use Rattle.psu_run.proofs.Readings.{OneReading, OneMove, OneSyntax, SomeReading, some_call, some_move}
 
--- every list of bytes has one list of units
-abbrev pub SomeUnits : Type 0
-SomeUnits = (bytes : List ℕ) → (units : List Part) × IsMessage bytes units
+-- Bytes have units, a unit reads in some way at a path, and a body has an expansion, or an error in its place.
+pub record Somes : Type 0 where
+  pub units : SomeUnits
+  pub reading : (path : List (List ℕ)) (unit : Part) → (result : Result Command ScpiError) × Reads path unit result
+  pub expansion : (body : List ℕ) (args : List (List ℕ)) → (result : Result (List ℕ) ScpiError) × ExpandsTo body args result
 
-abbrev pub OneUnits : Type 0
-OneUnits = (bytes : List ℕ) (units others : List Part) → IsMessage bytes units → IsMessage bytes others → units ≡ others
+-- ---- the reading of a unit
 
--- ---- the data of calls
+some_next : (path : List (List ℕ)) (given : Result Syntax ScpiError) (reading : Result Command ScpiError) → SyntaxReads path given reading → (next : List (List ℕ)) × SyntaxMoves path given reading next
+some_next path (Err e) reading r = (path, refl)
+some_next path (Ok syntax) reading (h, is, text, form) = (path_after (is_ok reading) path h, (h, is, text, refl))
 
--- the data written for a call exist
-abbrev pub Holds : Request → Type 0
-Holds request = (list : List Datum) × HoldsParameters request.call list
+some_tail : (next rest : List ℕ) (list : List Datum) → IsBefore next rest list → Lists rest list → (tail : List ℕ) × TailLists tail list
+some_tail next rest [] before lists = ([], refl)
+some_tail next rest (d ∷ list) before lists = (44 ∷ rest, (rest, refl, lists))
 
-abbrev pub AllHold : List Request → Type 0
+-- data that contain a list, at any place
+some_data : (list : List Datum) (text : List ℕ) → Lists text list → (held : Data) × HoldsData held list
+some_data [] text lists = (record { found = None }, refl)
+some_data (d ∷ list) text (space, next, rest, white, is, datum, before, lists) =
+    let tail = some_tail next rest list before lists in (
+      record { found = Some (record { datum = record { class = d.class; text = record { ref_ptr = (0, 0); now = d.text } }; tail = record { ref_ptr = (0, 0); now = tail.0 } }) },
+      (list, refl, (next, datum), tail.1),
+    )
+
+some_call : (unit : Part) (given : Result Syntax ScpiError) → SyntaxGives unit given → (call : Option MacroCall) × SyntaxCalls given call
+some_call unit (Err e) gives = (None, refl)
+some_call unit (Ok s) gives = by (is_label s.header) refl where
+  by : (label : Bool) → is_label s.header ≡ label → (call : Option MacroCall) × SyntaxCalls (Ok s) call
+  by false is = (None, is)
+  by true is =
+      let u : UnitReads unit.text s = grind arith in let held = some_data s.parameters u.1 u.6 in
+      (Some (record { label = record { ref_ptr = (0, 0); now = s.header }; args = held.0 }), (is, refl, held.1))
+
+-- ---- the requests of a message
+
+abbrev AllHold : List Request → Type 0
 AllHold [] = ⊤
 AllHold (request ∷ requests) = Holds request × AllHold requests
 
-pub held_by : (given : Result Syntax ScpiError) (call : Option MacroCall) → SyntaxCalls given call → (list : List Datum) × HoldsParameters call list
-held_by given None c = ([], refl)
-held_by (Ok syntax) (Some call) c = (syntax.parameters, c.2)
-held_by (Err e) (Some call) c = cc
+module _ (some : Somes) where
+  some_requests : (inside : Bool) (units : List Part) (path : List (List ℕ)) → (requests : List Request) × AllHold requests × AreRequests inside path units requests
+  some_requests inside [] path = ([], tt, refl)
+  some_requests inside (part ∷ units) path =
+      let from = path_at path part in let reads = some.reading from part in let next = some_next from reads.1.0 reads.0 reads.1.2 in
+      let call = some_call part reads.1.0 reads.1.1 in let rest = some_requests inside units next.0 in
+      let request : Request = record { call = call.0; reading = reads.0; inside = inside } in
+      let is : IsRequest inside from part request next.0 = record { reading = reads.1; moves = (reads.1.0, reads.1.1, next.1); call = (reads.1.0, reads.1.1, call.1); place = refl } in
+      (request ∷ rest.0, (held_by reads.1.0 call.0 call.1, rest.1), (request, rest.0, next.0, is, rest.2, refl))
 
-all_hold : (inside : Bool) (units : List Part) (path : List (List ℕ)) (requests : List Request) → AreRequests inside path units requests → AllHold requests
-all_hold inside [] path requests a = subst AllHold (sym a) tt
-all_hold inside (part ∷ units) path requests (request, more, next, here, asks, is) =
-    subst AllHold (sym is) (held_by here.call.0 request.call here.call.2, all_hold inside units next more asks)
+  some_asked : (inside : Bool) (bytes : List ℕ) → (requests : List Request) × AllHold requests × AreAsked inside bytes requests
+  some_asked inside bytes = let units = some.units bytes in let requested = some_requests inside units.0 [] in (requested.0, requested.1, (units.0, units.1, requested.2))
 
-pub asked_hold : (inside : Bool) (bytes : List ℕ) (requests : List Request) → AreAsked inside bytes requests → AllHold requests
-asked_hold inside bytes requests (units, is, asks) = all_hold inside units [] requests asks
+  some_asking : (m : Message) → (requests : List Request) × AllHold requests × Asks m requests
+  some_asking Message.Power = ([], tt, refl)
+  some_asking Message.Overlong = (too_much ∷ [], (([], refl), tt), refl)
+  some_asking (Message.Units bytes) = some_asked false bytes
 
-pub message_holds : (m : Message) (requests : List Request) → Asks m requests → AllHold requests
-message_holds Message.Power requests a = subst AllHold (sym a) tt
-message_holds Message.Overlong requests a = subst AllHold (sym a) (([], refl), tt)
-message_holds (Message.Units bytes) requests a = asked_hold false bytes requests a
+  -- ---- units
 
--- ---- one list of data
+  some_given : (inside : Bool) (body : List ℕ) (args : List (List ℕ)) → (given : Result (List ℕ) ScpiError) × ExpandsAt inside body args given
+  some_given true body args = (Err MacroRecursionError, refl)
+  some_given false body args = some.expansion body args
+
+  some_reply : (s : State) (request : Request) → Holds request → (reply : Reply) × Replies s request reply
+  some_reply s request holds = by (is_later s 1 request) refl (called s request) refl where
+    by : (late : Bool) → is_later s 1 request ≡ late → (body : Option (List ℕ)) → called s request ≡ body → (reply : Reply) × Replies s request reply
+    by true late body is = (Later, Early late)
+    by false due None is = (answer_meant s.flush (meant (here s 1) request.reading), ByMeaning due is refl)
+    by false due (Some body) is =
+        let given = some_given request.inside body (written holds.0) in
+        (answer_call given.0, ByMacro due body is (record { parameters = holds.0; holds = holds.1; given = given.0; gives = given.1; is = refl }))
+
+  some_unit : (r : Rest) (request : Request) → Holds request → (went : UnitOutcome) × HasOutcome r request went
+  some_unit r request holds = let first = some_reply r.state request holds in by first.0 first.1 where
+    by : (reply : Reply) → Replies r.state request reply → (went : UnitOutcome) × HasOutcome r request went
+    by Later late = let reply = some_reply (flushed r).state request holds in (after_reply (flushed r) request reply.0, (Later, late, (reply.0, reply.1, refl)))
+    by reply is = (after_reply r request reply, (reply, is, refl))
+
+  some_inside : (requests : List Request) (r : Rest) (answers : List (List ℕ)) → AllHold requests → (spoken : Spoken) × SpeaksInside r answers requests spoken
+  some_inside [] r answers hold = (record { rest = r; answers = answers }, refl)
+  some_inside (request ∷ requests) r answers (holds, hold) =
+      let went = some_unit r request holds in let spoken = some_inside requests went.0.rest (with_answer answers went.0.reply) hold in
+      (spoken.0, (went.0, went.1, spoken.1))
+
+  some_told : (reply : Reply) (r : Rest) (answers : List (List ℕ)) → (spoken : Spoken) × SpeaksReply r answers reply spoken
+  some_told (Expand bytes) r answers =
+      let requests = some_asked true bytes in let spoken = some_inside requests.0 r answers requests.1 in
+      (spoken.0, (requests.0, requests.2, spoken.1))
+  some_told reply r answers = (record { rest = r; answers = with_answer answers reply }, refl)
+
+  some_line : (requests : List Request) (r : Rest) (answers : List (List ℕ)) → AllHold requests → (spoken : Spoken) × Speaks r answers requests spoken
+  some_line [] r answers hold = (record { rest = r; answers = answers }, refl)
+  some_line (request ∷ requests) r answers (holds, hold) =
+      let went = some_unit r request holds in let reported = some_told went.0.reply went.0.rest answers in
+      let spoken = some_line requests reported.0.rest reported.0.answers hold in (spoken.0, (went.0, reported.0, went.1, reported.1, spoken.1))
+
+  -- ---- messages
+
+  some_outcome : (m : Message) (requests : List Request) (r : Rest) → AllHold requests → (outcome : MessageOutcome) × HasMessageOutcome r m requests outcome
+  some_outcome Message.Power requests r hold = (record { rest = restarted r; text = [] }, refl)
+  some_outcome m requests r hold = let all = some_line requests r [] hold in (record { rest = all.0.rest; text = response all.0.answers }, (all.0, all.1, refl))
+
+  pub some_script : (ms : List Message) (r : Rest) → (text : List ℕ) × Scripted r ms text
+  some_script [] r = ([], refl)
+  some_script (m ∷ ms) r =
+      let requests = some_asking m in let outcome = some_outcome m requests.0 r requests.1 in let rest = some_script ms outcome.0.rest in
+      (outcome.0.text ++ rest.0, (requests.0, outcome.0, rest.0, requests.2, outcome.1, rest.1, refl))
+
+-- no body has two expansions
+abbrev pub OneExpansion : Type 0
+OneExpansion = (body : List ℕ) (args : List (List ℕ)) (result other : Result (List ℕ) ScpiError) → ExpandsTo body args result → ExpandsTo body args other → result ≡ other
+
+-- ---- the data of calls
 
 one_tail : (list others : List Datum) (tail : List ℕ) → TailLists tail list → TailLists tail others → list ≡ others
 one_tail [] [] tail l k = refl
-one_tail [] (e ∷ more) tail l (rest, is, k) = absurd (cc (l, is))
-one_tail (d ∷ list) [] tail (rest, is, l) k = absurd (cc (k, is))
-one_tail (d ∷ list) (e ∷ more) tail (rest, is, l) (text, e', k) =
-    one_list (d ∷ list) (e ∷ more) rest l (subst (λ (z : List ℕ). Lists z (e ∷ more)) (behind text rest (sym e' ∙ is)) k)
-  where
-    behind : (xs ys : List ℕ) → 44 ∷ xs ≡ 44 ∷ ys → xs ≡ ys
-    behind xs ys h = cc (h)
+one_tail (d ∷ list) (e ∷ more) tail (rest, is, l) (text, is_too, k) = let same : text ≡ rest = cc in one_list (d ∷ list) (e ∷ more) rest l (subst (λ (z : List ℕ). Lists z (e ∷ more)) same k)
+one_tail list others tail l k = cc
 
 one_found : (found : Option Found) (list others : List Datum) → HoldsFound found list → HoldsFound found others → list ≡ others
-one_found None list others l k = l ∙ sym k
-one_found (Some found) list others (more, is, some, tail) (less, is_too, some_too, tail_too) =
-    is ∙ ap (λ (z : List Datum). datum_of found.datum ∷ z) (one_tail more less found.tail.now tail tail_too) ∙ sym is_too
+one_found found list others l k = grind (arith, one_tail)
+
+same_data : (given : Result Syntax ScpiError) (a b : Option MacroCall) → SyntaxCalls given a → SyntaxCalls given b → label_in a ≡ label_in b → (list others : List Datum) → HoldsParameters a list → HoldsParameters b others
+    → list ≡ others
+same_data given a b c d label list others l k = grind (arith, one_found)
 
 -- ---- requests that read alike
 
 -- Requests of one unit: the places of their texts may differ.
-pub record Same (a b : Request) : Type 0 where
-  pub reading : a.reading ≡ b.reading
-  pub place : a.inside ≡ b.inside
-  pub label : label_in a.call ≡ label_in b.call
-  pub parameters : (list others : List Datum) → HoldsParameters a.call list → HoldsParameters b.call others → list ≡ others
+record Same (a b : Request) : Type 0 where
+  reading : a.reading ≡ b.reading
+  place : a.inside ≡ b.inside
+  label : label_in a.call ≡ label_in b.call
+  parameters : (list others : List Datum) → HoldsParameters a.call list → HoldsParameters b.call others → list ≡ others
 
 -- lists of requests that are alike, one by one
-abbrev pub Alike : List Request → List Request → Type 0
-Alike [] others = others ≡ []
-Alike (a ∷ more) others = (b : Request) × (rest : List Request) × (others ≡ b ∷ rest) × Same a b × Alike more rest
-
-both_ways : (b : Bool) → b ≡ true → b ≡ false → ⊥
-both_ways true t f = cc
-both_ways false t f = cc
-
-same_label : (given : Result Syntax ScpiError) (a b : Option MacroCall) → SyntaxCalls given a → SyntaxCalls given b → label_in a ≡ label_in b
-same_label (Err e) a b c d = ap label_in c ∙ sym (ap label_in d)
-same_label (Ok syntax) None None c d = refl
-same_label (Ok syntax) None (Some y) c d = absurd (both_ways (is_label syntax.header) d.0 c)
-same_label (Ok syntax) (Some x) None c d = absurd (both_ways (is_label syntax.header) c.0 d)
-same_label (Ok syntax) (Some x) (Some y) c d = ap (λ (z : List ℕ). (let o : Option (List ℕ) = Some z in o)) (c.1 ∙ sym d.1)
-
-same_data : (given : Result Syntax ScpiError) (a b : Option MacroCall) → SyntaxCalls given a → SyntaxCalls given b → (list others : List Datum) → HoldsParameters a list → HoldsParameters b others
-    → list ≡ others
-same_data given None None c d list others l k = l ∙ sym k
-same_data (Err e) None (Some y) c d list others l k = cc
-same_data (Err e) (Some x) b c d list others l k = cc
-same_data (Ok syntax) None (Some y) c d list others l k = absurd (both_ways (is_label syntax.header) d.0 c)
-same_data (Ok syntax) (Some x) None c d list others l k = absurd (both_ways (is_label syntax.header) c.0 d)
-same_data (Ok syntax) (Some x) (Some y) c d list others l k =
-    one_found x.args.found list syntax.parameters l c.2 ∙ sym (one_found y.args.found others syntax.parameters k d.2)
-
-too_much_same : Same too_much too_much
-too_much_same = record { reading = refl; place = refl; label = refl; parameters = λ list others l k. l ∙ sym k }
-
--- ---- the requests of a message
-
--- the readings of a unit are unique
-pub record Ones : Type 0 where
-  pub units : OneUnits
-  pub reading : OneReading
-  pub move : OneMove
-  pub syntax : OneSyntax
+abbrev Alike : List Request → List Request → Type 0
+Alike [] [] = ⊤
+Alike (a ∷ more) (b ∷ rest) = Same a b × Alike more rest
+Alike requests others = ⊥
 
 one_requests : Ones → (inside : Bool) (units : List Part) (path : List (List ℕ)) (requests others : List Request) → AreRequests inside path units requests → AreRequests inside path units others
     → Alike requests others
-one_requests o inside [] path requests others a b = subst (λ (z : List Request). Alike z others) (sym a) b
+one_requests o inside [] path requests others a b = rw (a, b) tt
 one_requests o inside (part ∷ units) path requests others (r, more, next, here, asks, is) (s, rest, next_too, here_too, asks_too, is_too) =
-    let from : List (List ℕ) = path_at path part in
-    let same : r.reading ≡ s.reading = o.reading from part r.reading s.reading here.reading here_too.reading in
-    let there : next_too ≡ next = o.move from part s.reading next_too next here_too.moves (subst (λ (z : Result Command ScpiError). Moves from part z next) same here.moves) in
-    let calls : SyntaxCalls here.call.0 s.call
-    = subst (λ (z : Result Syntax ScpiError). SyntaxCalls z s.call) (o.syntax part here_too.call.0 here.call.0 here_too.call.1 here.call.1) here_too.call.2 in
-    subst (λ (z : List Request). Alike z others) (sym is) (
-      s,
-      rest,
-      is_too,
-      record {
-        reading = same;
-        place = here.place ∙ sym here_too.place;
-        label = same_label here.call.0 r.call s.call here.call.2 calls;
-        parameters = same_data here.call.0 r.call s.call here.call.2 calls;
-      },
-      one_requests o inside units next more rest asks (subst (λ (z : List (List ℕ)). AreRequests inside z units rest) there asks_too),
-    )
+    let one = one_next o here here_too in
+    let calls : SyntaxCalls here.call.0 s.call = rw (o.syntax part here.call.0 here_too.call.0 here.call.1 here_too.call.1) here_too.call.2 in
+    let calls_too = here.call.2 in let label : label_in r.call ≡ label_in s.call = grind arith in
+    let same : Same r s = record { reading = one.0; place = here.place ∙ sym here_too.place; label = label; parameters = same_data here.call.0 r.call s.call here.call.2 calls label } in
+    rw (is, is_too) (same, one_requests o inside units next more rest asks (rw (← one.1) asks_too))
 
-pub some_requests : SomeReading → (inside : Bool) (units : List Part) (path : List (List ℕ)) → (requests : List Request) × AreRequests inside path units requests
-some_requests some inside [] path = ([], refl)
-some_requests some inside (part ∷ units) path =
-    let here = some (path_at path part) part in
-    let move = some_move (path_at path part) part here.0 here.1 in
-    let call = some_call (path_at path part) part here.0 here.1 in
-    let rest = some_requests some inside units move.0 in
-    let request : Request = record { call = call.0; reading = here.0; inside = inside } in
-    (request ∷ rest.0, (request, rest.0, move.0, record { reading = here.1; moves = move.1; call = call.1; place = refl }, rest.1, refl))
+one_asked : Ones → (inside : Bool) (bytes : List ℕ) (requests others : List Request) → AreAsked inside bytes requests → AreAsked inside bytes others → Alike requests others
+one_asked o inside bytes requests others (units, is, asks) (list, is_too, asks_too) = one_requests o inside units [] requests others asks (rw (o.units bytes units list is is_too) asks_too)
 
-pub one_asked : Ones → (inside : Bool) (bytes : List ℕ) (requests others : List Request) → AreAsked inside bytes requests → AreAsked inside bytes others → Alike requests others
-one_asked o inside bytes requests others (units, is, asks) (list, is_too, asks_too) =
-    one_requests o inside units [] requests others asks
-    (subst (λ (z : List Part). AreRequests inside [] z others) (o.units bytes list units is_too is) asks_too)
-
-pub some_asked : SomeUnits → SomeReading → (inside : Bool) (bytes : List ℕ) → (requests : List Request) × AreAsked inside bytes requests
-some_asked cut some inside bytes =
-    let units = cut bytes in
-    let requests = some_requests some inside units.0 [] in
-    (requests.0, (units.0, units.1, requests.1))
-
-overlong_alike : (requests : List Request) → requests ≡ too_much ∷ [] → Alike (too_much ∷ []) requests
-overlong_alike requests is = (too_much, [], is, too_much_same, refl)
-
-pub one_asking : Ones → (m : Message) (requests others : List Request) → Asks m requests → Asks m others → Alike requests others
-one_asking o Message.Power requests others a b = subst (λ (z : List Request). Alike z others) (sym a) b
-one_asking o Message.Overlong requests others a b = subst (λ (z : List Request). Alike z others) (sym a) (overlong_alike others b)
+one_asking : Ones → (m : Message) (requests others : List Request) → Asks m requests → Asks m others → Alike requests others
+one_asking o Message.Power requests others a b = rw (a, b) tt
+one_asking o Message.Overlong requests others a b = rw (a, b) (record { reading = refl; place = refl; label = refl; parameters = λ list others l k. l ∙ sym k }, tt)
 one_asking o (Message.Units bytes) requests others a b = one_asked o false bytes requests others a b
 
-pub some_asking : SomeUnits → SomeReading → (m : Message) → (requests : List Request) × Asks m requests
-some_asking cut some Message.Power = ([], refl)
-some_asking cut some Message.Overlong = (too_much ∷ [], refl)
-some_asking cut some (Message.Units bytes) = some_asked cut some false bytes
+-- ---- replies
+
+called_same : {a b : Request} (s : State) → Same a b → called s a ≡ called s b
+called_same s same = grind arith
+
+later_same : {a b : Request} (s : State) → Same a b → is_later s 1 a ≡ is_later s 1 b
+later_same s same = grind arith
+
+-- the result of a unit depends only on its reading and its reply
+reply_alike : {a b : Request} (r : Rest) (reply : Reply) → Same a b → after_reply r a reply ≡ after_reply r b reply
+reply_alike r reply same = grind arith
+
+module _ (o : Ones) (one : OneExpansion) where
+  one_given : (inside : Bool) (body : List ℕ) (args : List (List ℕ)) (given other : Result (List ℕ) ScpiError) → ExpandsAt inside body args given → ExpandsAt inside body args other → given ≡ other
+  one_given true body args given other g h = g ∙ sym h
+  one_given false body args given other g h = one body args given other g h
+
+  one_call : {a b : Request} {body : List ℕ} {x y : Reply} → Same a b → Expands a body x → Expands b body y → x ≡ y
+  one_call {a} {b} {body} same p q =
+      let gives : ExpandsAt a.inside body (written p.parameters) q.given = rw (same.place, same.parameters p.parameters q.parameters p.holds q.holds) q.gives in
+      let given = one_given a.inside body (written p.parameters) p.given q.given p.gives gives in grind arith
+
+  one_reply : {s : State} {a b : Request} {x y : Reply} → Same a b → Replies s a x → Replies s b y → x ≡ y
+  one_reply same (Early p) (Early q) = refl
+  one_reply {s} same (Early p) (ByMacro q body g h) = cc (p, q, later_same s same)
+  one_reply {s} same (Early p) (ByMeaning q g h) = cc (p, q, later_same s same)
+  one_reply {s} same (ByMacro p body f e) (Early q) = cc (p, q, later_same s same)
+  one_reply {s} {a} {b} {x} {y} same (ByMacro p body f e) (ByMacro q other g h) =
+      let is : other ≡ body = cc (f, g, called_same s same) in one_call same e (subst (λ (z : List ℕ). Expands b z y) is h)
+  one_reply {s} same (ByMacro p body f e) (ByMeaning q g h) = cc (f, g, called_same s same)
+  one_reply {s} same (ByMeaning p f e) (Early q) = cc (p, q, later_same s same)
+  one_reply {s} same (ByMeaning p f e) (ByMacro q body g h) = cc (f, g, called_same s same)
+  one_reply same (ByMeaning p f e) (ByMeaning q g h) = let reading = same.reading in grind arith
+
+  -- ---- units
+
+  one_from : (r : Rest) (a b : Request) → Same a b → (reply : Reply) (x y : UnitOutcome) → HasOutcomeFrom r a reply x → HasOutcomeFrom r b reply y → x ≡ y
+  one_from r a b same Later x y (p, replies, is) (q, replies_too, is_too) = let reply = one_reply same replies replies_too in let then = reply_alike (flushed r) q same in grind arith
+  one_from r a b same reply x y is is_too = let then = reply_alike r reply same in grind arith
+
+  one_unit : (r : Rest) (a b : Request) → Same a b → (x y : UnitOutcome) → HasOutcome r a x → HasOutcome r b y → x ≡ y
+  one_unit r a b same x y (p, replies, goes) (q, replies_too, goes_too) = one_from r a b same p x y goes (rw (one_reply same replies replies_too) goes_too)
+
+  one_inside : (requests others : List Request) (r : Rest) (answers : List (List ℕ)) (x y : Spoken) → Alike requests others → SpeaksInside r answers requests x → SpeaksInside r answers others y → x ≡ y
+  one_inside [] [] r answers x y alike p q = p ∙ sym q
+  one_inside (a ∷ more) (b ∷ rest) r answers x y (same, alike) (went, goes, tells) (there, goes_too, tells_too) =
+      one_inside more rest went.rest (with_answer answers went.reply) x y alike tells (rw (one_unit r a b same went there goes goes_too) tells_too)
+  one_inside requests others r answers x y alike p q = absurd alike
+
+  one_told : (reply : Reply) (r : Rest) (answers : List (List ℕ)) (x y : Spoken) → SpeaksReply r answers reply x → SpeaksReply r answers reply y → x ≡ y
+  one_told (Expand bytes) r answers x y (requests, asks, tells) (others, asks_too, tells_too) =
+      one_inside requests others r answers x y (one_asked o true bytes requests others asks asks_too) tells tells_too
+  one_told reply r answers x y p q = p ∙ sym q
+
+  one_line : (requests others : List Request) (r : Rest) (answers : List (List ℕ)) (x y : Spoken) → Alike requests others → Speaks r answers requests x → Speaks r answers others y → x ≡ y
+  one_line [] [] r answers x y alike p q = p ∙ sym q
+  one_line (a ∷ more) (b ∷ rest) r answers x y (same, alike) (went, some, goes, reported, tells) (there, some_too, goes_too, reported_too, tells_too) =
+      let is : some ≡ some_too = one_told went.reply went.rest answers some some_too reported (rw (one_unit r a b same went there goes goes_too) reported_too) in
+      one_line more rest some.rest some.answers x y alike tells (rw is tells_too)
+  one_line requests others r answers x y alike p q = absurd alike
+
+  -- ---- messages
+
+  one_outcome : (m : Message) (requests others : List Request) (r : Rest) (x y : MessageOutcome) → Alike requests others → HasMessageOutcome r m requests x → HasMessageOutcome r m others y → x ≡ y
+  one_outcome Message.Power requests others r x y alike p q = p ∙ sym q
+  one_outcome m requests others r x y alike (all, tells, is) (every, tells_too, is_too) = let same = one_line requests others r [] all every alike tells tells_too in grind arith
+
+  pub one_script : (ms : List Message) (r : Rest) (text other : List ℕ) → Scripted r ms text → Scripted r ms other → text ≡ other
+  one_script [] r text other a b = a ∙ sym b
+  one_script (m ∷ ms) r text other (requests, outcome, more, asks, tells, script, is) (others, outcome_too, rest, asks_too, tells_too, script_too, is_too) =
+      let same : outcome ≡ outcome_too = one_outcome m requests others r outcome outcome_too (one_asking o m requests others asks asks_too) tells tells_too in
+      let then = one_script ms outcome.rest more rest script (rw same script_too) in grind arith

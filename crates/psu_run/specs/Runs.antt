@@ -1,50 +1,29 @@
--- What a run may write where memory may be refused, a disk call may fail, or the store may be worn.
-use Rattle.std.specs.Prelude.{◌≡◌, ◌⊎◌, ℕ, zero, suc, ◌≤◌, Bool, true, false, Some, List, [], ◌∷◌, ◌++◌, ⊤}
+-- The steps and the text of a run: of a unit, of a line, and of the lines of an input, one after another.
+use Rattle.std.specs.Prelude.{◌≡◌, ◌⊎◌, ℕ, zero, suc, Bool, true, false, Some, List, [], ◌∷◌, ◌++◌, ⊤}
 use Rattle.psu_items.specs.declared.commit.UnstartedCause.TheVariants.{Memory}
 use Rattle.psu_items.specs.declared.broken.BrokenCause.TheVariants as broken_cause
+use Rattle.psu_map.specs.Map.{Item}
 use Rattle.psu_tree.specs.declared.command.Request.{Request}
-use Rattle.psu_lex.specs.declared.scpi_error.ScpiError.TheVariants.{OutOfMemory, TooMuchData}
+use Rattle.psu_lex.specs.declared.scpi_error.ScpiError.TheVariants.{TooMuchData}
+use Rattle.psu_messages.specs.Answers.{text_sent}
 use Rattle.psu_messages.specs.Effects as effect
 use Rattle.psu_messages.specs.Effects.{Effect}
-use Rattle.psu_messages.specs.Executions.{Advances, IsNext, IsOver, Progress, beginning}
+use Rattle.psu_messages.specs.Executions.{IsNext, IsOver, Progress, Reaches}
 use Rattle.psu_messages.specs.Units.{Source, Fault, Text}
-use Rattle.psu_exec.specs.Device.{Reply, Error, Parked, Held, Later, is_broken}
-use Rattle.psu_exec.specs.Calls.{Entry, JobKind, Commit, Reopen, JobData, JobEnd, Stored, Unstarted, Failed, Reopened, Job, Nothing, Executed, Settled, Took, GaveBack}
+use Rattle.psu_exec.specs.Device.{Reply, Parked, Held, Later}
+use Rattle.psu_exec.specs.Calls.{JobKind, Commit, Reopen, JobData, JobEnd, Stored, Unstarted, Failed, Reopened, Job, Nothing, Executed, Settled, Took, GaveBack}
 use Rattle.psu_exec.specs.World.{World}
 use Rattle.psu_run.specs.Lines.{Message, messages}
-use Rattle.psu_run.specs.Causes.{IsWornOut}
-use Rattle.psu_run.specs.Lives.{CallsOnWorld, CallsAll, PowersOn, units_in}
+use Rattle.psu_run.specs.Steps.{PowersOn, RunStep, Called, Restarted, AreCalm, Begins, Walks}
 use Rattle.psu_run.specs.Script.{IsScript}
 
--- what may go wrong: memory refused inside a unit, a failed disk call, a store whose root number is the last
-pub record Mishaps : Type 0 where
-  pub refused : Bool
-  pub failed : Bool
-  pub worn : Bool
-
-abbrev pub none : Mishaps
-none = record { refused = false; failed = false; worn = false }
-
-abbrev pub any : Mishaps
-any = record { refused = true; failed = true; worn = true }
-
--- the error -225 is possible only where memory may be refused
-abbrev pub IsMeant : Mishaps → Reply → Type 0
-IsMeant can reply = reply ≡ Error OutOfMemory → can.refused ≡ true
+-- ---- jobs
 
 -- the job ended out of memory
 abbrev pub is_short : JobEnd → Bool
 is_short (Unstarted limit before edits Memory) = true
 is_short (Failed limit before edits broken_cause.Memory) = true
 is_short finished = false
-
--- A job ends this way only where that may go wrong: a commit is permanently refused only where the current root on the
--- disk has the last number. A job that ends out of memory ends the run.
-abbrev pub IsSound : Mishaps → List ℕ → JobEnd → Type 0
-IsSound can image (Stored limit map) = ⊤
-IsSound can image (Unstarted limit before edits cause) = (can.worn ≡ true) × IsWornOut image
-IsSound can image (Failed limit before edits cause) = can.failed ≡ true
-IsSound can image (Reopened limit map) = ⊤
 
 -- a job of this kind may end this way
 abbrev pub EndsJob : JobKind → JobEnd → Type 0
@@ -54,26 +33,28 @@ EndsJob Reopen (Stored limit map) = ⊥
 EndsJob Reopen (Unstarted limit before edits cause) = ⊥
 EndsJob Reopen finished = ⊤
 
--- one take, job and give-back
-pub record JobDone (can : Mishaps) (w new : World) : Type 0 where
+abbrev pub job_steps : JobData → JobEnd → List ℕ → List RunStep
+job_steps job finished over = Called (Took (Job job)) ∷ Called (GaveBack finished (Some over)) ∷ []
+
+-- one take, job and give-back; a job that ends out of memory ends the run
+pub record IsJob (steps : List RunStep) : Type 0 where
   pub job : JobData
-  pub taken : World
   pub finished : JobEnd
   pub over : List ℕ
-  pub take : CallsOnWorld w (Took (Job job)) taken
-  pub give : CallsOnWorld taken (GaveBack finished (Some over)) new
+  pub are : steps ≡ job_steps job finished over
   pub own : EndsJob job.kind finished
-  pub sound : IsSound can new.disk.bytes finished
   pub long : is_short finished ≡ false
 
--- that many jobs, one after another
-abbrev pub Jobs : ℕ → Mishaps → World → World → Type 0
-Jobs zero can w new = new ≡ w
-Jobs (suc n) can w new = (mid : World) × Jobs n can w mid × JobDone can mid new
+-- jobs until there is none, at most that many
+abbrev pub Jobs : ℕ → List RunStep → Type 0
+Jobs zero steps = steps ≡ []
+Jobs (suc n) steps = (steps ≡ Called (Took Nothing) ∷ [])
+    ⊎ ((job : List RunStep) × (more : List RunStep) × IsJob job × Jobs n more × (steps ≡ job ++ more))
 
--- jobs until there is none, at most 4
-abbrev pub Flushes : Mishaps → World → World → Type 0
-Flushes can w new = (n : ℕ) × Jobs n can w new × ((n ≡ 4) ⊎ ((n ≤ 4) × CallsOnWorld new (Took Nothing) new))
+abbrev pub IsFlush : List RunStep → Type 0
+IsFlush steps = Jobs 4 steps
+
+-- ---- a unit
 
 abbrev pub is_parked : Reply → Bool
 is_parked Parked = true
@@ -90,43 +71,57 @@ is_final Held = false
 is_final Later = false
 is_final reply = true
 
--- A unit that is answered at once, or once a flush has ended its wait.
-abbrev pub Acts : Mishaps → World → Request → Reply → World → Type 0
-Acts can w request reply new = (is_final reply ≡ true)
-    × ((IsMeant can reply × CallsOnWorld w (Executed 1 request reply) new)
-    ⊎ ((parked : World) × (over : World)
-    × CallsOnWorld w (Executed 1 request Parked) parked × Flushes can parked over × CallsOnWorld over (Settled 1 reply) new))
+-- a wait, which a flush ends
+abbrev pub IsWait : Reply → List RunStep → Type 0
+IsWait reply steps = (flush : List RunStep) × IsFlush flush × (steps ≡ flush ++ Called (Settled 1 reply) ∷ [])
+
+-- a unit that is answered at once, or after its wait
+abbrev pub Acts : Request → Reply → List RunStep → Type 0
+Acts request reply steps = (is_final reply ≡ true)
+    × ((steps ≡ Called (Executed 1 request reply) ∷ [])
+    ⊎ ((wait : List RunStep) × IsWait reply wait × (steps ≡ Called (Executed 1 request Parked) ∷ wait)))
+
+-- a unit that was tried once, and may be `Later`
+abbrev pub IsTried : Request → Reply → List RunStep → Type 0
+IsTried request reply steps = ((reply ≡ Later) × (steps ≡ Called (Executed 1 request Later) ∷ [])) ⊎ Acts request reply steps
 
 -- a unit; where its reply is `Later`, it is executed again after a flush
-abbrev pub UnitRuns : Mishaps → World → Request → Reply → World → Type 0
-UnitRuns can w request reply new =
-    Acts can w request reply new
-    ⊎ ((late : World) × (over : World) × CallsOnWorld w (Executed 1 request Later) late × Flushes can late over × Acts can over request reply new)
+abbrev pub IsUnit : Request → Reply → List RunStep → Type 0
+IsUnit request reply steps = Acts request reply steps
+    ⊎ ((flush : List RunStep) × (again : List RunStep) × IsFlush flush × Acts request reply again × (steps ≡ Called (Executed 1 request Later) ∷ (flush ++ again)))
 
 -- ---- a line, in the words of psu_messages
 
--- the device, and the text that a line has output
-pub record LineState : Type 0 where
-  pub world : World
-  pub text : List ℕ
+-- the steps of effects; a unit is executed with the flushes that it waits for, so no unit is settled
+abbrev pub Makes : List Effect → List RunStep → Type 0
+Makes [] steps = steps ≡ []
+Makes (effect.Executed request reply ∷ effects) steps = (unit : List RunStep) × (more : List RunStep) × IsUnit request reply unit × Makes effects more × (steps ≡ unit ++ more)
+Makes (effect.Settled reply ∷ effects) steps = ⊥
+Makes (effect.Sent text last ∷ effects) steps = Makes effects steps
 
-abbrev pub at_line : World → LineState
-at_line w = record { world = w; text = [] }
+-- an execution of all of a line sends this text
+pub record LineRuns (source : Source) (text : List ℕ) (steps : List RunStep) : Type 0 where
+  pub effects : List Effect
+  pub end : Progress
+  pub reaches : Reaches source effects end
+  pub over : IsOver source end
+  pub makes : Makes effects steps
+  pub sent : text ≡ text_sent effects
 
--- What an effect does. A unit is executed with the flushes that it waits for, so no unit is settled.
-abbrev pub Does : Mishaps → LineState → Effect → LineState → Type 0
-Does can x (effect.Executed request reply) y = UnitRuns can x.world request reply y.world × (y.text ≡ x.text)
-Does can x (effect.Settled reply) y = ⊥
-Does can x (effect.Sent text last) y = (y.world ≡ x.world) × (y.text ≡ x.text ++ text)
+-- An execution of some of a line has sent the beginning of this text and not yet the rest, and of the next unit all may
+-- be executed but its answer.
+pub record LineBegins (source : Source) (text : List ℕ) (steps : List RunStep) : Type 0 where
+  pub effects : List Effect
+  pub at : Progress
+  pub reaches : Reaches source effects at
+  pub made : List RunStep
+  pub makes : Makes effects made
+  pub sent : text ≡ text_sent effects ++ at.text.rest
+  pub next : List RunStep
+  pub begun : (next ≡ []) ⊎ ((request : Request) × IsNext source at request × Begins (request ∷ []) next)
+  pub all : steps ≡ made ++ next
 
--- an execution of all of a line has output this text
-abbrev pub LineRuns : Mishaps → World → Source → List ℕ → World → Type 0
-LineRuns can w source text new = (c : Progress) × Advances (Does can) source (at_line w) beginning (record { world = new; text = text }) c × IsOver source c
-
--- a broken store is reopened, and any other is left unchanged
-abbrev pub Reopens : Mishaps → World → World → Type 0
-Reopens can w new = ((is_broken w.state.flush.store ≡ false) × (new ≡ w))
-    ⊎ ((is_broken w.state.flush.store ≡ true) × JobDone can w new × (is_broken new.state.flush.store ≡ false))
+-- ---- the messages of an input
 
 -- P of what is executed of a message: of its bytes, or of the error that they are too many
 abbrev pub LineOf : (Source → Type 0) → Message → Type 0
@@ -134,38 +129,40 @@ LineOf P Message.Power = ⊥
 LineOf P Message.Overlong = P (Fault TooMuchData)
 LineOf P (Message.Units bytes) = P (Text bytes)
 
--- a message with its text; after a power loss at rest the disk has the bytes that a read returns
-abbrev pub MessageRuns : Mishaps → World → Message → List ℕ → World → Type 0
-MessageRuns can w Message.Power text new = (text ≡ []) × (over : World) × Reopens can w over × PowersOn over.disk.bytes new
-MessageRuns can w m text new = LineOf (λ source. LineRuns can w source text new) m
+-- a broken store is reopened before a power loss
+abbrev pub Reopens : List RunStep → Type 0
+Reopens steps = (steps ≡ [])
+    ⊎ ((job : JobData) × (limit : ℕ) × (map : List Item) × (over : List ℕ) × (job.kind ≡ Reopen) × (steps ≡ job_steps job (Reopened limit map) over))
 
--- the messages of an input with their text
-abbrev pub Runs : Mishaps → World → List Message → List ℕ → World → Type 0
-Runs can w [] text new = (new ≡ w) × (text ≡ [])
-Runs can w (m ∷ ms) text new =
-    (first : List ℕ) × (more : List ℕ) × (mid : World) × MessageRuns can w m first mid × Runs can mid ms more new × (text ≡ first ++ more)
+abbrev pub MessageRuns : Message → List ℕ → List RunStep → Type 0
+MessageRuns Message.Power text steps = (text ≡ []) × (reopening : List RunStep) × Reopens reopening × (steps ≡ reopening ++ Restarted ∷ [])
+MessageRuns m text steps = LineOf (λ source. LineRuns source text steps) m
 
--- ---- what has begun
-
--- a prefix of these requests was executed, and other calls were made
-abbrev pub Begins : World → List Request → World → Type 0
-Begins w requests new = (entries : List Entry) × CallsAll w entries new × (more : List Request) × (requests ≡ units_in entries ++ more)
-
--- A line that has begun: an execution of some of it has output the beginning of this text and not sent the rest, and of
--- the next unit all may be executed but its answer.
-abbrev pub LineBegins : Mishaps → World → Source → List ℕ → World → Type 0
-LineBegins can w source text new = (c : Progress) × (mid : LineState) × Advances (Does can) source (at_line w) beginning mid c × (text ≡ mid.text ++ c.text.rest)
-    × ((new ≡ mid.world) ⊎ ((request : Request) × IsNext source c request × Begins mid.world (request ∷ []) new))
-
--- a message that has begun, with its output so far
-abbrev pub MessageBegins : Mishaps → World → Message → List ℕ → World → Type 0
-MessageBegins can w m text new = LineOf (λ source. LineBegins can w source text new) m
+-- messages, one after another
+abbrev pub Runs : List Message → List ℕ → List RunStep → Type 0
+Runs [] text steps = (text ≡ []) × (steps ≡ [])
+Runs (m ∷ ms) text steps =
+    (first : List ℕ) × (more : List ℕ) × (made : List RunStep) × (then : List RunStep) × MessageRuns m first made × Runs ms more then × (text ≡ first ++ more) × (steps ≡ made ++ then)
 
 -- the first of these messages has begun, or none: then no unit was executed
-abbrev pub NextBegins : Mishaps → World → List Message → List ℕ → World → Type 0
-NextBegins can w [] text new = Begins w [] new × (text ≡ [])
-NextBegins can w (m ∷ ms) text new = (Begins w [] new × (text ≡ [])) ⊎ MessageBegins can w m text new
+abbrev pub NextBegins : List Message → List ℕ → List RunStep → Type 0
+NextBegins [] text steps = Begins [] steps × (text ≡ [])
+NextBegins (m ∷ ms) text steps = (Begins [] steps × (text ≡ [])) ⊎ LineOf (λ source. LineBegins source text steps) m
+
+-- The messages before `rest` are executed, and the first of `rest` has begun, or none.
+pub record RunsUpTo (rest due : List Message) (text : List ℕ) (steps : List RunStep) : Type 0 where
+  pub done : List Message
+  pub is : due ≡ done ++ rest
+  pub said : List ℕ
+  pub made : List RunStep
+  pub runs : Runs done said made
+  pub part : List ℕ
+  pub next : List RunStep
+  pub begun : NextBegins rest part next
+  pub sent : text ≡ said ++ part
+  pub all : steps ≡ made ++ next
 
 -- where nothing goes wrong, what may be written is the script
 abbrev pub ScriptAlone : Type 0
-ScriptAlone = (image input text : List ℕ) (first last : World) → PowersOn image first → Runs none first (messages input) text last → IsScript first.start first.limit input text
+ScriptAlone = (image input text : List ℕ) (steps : List RunStep) (first last : World)
+    → PowersOn image first → Runs (messages input) text steps → Walks first steps last → AreCalm steps → IsScript first.start first.limit input text

@@ -1,9 +1,11 @@
 //! The execution of one unit, with the flushes that it waits for.
-ghost use Rattle.std.specs.Prelude.{◌≡◌, ◌∷◌, [], IfOk, IfErr, true, false};
-ghost use Rattle.psu_exec.specs.Device.{is_open, wait_of};
+ghost use Rattle.std.specs.Prelude.{◌≡◌, ◌≢◌, ◌<◌, ◌∷◌, [], IfOk, IfErr, true, false};
+ghost use Rattle.psu_exec.specs.Device.{is_open, is_whole, wait_of};
 ghost use Rattle.psu_exec.specs.Shown.{outcome_of};
-ghost use Rattle.psu_run.specs.Progress.{Acted, DeviceContinues, DeviceStops, WaitEnds};
-ghost use Rattle.psu_run.specs.Runs.{is_final, is_later, is_parked, UnitRuns};
+ghost use Rattle.psu_run.specs.Jobs.{IsWornAtLast};
+ghost use Rattle.psu_run.specs.Progress.{Leads, DeviceStops};
+ghost use Rattle.psu_run.specs.Runs.{is_final, is_later, is_parked, IsTried, IsUnit, IsWait};
+ghost use Rattle.psu_run.specs.Steps.{Begins};
 
 use crate::RunCause;
 use crate::jobs::flush;
@@ -38,10 +40,12 @@ fn wait<D: Disk, A: Allocator + Copy>(
     requires first { session ≡ 1 }
     requires idle { exec.old.device.flush.out ≡ false }
     requires open { is_open exec.old.device 1 ≡ true }
-    ensures ends { IfOk result (λ o. DeviceContinues exec.old exec.new (WaitEnds (outcome_of o))) }
+    ensures ends { IfOk result (λ o. Leads exec.old exec.new (IsWait (outcome_of o))) }
     ensures ended { IfOk result (λ o. is_final (outcome_of o) ≡ true) }
     ensures free { wait_of exec.new.device.flush 1 ≡ None }
-    ensures device_stops { IfErr result (DeviceStops exec.old exec.new []) }
+    ensures stops { IfErr result (DeviceStops exec.old exec.new (Begins [])) }
+    ensures other { IfErr result (λ cause. cause ≢ RunCause.Write) }
+    ensures worn { IsWornAtLast exec.old → IsWornAtLast exec.new }
     ensures idle { exec.new.device.flush.out ≡ false }
     ensures open { is_open exec.new.device 1 ≡ true }
     ensures locked { exec.new.device.volatile.locks ≡ exec.old.device.volatile.locks }
@@ -67,9 +71,11 @@ pub(crate) fn act<D: Disk, A: Allocator + Copy>(
     powered: &mut PoweredDevice<D, A>,
     request: &Request<'_>,
 ) -> Result<Outcome<A>, RunCause>
-    ensures acted { IfOk result (λ o. DeviceContinues powered.old.exec powered.new.exec (Acted request.now (outcome_of o))) }
+    ensures tried { IfOk result (λ o. Leads powered.old.exec powered.new.exec (IsTried request.now (outcome_of o))) }
     ensures ended { IfOk result (λ o. is_later (outcome_of o) ≡ false → is_final (outcome_of o) ≡ true) }
-    ensures device_stops { IfErr result (DeviceStops powered.old.exec powered.new.exec (request.now ∷ [])) }
+    ensures room { IfOk result (λ o. is_later (outcome_of o) ≡ true → (is_whole powered.old.exec.device.flush.store ≡ true) × (0 < powered.old.exec.device.flush.unflushed)) }
+    ensures stops { IfErr result (DeviceStops powered.old.exec powered.new.exec (Begins (request.now ∷ []))) }
+    ensures other { IfErr result (λ cause. cause ≢ RunCause.Write) }
 {
     let outcome = powered.exec.execute(powered.session, request);
     if !is_parked(&outcome) {
@@ -85,9 +91,10 @@ pub(crate) fn unit<D: Disk, A: Allocator + Copy>(
     powered: &mut PoweredDevice<D, A>,
     request: &Request<'_>,
 ) -> Result<Outcome<A>, RunCause>
-    ensures runs { IfOk result (λ o. DeviceContinues powered.old.exec powered.new.exec (λ can w v. UnitRuns can w request.now (outcome_of o) v)) }
+    ensures runs { IfOk result (λ o. Leads powered.old.exec powered.new.exec (IsUnit request.now (outcome_of o))) }
     ensures ended { IfOk result (λ o. is_final (outcome_of o) ≡ true) }
-    ensures device_stops { IfErr result (DeviceStops powered.old.exec powered.new.exec (request.now ∷ [])) }
+    ensures stops { IfErr result (DeviceStops powered.old.exec powered.new.exec (Begins (request.now ∷ []))) }
+    ensures other { IfErr result (λ cause. cause ≢ RunCause.Write) }
 {
     let outcome = act(powered, request)?;
     if !is_later(&outcome) {

@@ -4,9 +4,8 @@ ghost use Rattle.psu_messages.specs.ResponseBuffer.{nothing};
 ghost use Rattle.psu_messages.specs.Executions.{Advances, IsOver, StopsAt};
 ghost use Rattle.psu_messages.specs.Relations.{IsAwaited};
 ghost use Rattle.psu_messages.specs.Shown.{progress_of};
-ghost use Rattle.psu_run.specs.Effects.{IsDone, IsFailed, IsStopped, line_source};
+ghost use Rattle.psu_run.specs.Progress.{IsDone, IsFailed, IsStopped, line_source, Leads, DeviceStops};
 ghost use Rattle.psu_run.specs.Output.{Says, SaysUntil, held, output_state};
-ghost use Rattle.psu_run.specs.Progress.{Breaks, DeviceContinues};
 ghost use Rattle.psu_run.specs.Runs.{LineBegins, LineRuns};
 
 use crate::RunCause;
@@ -98,10 +97,10 @@ impl<'p, 'w, W: Write, D: Disk, A: Allocator + Copy> Console<'p, 'w, W, D, A> {
     pub fn follow(&mut self, alloc: A, lines: &Lines<A>) -> Result<(), RunCause>
         requires fresh { self.old.run_state.now.unwritten.gathered ≡ nothing }
         ensures runs { OnOk result ((text : List ℕ)
-            × DeviceContinues self.old.run_state.now.powered.exec self.new.run_state.now.powered.exec (λ can w v. LineRuns can w (line_source lines.now.is_too_long lines.now.line.items) text v)
+            × Leads self.old.run_state.now.powered.exec self.new.run_state.now.powered.exec (LineRuns (line_source lines.now.is_too_long lines.now.line.items) text)
             × Says (held (W.contents self.old.writer.now) self.old.run_state.now.unwritten.output.items) (held (W.contents self.new.writer.now) self.new.run_state.now.unwritten.output.items) text) }
         ensures breaks { IfErr result (λ cause. (part : List ℕ)
-            × Breaks self.old.run_state.now.powered.exec self.new.run_state.now.powered.exec (λ can w v. LineBegins can w (line_source lines.now.is_too_long lines.now.line.items) part v) cause
+            × DeviceStops self.old.run_state.now.powered.exec self.new.run_state.now.powered.exec (LineBegins (line_source lines.now.is_too_long lines.now.line.items) part) cause
             × SaysUntil cause (held (W.contents self.old.writer.now) self.old.run_state.now.unwritten.output.items)
             (output_state (W.contents self.new.writer.now) self.new.run_state.now.unwritten) part) }
         ensures run_state { self.new.run_state.ghost_name ≡ self.old.run_state.ghost_name }

@@ -3,10 +3,10 @@ ghost use Rattle.std.specs.Prelude.{◌≡◌, ◌⊎◌, ◌↔◌, ◌+◌, �
 ghost use Rattle.psu_disk.specs.Disk.{LeavesOnly};
 ghost use Rattle.psu_run.specs.Input.{IsReadToEnd, ReadsNoFurther};
 ghost use Rattle.psu_run.specs.Lines.{Message, Brings, coming};
-ghost use Rattle.psu_run.specs.Moments.{IsOfRun};
-ghost use Rattle.psu_run.specs.Progress.{Answered, Answers, EndsEarly, RanAll};
-ghost use Rattle.psu_run.specs.Reasons.{EndsFor, GivenByInput, never};
-ghost use Rattle.psu_run.specs.Results.{disk_of, DoesNotStart, WritesRun, WritesFirst};
+ghost use Rattle.psu_run.specs.Results.{IsOfRun, disk_of, DoesNotStart, WritesRun, WritesFirst};
+ghost use Rattle.psu_run.specs.Output.{held};
+ghost use Rattle.psu_run.specs.Progress.{Answers, EndsEarly, Fed, RanAll, Stopped};
+ghost use Rattle.psu_run.specs.Reasons.{EndsFor, GivenByInput, IsByFailure, never};
 
 use crate::intake::Intake;
 use crate::jobs::flush;
@@ -37,10 +37,10 @@ pub(crate) fn answer<W: Write, D: Disk, A: Allocator + Copy>(
     piece: &[u8],
     writer: &mut W,
 ) -> Result<PoweredDevice<D, A>, RunFault<D>>
-    ensures whole { IfOk result (λ p. Answered (coming lines.old.is_too_long lines.old.line.items) piece.now
-        (coming lines.new.is_too_long lines.new.line.items) powered.exec p.exec (W.contents writer.old) (W.contents writer.new)) }
-    ensures early { IfErr result (λ f. (input : List ℕ) →
-        EndsEarly never powered.exec f (coming lines.old.is_too_long lines.old.line.items (piece.now ++ input)) (W.contents writer.old) (W.contents writer.new)) }
+    ensures whole { IfOk result (λ p. Fed (coming lines.old.is_too_long lines.old.line.items) piece.now
+        (coming lines.new.is_too_long lines.new.line.items) powered.exec p.exec (held (W.contents writer.old) []) (held (W.contents writer.new) [])) }
+    ensures early { IfErr result (λ f. Stopped never (coming lines.old.is_too_long lines.old.line.items) piece.now
+        powered.exec f (held (W.contents writer.old) []) (held (W.contents writer.new) [])) }
 {
     let run_state = RunState::new(alloc, powered);
     match feed(alloc, run_state, lines, piece, writer) {
@@ -63,7 +63,7 @@ pub(crate) fn answer<W: Write, D: Disk, A: Allocator + Copy>(
             ) else {
                 return Err(RunFault {
                     cause: RunCause::Write,
-                    disk: stopped.disk,
+                    ..stopped
                 });
             };
             Err(stopped)
@@ -79,9 +79,9 @@ pub(crate) fn last_line<W: Write, D: Disk, A: Allocator + Copy>(
     writer: &mut W,
 ) -> Result<PoweredDevice<D, A>, RunFault<D>>
     ensures whole { IfOk result (λ p. Answers (coming lines.old.is_too_long lines.old.line.items []) powered.exec
-        p.exec (W.contents writer.old) (W.contents writer.new)) }
+        p.exec (held (W.contents writer.old) []) (held (W.contents writer.new) [])) }
     ensures early { IfErr result (λ f. EndsEarly never powered.exec f (coming lines.old.is_too_long lines.old.line.items [])
-        (W.contents writer.old) (W.contents writer.new)) }
+        (held (W.contents writer.old) []) (held (W.contents writer.new) [])) }
 {
     if lines.is_empty() {
         return Ok(powered);
@@ -98,9 +98,9 @@ pub(crate) fn finish<W: Write, D: Disk, A: Allocator + Copy>(
     writer: &mut W,
 ) -> Result<D, RunFault<D>>
     ensures whole { IfOk result (λ d. RanAll powered.exec (coming lines.old.is_too_long lines.old.line.items []) d
-        (W.contents writer.old) (W.contents writer.new)) }
+        (held (W.contents writer.old) []) (held (W.contents writer.new) [])) }
     ensures early { IfErr result (λ f. EndsEarly never powered.exec f (coming lines.old.is_too_long lines.old.line.items [])
-        (W.contents writer.old) (W.contents writer.new)) }
+        (held (W.contents writer.old) []) (held (W.contents writer.new) [])) }
 {
     let mut powered = last_line(alloc, powered, lines, writer)?;
     match flush(&mut powered.exec) {
@@ -113,8 +113,8 @@ pub(crate) fn finish<W: Write, D: Disk, A: Allocator + Copy>(
     Ok(powered.into_disk())
 }
 
-/// Executes the lines of the reader on a device, and writes their responses.
-pub(crate) fn execute_all<R: Source, W: Write, D: Disk, A: Allocator + Copy>(
+// Executes the lines of the reader, which is read piece by piece.
+fn execute_pieces<R: Source, W: Write, D: Disk, A: Allocator + Copy>(
     alloc: A,
     powered: PoweredDevice<D, A>,
     piece: &mut [u8],
@@ -123,10 +123,10 @@ pub(crate) fn execute_all<R: Source, W: Write, D: Disk, A: Allocator + Copy>(
 ) -> Result<D, RunFault<D>>
     requires room { 0 < length piece.old }
     ensures whole { IfOk result (λ d. (due : List Message) × Brings (R.remaining reader.old) due
-        × RanAll powered.exec due d (W.contents writer.old) (W.contents writer.new)) }
+        × RanAll powered.exec due d (held (W.contents writer.old) []) (held (W.contents writer.new) [])) }
     ensures early { IfErr result (λ f. (due : List Message) × Brings (R.remaining reader.old) due
         × EndsEarly (GivenByInput (R.remaining reader.old) (R.remaining reader.new) (R.reads reader.old) (R.reads reader.new))
-        powered.exec f due (W.contents writer.old) (W.contents writer.new)) }
+        powered.exec f due (held (W.contents writer.old) []) (held (W.contents writer.new) [])) }
     ensures short { OnOk result (IfSome (R.remaining reader.old) (λ input. length input ≤ 16777216)) }
     ensures ends { OnOk result (IsReadToEnd (R.remaining reader.old) (R.remaining reader.new) (R.reads reader.old) (R.reads reader.new)) }
     ensures reads { ReadsNoFurther (length piece.old) (R.remaining reader.old) (R.remaining reader.new) (R.reads reader.old) (R.reads reader.new) }
@@ -152,6 +152,29 @@ pub(crate) fn execute_all<R: Source, W: Write, D: Disk, A: Allocator + Copy>(
         powered = answer(alloc, powered, &mut lines, &piece[..count], writer)?;
     }
     Err(powered.fault(RunCause::TooLong))
+}
+
+/// Executes the lines of the reader on a device, and writes their responses.
+pub(crate) fn execute_all<R: Source, W: Write, D: Disk, A: Allocator + Copy>(
+    alloc: A,
+    powered: PoweredDevice<D, A>,
+    reader: &mut R,
+    writer: &mut W,
+) -> Result<D, RunFault<D>>
+    ensures whole { IfOk result (λ d. (due : List Message) × Brings (R.remaining reader.old) due
+        × RanAll powered.exec due d (held (W.contents writer.old) []) (held (W.contents writer.new) [])) }
+    ensures early { IfErr result (λ f. (due : List Message) × Brings (R.remaining reader.old) due
+        × EndsEarly (GivenByInput (R.remaining reader.old) (R.remaining reader.new) (R.reads reader.old) (R.reads reader.new))
+        powered.exec f due (held (W.contents writer.old) []) (held (W.contents writer.new) [])) }
+    ensures short { OnOk result (IfSome (R.remaining reader.old) (λ input. length input ≤ 16777216)) }
+    ensures ends { OnOk result (IsReadToEnd (R.remaining reader.old) (R.remaining reader.new) (R.reads reader.old) (R.reads reader.new)) }
+    ensures reads { ReadsNoFurther 65536 (R.remaining reader.old) (R.remaining reader.new) (R.reads reader.old) (R.reads reader.new) }
+{
+    let Ok(mut piece) = vec![in alloc; 0u8; READ_SIZE] else {
+        return Err(powered.fault(RunCause::Memory));
+    };
+    let disk = execute_pieces(alloc, powered, &mut piece, reader, writer)?;
+    Ok(disk)
 }
 
 /// Executes the lines of the reader on the disk's image, and writes their responses.
@@ -187,6 +210,10 @@ pub fn run<R: Source, W: Write, D: Disk, A: Allocator + Copy>(
         ⊎ WritesFirst (GivenByInput (R.remaining reader.old) (R.remaining reader.new) (R.reads reader.old) (R.reads reader.new))
         f.cause (D.state disk).bytes (R.remaining reader.old) (D.failures disk) (D.failures f.disk) (W.contents writer.old) (W.contents writer.new) (D.state f.disk)) }
 
+    // On every disk, honest or not: it ends by a fault of the device, also in a restart, only where a disk call failed,
+    // unless the fault says that the store is worn; on an honest disk the root's number shows that.
+    ensures failed { IfErr result (IsByFailure D.Disk (D.failures disk)) }
+
     // It ends early only where it has to: at its start, because of what the image is; after that, because of a failure
     // or because the input is too long.
     ensures cause { D.honest → IfErr result (λ f. EndsFor (D.state disk).bytes (D.failures disk) (D.failures f.disk) (D.state f.disk).bytes
@@ -197,9 +224,6 @@ pub fn run<R: Source, W: Write, D: Disk, A: Allocator + Copy>(
         Ok(powered) => powered,
         Err(fault) => return Err(fault),
     };
-    let Ok(mut piece) = vec![in alloc; 0u8; READ_SIZE] else {
-        return Err(powered.fault(RunCause::Memory));
-    };
-    let disk = execute_all(alloc, powered, &mut piece, reader, writer)?;
+    let disk = execute_all(alloc, powered, reader, writer)?;
     Ok(disk)
 }

@@ -1,14 +1,14 @@
 //! The flush: jobs are run until there is none.
-ghost use Rattle.std.specs.Prelude.{◌≡◌, ◌⊎◌, [], OnOk, IfErr, true, false, None};
+ghost use Rattle.std.specs.Prelude.{◌≡◌, ◌≢◌, ◌⊎◌, ℕ, [], OnOk, IfOk, IfErr, true, false, None};
 ghost use Rattle.psu_disk.specs.Disk.{HasFailed};
-ghost use Rattle.psu_exec.specs.Calls.{job_of};
+ghost use Rattle.psu_exec.specs.Calls.{HasNone, HasWork, job_of};
 ghost use Rattle.psu_exec.specs.Device.{is_broken, is_open, wait_of};
 ghost use Rattle.psu_exec.specs.Jobs.{finished_of, job_data};
 ghost use Rattle.psu_exec.specs.declared.condition.Condition.TheVariants.{Worn};
-ghost use Rattle.psu_run.specs.Failures.{failures_of};
-ghost use Rattle.psu_run.specs.Jobs.{HasRun};
-ghost use Rattle.psu_run.specs.Progress.{DeviceContinues, DeviceStops};
-ghost use Rattle.psu_run.specs.Runs.{Flushes, Reopens, is_short};
+ghost use Rattle.psu_run.specs.Steps.{failures_of, Begins};
+ghost use Rattle.psu_run.specs.Jobs.{HasRun, IsWork, IsWornAtLast, LeavesStore};
+ghost use Rattle.psu_run.specs.Progress.{Leads, DeviceStops, IsTied};
+ghost use Rattle.psu_run.specs.Runs.{IsFlush, Reopens, is_short};
 
 use crate::RunCause;
 use psu_disk::Disk;
@@ -17,6 +17,14 @@ use psu_items::{BrokenCause, UnstartedCause};
 use std::alloc::Allocator;
 
 const JOBS_MOST: u32 = 4;
+
+/// What there was to do.
+#[derive(Clone, Copy, Debug, PartialEq, Eq)]
+pub(crate) enum Work {
+    /// A job, which was run.
+    Job,
+    Nothing,
+}
 
 // Whether a job ended out of memory.
 fn is_short<D: Disk, A: Allocator + Copy>(end: &End<D, A>) -> bool
@@ -50,31 +58,55 @@ fn run_job<D: Disk, A: Allocator + Copy>(exec: &mut Exec<D, A>, job: Job<D, A>) 
     }
 }
 
-/// Takes, runs and gives back jobs until there is nothing to take, at most 4 jobs. A job that ends out of memory ends
-/// the run.
-pub(crate) fn flush<D: Disk, A: Allocator + Copy>(exec: &mut Exec<D, A>) -> Result<(), RunCause>
+// Takes a job, runs it and gives it back, if there is one. A job that ends out of memory ends the run.
+fn run_next<D: Disk, A: Allocator + Copy>(exec: &mut Exec<D, A>) -> Result<Work, RunCause>
     requires idle { exec.old.device.flush.out ≡ false }
-    ensures flushes { OnOk result (DeviceContinues exec.old exec.new Flushes) }
-    ensures device_stops { IfErr result (DeviceStops exec.old exec.new []) }
+    ensures steps { IfOk result (λ work. Leads exec.old exec.new (IsWork work)) }
+    ensures stops { IfErr result (DeviceStops exec.old exec.new (Begins [])) }
+    ensures memory { IfErr result (λ cause. cause ≡ RunCause.Memory) }
     ensures idle { exec.new.device.flush.out ≡ false }
     ensures open { is_open exec.new.device 1 ≡ is_open exec.old.device 1 }
     ensures locked { exec.new.device.volatile.locks ≡ exec.old.device.volatile.locks }
     ensures free { wait_of exec.old.device.flush 1 ≡ None → wait_of exec.new.device.flush 1 ≡ None }
+    ensures worn { IsWornAtLast exec.old → IsWornAtLast exec.new }
+    ensures some { IfOk result (λ work. work ≡ Work.Job → HasWork exec.old.device.flush) }
+    ensures left { IfOk result (λ work. work ≡ Work.Job → (before : ℕ) → IsTied before exec.old
+        → LeavesStore before (failures_of exec.new) exec.old.device.flush exec.new.device.flush) }
+    ensures none { IfOk result (λ work. work ≡ Work.Nothing → (exec.new.device ≡ exec.old.device) × HasNone exec.old.device.flush) }
+{
+    match exec.take() {
+        Ok(job) => {
+            if run_job(exec, job) {
+                return Err(RunCause::Memory);
+            }
+            Ok(Work::Job)
+        }
+        Err(NoJob::Nothing) => Ok(Work::Nothing),
+        Err(NoJob::Memory) => Err(RunCause::Memory),
+        Err(NoJob::Out) => unreachable!(),
+    }
+}
+
+/// Takes, runs and gives back jobs until there is nothing to take, at most 4 jobs.
+pub(crate) fn flush<D: Disk, A: Allocator + Copy>(exec: &mut Exec<D, A>) -> Result<(), RunCause>
+    requires idle { exec.old.device.flush.out ≡ false }
+    ensures flushes { OnOk result (Leads exec.old exec.new IsFlush) }
+    ensures stops { IfErr result (DeviceStops exec.old exec.new (Begins [])) }
+    ensures other { IfErr result (λ cause. cause ≢ RunCause.Write) }
+    ensures idle { exec.new.device.flush.out ≡ false }
+    ensures open { is_open exec.new.device 1 ≡ is_open exec.old.device 1 }
+    ensures locked { exec.new.device.volatile.locks ≡ exec.old.device.volatile.locks }
+    ensures free { wait_of exec.old.device.flush 1 ≡ None → wait_of exec.new.device.flush 1 ≡ None }
+    ensures worn { IsWornAtLast exec.old → IsWornAtLast exec.new }
 
     // Changes are left unflushed only where a disk call failed or the store is worn.
-    ensures clean { D.honest → OnOk result (HasFailed (failures_of exec.old) (failures_of exec.new)
+    ensures clean { OnOk result ((before : ℕ) → IsTied before exec.old → HasFailed before (failures_of exec.new)
         ⊎ (exec.new.device.flush.store ≡ Worn) ⊎ (exec.new.device.flush.unflushed ≡ 0)) }
 {
     for _ in 0..JOBS_MOST {
-        match exec.take() {
-            Ok(job) => {
-                if run_job(exec, job) {
-                    return Err(RunCause::Memory);
-                }
-            }
-            Err(NoJob::Nothing) => return Ok(()),
-            Err(NoJob::Memory) => return Err(RunCause::Memory),
-            Err(NoJob::Out) => unreachable!(),
+        match run_next(exec)? {
+            Work::Job => {}
+            Work::Nothing => return Ok(()),
         }
     }
     Ok(())
@@ -83,26 +115,23 @@ pub(crate) fn flush<D: Disk, A: Allocator + Copy>(exec: &mut Exec<D, A>) -> Resu
 /// Reopens a broken store. A store that stays broken ends the run.
 pub(crate) fn reopen<D: Disk, A: Allocator + Copy>(exec: &mut Exec<D, A>) -> Result<(), RunCause>
     requires idle { exec.old.device.flush.out ≡ false }
-    ensures reopens { OnOk result (DeviceContinues exec.old exec.new Reopens) }
-    ensures device_stops { IfErr result (DeviceStops exec.old exec.new []) }
-    ensures failed { D.honest → IfErr result (λ cause. cause ≡ RunCause.Device → HasFailed (failures_of exec.old) (failures_of exec.new)) }
+    ensures reopens { OnOk result (Leads exec.old exec.new Reopens) }
+    ensures stops { IfErr result (DeviceStops exec.old exec.new (Begins [])) }
+    ensures other { IfErr result (λ cause. cause ≢ RunCause.Write) }
+    ensures failed { IfErr result (λ cause. cause ≡ RunCause.Device → (before : ℕ) → IsTied before exec.old → HasFailed before (failures_of exec.new)) }
     ensures idle { exec.new.device.flush.out ≡ false }
     ensures open { is_open exec.new.device 1 ≡ is_open exec.old.device 1 }
     ensures locked { exec.new.device.volatile.locks ≡ exec.old.device.volatile.locks }
     ensures free { wait_of exec.old.device.flush 1 ≡ None → wait_of exec.new.device.flush 1 ≡ None }
+    ensures worn { IsWornAtLast exec.old → IsWornAtLast exec.new }
     ensures mended { OnOk result (is_broken exec.new.device.flush.store ≡ false) }
 {
     if !is_broken(exec.condition()) {
         return Ok(());
     }
-    match exec.take() {
-        Ok(job) => {
-            if run_job(exec, job) {
-                return Err(RunCause::Memory);
-            }
-        }
-        Err(NoJob::Memory) => return Err(RunCause::Memory),
-        Err(NoJob::Nothing | NoJob::Out) => unreachable!(),
+    match run_next(exec)? {
+        Work::Job => {}
+        Work::Nothing => unreachable!(),
     }
     if is_broken(exec.condition()) {
         return Err(RunCause::Device);

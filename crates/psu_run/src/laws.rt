@@ -8,7 +8,7 @@ use psu_lex::{
     every_body_has_an_expansion, every_list_has_units, one_expansion_of_a_body,
     one_header_of_a_text, one_list_of_units, one_syntax_of_a_unit,
 };
-use psu_messages::{over_is_done, over_is_messages};
+use psu_messages::over_is_messages;
 use psu_tree::{every_unit_reads, one_reading_of_a_unit};
 
 /// Where no memory is refused, no disk call fails and the store isn't worn, the text that may be written is the script.
@@ -20,7 +20,6 @@ pub fn script_is_the_only_text()
     one_reading_of_a_unit();
     one_syntax_of_a_unit();
     one_header_of_a_text();
-    over_is_done();
     over_is_messages();
 }
 

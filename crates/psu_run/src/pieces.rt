@@ -1,11 +1,10 @@
 //! The lines that end in a piece of the input.
 ghost use Rattle.std.specs.Prelude.{◌≡◌, ◌≢◌, ◌∷◌, [], List, ℕ, OnOk, IfOk, IfErr, true, false};
 ghost use Rattle.psu_messages.specs.ResponseBuffer.{nothing};
-ghost use Rattle.psu_run.specs.Effects.{line_source};
+ghost use Rattle.psu_run.specs.Progress.{line_source, Fed, Leads, DeviceStops, Stopped, RunStops};
 ghost use Rattle.psu_run.specs.Lines.{Message, coming, is_power, message_now};
 ghost use Rattle.psu_run.specs.Output.{Says, SaysUntil, held, output_state};
-ghost use Rattle.psu_run.specs.Progress.{Breaks, Fed, DeviceContinues, RunsOn, Stopped, RunEndsHere};
-ghost use Rattle.psu_run.specs.Runs.{LineBegins, LineRuns, MessageBegins};
+ghost use Rattle.psu_run.specs.Runs.{LineBegins, LineOf, LineRuns, Runs};
 ghost use Rattle.psu_run.specs.Reasons.{never};
 
 use crate::console::Console;
@@ -26,8 +25,8 @@ fn restart_device<D: Disk, A: Allocator + Copy>(
     alloc: A,
     powered: PoweredDevice<D, A>,
 ) -> Result<PoweredDevice<D, A>, RunFault<D>>
-    ensures runs { IfOk result (λ p. RunsOn powered.exec p.exec (Message.Power ∷ []) []) }
-    ensures stops { IfErr result (λ f. (rest : List Message) → RunEndsHere never powered.exec f (Message.Power ∷ rest) []) }
+    ensures runs { IfOk result (λ p. Leads powered.exec p.exec (Runs (Message.Power ∷ []) [])) }
+    ensures stops { IfErr result (λ f. (rest : List Message) → RunStops never powered.exec f (Message.Power ∷ rest) []) }
     ensures other { IfErr result (λ f. f.cause ≢ RunCause.Write) }
 {
     let mut powered = powered;
@@ -45,8 +44,8 @@ pub(crate) fn restart<D: Disk, A: Allocator + Copy>(
     alloc: A,
     run_state: RunState<D, A>,
 ) -> Result<RunState<D, A>, Halted<D, A>>
-    ensures runs { IfOk result (λ d. RunsOn run_state.powered.exec d.powered.exec (Message.Power ∷ []) []) }
-    ensures stops { IfErr result (λ h. (rest : List Message) → RunEndsHere never run_state.powered.exec h.fault (Message.Power ∷ rest) []) }
+    ensures runs { IfOk result (λ d. Leads run_state.powered.exec d.powered.exec (Runs (Message.Power ∷ []) [])) }
+    ensures stops { IfErr result (λ h. (rest : List Message) → RunStops never run_state.powered.exec h.fault (Message.Power ∷ rest) []) }
     ensures other { IfErr result (λ h. h.fault.cause ≢ RunCause.Write) }
     ensures output { IfOk result (λ d. d.unwritten ≡ run_state.unwritten) }
     ensures output_then { IfErr result (λ h. h.unwritten ≡ run_state.unwritten) }
@@ -69,12 +68,12 @@ pub(crate) fn answer_line<W: Write, D: Disk, A: Allocator + Copy>(
     requires power { is_power (message_now lines.old.is_too_long lines.old.line.items) ≡ false }
     requires fresh { run_state.old.unwritten.gathered ≡ nothing }
     ensures runs { OnOk result ((text : List ℕ) × Says (output_state (W.contents writer.old) run_state.old.unwritten) (output_state (W.contents writer.new) run_state.new.unwritten) text
-        × RunsOn run_state.old.powered.exec run_state.new.powered.exec (message_now lines.old.is_too_long lines.old.line.items ∷ []) text) }
+        × Leads run_state.old.powered.exec run_state.new.powered.exec (Runs (message_now lines.old.is_too_long lines.old.line.items ∷ []) text)) }
     ensures fresh { OnOk result (run_state.new.unwritten.gathered ≡ nothing) }
     ensures over { OnOk result (lines.new.is_too_long ≡ false) }
     ensures empty { OnOk result (lines.new.line.items ≡ []) }
     ensures breaks { IfErr result (λ cause. (part : List ℕ) × SaysUntil cause (output_state (W.contents writer.old) run_state.old.unwritten) (output_state (W.contents writer.new) run_state.new.unwritten) part
-        × Breaks run_state.old.powered.exec run_state.new.powered.exec (λ can w v. MessageBegins can w (message_now lines.old.is_too_long lines.old.line.items) part v) cause) }
+        × DeviceStops run_state.old.powered.exec run_state.new.powered.exec (λ steps. LineOf (λ source. LineBegins source part steps) (message_now lines.old.is_too_long lines.old.line.items)) cause) }
 {
     execute_line(alloc, run_state, lines, writer)?;
     run_state.unwritten.gathered.restart();
@@ -91,10 +90,10 @@ fn execute_line<W: Write, D: Disk, A: Allocator + Copy>(
 ) -> Result<(), RunCause>
     requires fresh { run_state.old.unwritten.gathered ≡ nothing }
     ensures runs { OnOk result ((text : List ℕ)
-        × DeviceContinues run_state.old.powered.exec run_state.new.powered.exec (λ can w v. LineRuns can w (line_source lines.now.is_too_long lines.now.line.items) text v)
+        × Leads run_state.old.powered.exec run_state.new.powered.exec (LineRuns (line_source lines.now.is_too_long lines.now.line.items) text)
         × Says (held (W.contents writer.old) run_state.old.unwritten.output.items) (held (W.contents writer.new) run_state.new.unwritten.output.items) text) }
     ensures breaks { IfErr result (λ cause. (part : List ℕ)
-        × Breaks run_state.old.powered.exec run_state.new.powered.exec (λ can w v. LineBegins can w (line_source lines.now.is_too_long lines.now.line.items) part v) cause
+        × DeviceStops run_state.old.powered.exec run_state.new.powered.exec (LineBegins (line_source lines.now.is_too_long lines.now.line.items) part) cause
         × SaysUntil cause (held (W.contents writer.old) run_state.old.unwritten.output.items) (output_state (W.contents writer.new) run_state.new.unwritten) part) }
 {
     let mut console = Console {
@@ -116,7 +115,7 @@ pub(crate) fn feed<W: Write, D: Disk, A: Allocator + Copy>(
     ensures fed { IfOk result (λ d. Fed (coming lines.old.is_too_long lines.old.line.items) piece.now (coming lines.new.is_too_long lines.new.line.items)
         run_state.powered.exec d.powered.exec (output_state (W.contents writer.old) run_state.unwritten) (output_state (W.contents writer.new) d.unwritten)) }
     ensures fresh { IfOk result (λ d. d.unwritten.gathered ≡ nothing) }
-    ensures stopped { IfErr result (λ h. Stopped (coming lines.old.is_too_long lines.old.line.items) piece.now
+    ensures stopped { IfErr result (λ h. Stopped never (coming lines.old.is_too_long lines.old.line.items) piece.now
         run_state.powered.exec h.fault (output_state (W.contents writer.old) run_state.unwritten) (output_state (W.contents writer.new) h.unwritten)) }
 {
     let mut run_state = run_state;

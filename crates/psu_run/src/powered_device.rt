@@ -1,5 +1,5 @@
 //! The powered-on device of a run.
-ghost use Rattle.std.specs.Prelude.{◌≡◌, ◌≢◌, ◌≤◌, ℕ, List, IfOk, IfErr, true, false, None};
+ghost use Rattle.std.specs.Prelude.{◌≡◌, ◌≢◌, ◌≤◌, ℕ, List, IfOk, IfErr, true, false, None, Some};
 ghost use Rattle.std.specs.Option.{ForSome};
 ghost use Rattle.psu_disk.specs.Disk.{LeavesOnly};
 ghost use Rattle.psu_items.specs.Finding.{IsOldOrSame};
@@ -8,18 +8,26 @@ ghost use Rattle.psu_map.specs.Map.{Item};
 ghost use Rattle.psu_exec.specs.Device.{is_broken, is_denied, is_open, wait_of};
 ghost use Rattle.psu_exec.specs.Jobs.{idle_disk};
 ghost use Rattle.psu_exec.specs.declared.condition.Condition.TheVariants.{Worn};
-ghost use Rattle.psu_run.specs.Failures.{extent_of, failures_of};
+ghost use Rattle.psu_run.specs.Steps.{disk_in, extent_of, failures_of, born, world_of, PowersOn, IsWornOut};
 ghost use Rattle.psu_run.specs.Jobs.{IsWornAtLast};
-ghost use Rattle.psu_run.specs.Lives.{born, disk_at, world_of, PowersOn};
-ghost use Rattle.psu_run.specs.Causes.{IsWornOut, NotStarted};
+ghost use Rattle.psu_run.specs.Reasons.{NotStarted, IsByFailure};
+ghost use Rattle.psu_run.specs.Progress.{FaultOf, is_worn};
 
 use crate::{RunCause, RunFault};
 use psu_disk::Disk;
-use psu_exec::{Crowded, Ended, Exec, Session};
+use psu_exec::{Condition, Crowded, Ended, Exec, Session};
 use psu_items::Store;
 use std::alloc::Allocator;
 
-/// A powered-on device: its one session is open and waits for nothing, no lock denies it, and no job is out.
+// Whether no number is left for a commit.
+fn is_worn(condition: Condition) -> bool
+    ensures { result ≡ is_worn condition }
+{
+    matches!(condition, Condition::Worn)
+}
+
+/// A powered-on device: its one session is open and waits for nothing, no lock denies it, no job is out, and its store
+/// is worn only where its number is the last.
 #[derive(Drop)]
 pub(crate) struct PoweredDevice<D: Disk, A: Allocator + Copy> {
     pub exec: Exec<D, A>,
@@ -29,6 +37,7 @@ pub(crate) struct PoweredDevice<D: Disk, A: Allocator + Copy> {
     pub ghost allowed: { is_denied exec.device 1 ≡ false },
     pub ghost idle: { exec.device.flush.out ≡ false },
     pub ghost free: { wait_of exec.device.flush 1 ≡ None },
+    pub ghost last: { IsWornAtLast exec },
 }
 
 impl<D: Disk, A: Allocator + Copy> PoweredDevice<D, A> {
@@ -37,11 +46,12 @@ impl<D: Disk, A: Allocator + Copy> PoweredDevice<D, A> {
         ensures starts { D.honest → IfOk result (λ p. PowersOn (D.state disk).bytes (world_of (born p.exec) p.exec)) }
         ensures works { IfOk result (λ p. failures_of p.exec ≡ D.failures disk) }
         ensures size { IfOk result (λ p. extent_of p.exec ≡ D.extent disk) }
-        ensures last { IfOk result (λ p. IsWornAtLast p.exec) }
         ensures stored { IfOk result (λ p. p.exec.idle_store ≢ None) }
+        ensures whole { IfOk result (λ p. is_broken p.exec.device.flush.store ≡ false) }
 
         ensures other { IfErr result (λ f. f.cause ≢ RunCause.Write) }
         ensures refused { D.honest → IfErr result (λ f. NotStarted (D.state disk).bytes (D.failures disk) (D.failures f.disk) f.cause) }
+        ensures failed { IfErr result (IsByFailure D.Disk (D.failures disk)) }
         ensures later { IfErr result (λ f. D.failures disk ≤ D.failures f.disk) }
         ensures extent { IfErr result (λ f. D.extent f.disk ≡ D.extent disk) }
         // At each moment since the call began, each possible crash image is one from before, or has the root that was
@@ -61,6 +71,7 @@ impl<D: Disk, A: Allocator + Copy> PoweredDevice<D, A> {
                 return Err(RunFault {
                     cause: RunCause::from(refused.cause),
                     disk: refused.disk,
+                    is_worn: false,
                 });
             }
         };
@@ -70,6 +81,7 @@ impl<D: Disk, A: Allocator + Copy> PoweredDevice<D, A> {
                 return Err(RunFault {
                     cause: RunCause::from(fault.cause),
                     disk: fault.store.into_disk(),
+                    is_worn: false,
                 });
             }
         };
@@ -81,13 +93,10 @@ impl<D: Disk, A: Allocator + Copy> PoweredDevice<D, A> {
 
     /// Ends the device and returns its disk.
     pub fn into_disk(self) -> D
-        ensures same { ForSome self.exec.idle_store (λ h. result ≡ idle_disk h) }
-        ensures failures { D.failures result ≡ failures_of self.exec }
-        ensures extent { D.extent result ≡ extent_of self.exec }
-        ensures state { D.state result ≡ disk_at self.exec.idle_store }
+        ensures same { disk_in self.exec.idle_store ≡ Some result }
         ensures stands { D.honest → is_broken self.exec.device.flush.store ≡ false
             → EachRepresents (D.state result) self.exec.device.flush.limit self.exec.device.flush.before }
-        ensures reason { D.honest → IsWornAtLast self.exec → self.exec.device.flush.store ≡ Worn → IsWornOut (D.state result).bytes }
+        ensures worn { D.honest → self.exec.device.flush.store ≡ Worn → IsWornOut (D.state result).bytes }
     {
         match self.exec.end() {
             Ended::Whole(store) => store.into_disk(),
@@ -98,16 +107,13 @@ impl<D: Disk, A: Allocator + Copy> PoweredDevice<D, A> {
 
     /// Ends the run early, for this cause, and returns the disk with it.
     pub fn fault(self, cause: RunCause) -> RunFault<D>
-        ensures cause { result.cause ≡ cause }
-        ensures same { ForSome self.exec.idle_store (λ h. result.disk ≡ idle_disk h) }
-        ensures failures { D.failures result.disk ≡ failures_of self.exec }
-        ensures extent { D.extent result.disk ≡ extent_of self.exec }
-        ensures state { D.state result.disk ≡ disk_at self.exec.idle_store }
-        ensures reason { D.honest → IsWornAtLast self.exec → self.exec.device.flush.store ≡ Worn → IsWornOut (D.state result.disk).bytes }
+        ensures { FaultOf self.exec cause result }
     {
+        let is_worn = is_worn(self.exec.condition());
         RunFault {
             cause,
             disk: self.into_disk(),
+            is_worn,
         }
     }
 }

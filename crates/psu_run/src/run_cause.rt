@@ -1,6 +1,6 @@
 //! Why a run ends early.
 ghost use Rattle.std.specs.Prelude.{◌≡◌};
-ghost use Rattle.psu_run.specs.Causes.{cause_of_open, cause_of_power, cause_of_start};
+ghost use Rattle.psu_run.specs.Reasons.{cause_of_open, cause_of_power, cause_of_start};
 
 use psu_exec::{PowerCause, StartCause, StartFault};
 use psu_items::OpenCause;

@@ -1,13 +1,7 @@
 //! A powered-on device with its output that is not yet written.
-ghost use Rattle.std.specs.Prelude.{◌≡◌, [], ◌≤◌};
-ghost use Rattle.std.specs.Option.{ForSome};
+ghost use Rattle.std.specs.Prelude.{◌≡◌, []};
 ghost use Rattle.psu_messages.specs.ResponseBuffer.{nothing};
-ghost use Rattle.psu_exec.specs.Jobs.{idle_disk};
-ghost use Rattle.psu_exec.specs.declared.condition.Condition.TheVariants.{Worn};
-ghost use Rattle.psu_run.specs.Causes.{IsWornOut};
-ghost use Rattle.psu_run.specs.Failures.{extent_of, failures_of};
-ghost use Rattle.psu_run.specs.Jobs.{IsWornAtLast};
-ghost use Rattle.psu_run.specs.Lives.{disk_at};
+ghost use Rattle.psu_run.specs.Progress.{FaultOf};
 
 use crate::RunCause;
 use crate::halted::Halted;
@@ -39,12 +33,7 @@ impl<D: Disk, A: Allocator + Copy> RunState<D, A> {
     /// Ends the run early, for this cause.
     pub fn fault(self, cause: RunCause) -> Halted<D, A>
         ensures unwritten { result.unwritten ≡ self.unwritten }
-        ensures cause { result.fault.cause ≡ cause }
-        ensures same { ForSome self.powered.exec.idle_store (λ h. result.fault.disk ≡ idle_disk h) }
-        ensures failures { D.failures result.fault.disk ≡ failures_of self.powered.exec }
-        ensures extent { D.extent result.fault.disk ≡ extent_of self.powered.exec }
-        ensures state { D.state result.fault.disk ≡ disk_at self.powered.exec.idle_store }
-        ensures reason { D.honest → IsWornAtLast self.powered.exec → self.powered.exec.device.flush.store ≡ Worn → IsWornOut (D.state result.fault.disk).bytes }
+        ensures fault { FaultOf self.powered.exec cause result.fault }
     {
         Halted {
             fault: self.powered.fault(cause),

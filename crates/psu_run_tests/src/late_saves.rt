@@ -22,16 +22,21 @@ const SAVES: &str =
 const REFUSED: &str =
     "-320,\"Storage fault\";-320,\"Storage fault\";0,\"No error\";EXAMPLE,PSU4,0,1.0\n";
 
-// Whether both are -320, and the run fails only at its end, where changes are left.
-fn refuses<D: Disk + Drop>(alloc: Global, disk: D) -> Option<bool> {
+// Whether both are -320, and the run fails only at its end, where changes are left, with a store that is worn or not.
+fn refuses<D: Disk + Drop>(alloc: Global, disk: D, is_worn: bool) -> Option<bool> {
     let input = written(alloc, SAVES)?;
     let ran = run_on(alloc, input.as_bytes(), disk);
-    Some(ran.cause == Some(RunCause::Device) && ran.text.as_slice() == REFUSED.as_bytes())
+    let is_told = ran.cause == Some(RunCause::Device) && ran.is_worn == is_worn;
+    Some(is_told && ran.text.as_slice() == REFUSED.as_bytes())
 }
 
 // The same where the disk stops after this many calls.
 fn refuses_once_stopped(alloc: Global, calls: u64) -> Option<bool> {
-    refuses(alloc, FailingDisk::from_then_on(least(alloc)?, calls))
+    refuses(
+        alloc,
+        FailingDisk::from_then_on(least(alloc)?, calls),
+        false,
+    )
 }
 
 // Returns the disk of an image whose root has the last number.
@@ -58,7 +63,7 @@ fn late_saves_on_a_disk_that_stops(rt: HostRuntime) {
 fn late_saves_on_a_worn_disk(rt: HostRuntime) {
     let alloc = rt.alloc();
     let is_so = match worn(alloc) {
-        Some(disk) => refuses(alloc, disk) == Some(true),
+        Some(disk) => refuses(alloc, disk, true) == Some(true),
         None => false,
     };
     holds(&rt, is_so, &SAVES);

@@ -182,7 +182,12 @@ impl Row<'_> {
 
     // How the row ends with this many bytes of memory.
     fn run_with(&self, rt: &impl Abort, alloc: Global, left: usize) -> End {
-        let Ran { text, cause, disk } = self.ran_with(rt, alloc, left);
+        let Ran {
+            text,
+            cause,
+            disk,
+            ..
+        } = self.ran_with(rt, alloc, left);
         let held = written_on(alloc, disk, self.question.as_slice()).expect(rt, "the image opens");
         match self.end_of(text.as_slice(), held.as_slice(), cause) {
             Some(end) => end,

@@ -7,11 +7,12 @@ use std::io::{Read, Write};
 /// The cause of a run whose disk fails when it is opened.
 pub(crate) const NOT_OPENED: RunCause = RunCause::Open(StartCause::Device);
 
-/// The result of a run: its text, why it ended early, and the disk.
+/// The result of a run: its text, why it ended early, whether it ended early with a worn store, and the disk.
 #[derive(Drop)]
 pub(crate) struct Ran<D: Disk> {
     pub(crate) text: Vec<u8>,
     pub(crate) cause: Option<RunCause>,
+    pub(crate) is_worn: bool,
     pub(crate) disk: D,
 }
 
@@ -39,9 +40,14 @@ pub(crate) fn run_from<R: Read, D: Disk, A: Allocator + Copy>(
     disk: D,
 ) -> Ran<D> {
     let mut text = Vec::new(alloc);
-    let (cause, disk) = match run_between(memory, reader, &mut text, disk) {
-        Ok(disk) => (None, disk),
-        Err(fault) => (Some(fault.cause), fault.disk),
+    let (cause, is_worn, disk) = match run_between(memory, reader, &mut text, disk) {
+        Ok(disk) => (None, false, disk),
+        Err(fault) => (Some(fault.cause), fault.is_worn, fault.disk),
     };
-    Ran { text, cause, disk }
+    Ran {
+        text,
+        cause,
+        is_worn,
+        disk,
+    }
 }

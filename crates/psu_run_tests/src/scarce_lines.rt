@@ -140,11 +140,7 @@ impl Case<'_> {
 
     // How the run ends with this many bytes for the line.
     fn run_with(&self, rt: &impl Abort, alloc: Global, left: usize) -> End {
-        let Ran {
-            text,
-            cause,
-            disk: _,
-        } = self.ran_with(rt, alloc, left);
+        let Ran { text, cause, .. } = self.ran_with(rt, alloc, left);
         match self.end_of(text.as_slice(), cause) {
             Some(end) => end,
             None => panic!(rt; "{text:?} at {left}"),

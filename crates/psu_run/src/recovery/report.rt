@@ -1,6 +1,6 @@
 //! What a restart would find in an image.
 ghost use Rattle.std.specs.Prelude.{◌≡◌, IfOk, OnOk, ◌++◌};
-ghost use Rattle.psu_run.specs.Report.{image_line, pages_line, enables_line, request_line, power_line, count_line, file_line, file_lines, report_text_of};
+ghost use Rattle.psu_run.specs.Recover.{image_line, pages_line, enables_line, request_line, power_line, count_line, file_line, file_lines, report_text_of};
 
 use itoa::Buffer;
 use psu_lex::Bytes;

@@ -1,33 +1,31 @@
-use Rattle.std.proofs.Common.{◌≡◌, ◌∙◌, ℕ, true, ap, subst, sym}
-use Rattle.psu_exec.specs.Device.{is_denied, is_open}
-use Rattle.psu_exec.specs.Shown.{outcome_of}
+use Rattle.std.proofs.Common.{◌≡◌, List, [], ◌∷◌, ◌++◌, ap, arith, inr, refl}
+use Rattle.psu_run.proofs.Common.{Called, Executed, Executes, Parked, RunStep, Serves, outcome_of}
 use Rattle.psu_run.proofs.Fronts.{passed}
-use Rattle.psu_run.proofs.UnitEnds.{acted_now, acted_waited, parked_halts}
-use Rattle.psu_run.proofs.SessionOne.{executed_one}
+use Rattle.psu_run.proofs.Going.{steps_call, steps_then, device_stops_then}
+use Rattle.psu_run.proofs.UnitEnds.{late_full}
+use Rattle.psu_run.proofs.Walking.{begins_then}
 use Rattle.psu_run.proofs.acting.act.Goals as goal
 
-pub returns-then-not-is_parked-clause-acted : goal.returns-then-not-is_parked-clause-acted
-returns-then-not-is_parked-clause-acted g c =
-    let step = executed_one c.args.powered.now.exec.device c.execute-outcome.new.self.device c.args.request.now (outcome_of c.execute-outcome.result) c.args.powered.now.session
-    c.args.powered.now.first c.args.powered.now.open c.execute-outcome.ensures.step in
-    acted_now c.args.powered.now.exec c.execute-outcome.new.self c.args.request.now (outcome_of c.execute-outcome.result) step c.execute-outcome.ensures.idle_store
-    (sym c.is_parked.ensures ∙ c.if-not-is_parked.true)
-    (λ held. let here = subst (λ (n : ℕ). is_open c.args.powered.now.exec.device n ≡ true) (sym c.args.powered.now.first) c.args.powered.now.open in
-    let denied = (c.execute-outcome.ensures.held here).0 held in
-    let free = ap (λ (n : ℕ). is_denied c.args.powered.now.exec.device n) c.args.powered.now.first ∙ c.args.powered.now.allowed in
-    let bad = sym denied ∙ free in cc)
+pub returns-then-not-is_parked-clause-tried : goal.returns-then-not-is_parked-clause-tried
+returns-then-not-is_parked-clause-tried g c = steps_call _ _ (Executed 1 c.args.request.now (outcome_of c.execute-outcome.result)) _ (grind arith) c.execute-outcome.ensures.idle_store (grind arith) (λ life d e. e) (λ image. tt) (λ e. e) (grind arith)
 
-pub returns-in_err-outcome-clause-device_stops : goal.returns-in_err-outcome-clause-device_stops
-returns-in_err-outcome-clause-device_stops g c =
-    let step = executed_one c.args.powered.now.exec.device c.execute-outcome.new.self.device c.args.request.now (outcome_of c.execute-outcome.result) c.args.powered.now.session
-    c.args.powered.now.first c.args.powered.now.open c.execute-outcome.ensures.step in
+pub returns-in_err-outcome-clause-stops : goal.returns-in_err-outcome-clause-stops
+returns-in_err-outcome-clause-stops g c =
+    let request = c.args.request.now in
     passed c.from_residual.result c.in_err-outcome.field-0.0 _ c.from_residual.ensures.1
-    (parked_halts c.args.powered.now.exec c.execute-outcome.new.self c.wait.new.exec c.args.request.now (outcome_of c.execute-outcome.result) c.in_err-outcome.field-0.0 step
-    c.execute-outcome.ensures.idle_store (sym c.is_parked.ensures ∙ c.if-not-is_parked.false) c.in_err-outcome.ensures.device_stops)
+    (device_stops_then _ _ _ (Executes (request ∷ [])) _ _ _
+    (steps_call _ _ (Executed 1 request (outcome_of c.execute-outcome.result)) _ (grind arith) c.execute-outcome.ensures.idle_store (grind arith) (λ life d e. e) (λ image. tt) (λ e. e) ([], refl, grind arith))
+    c.in_err-outcome.ensures.stops (λ xs ys e b. begins_then xs ys (request ∷ []) [] e b))
 
-pub returns-clause-acted : goal.returns-clause-acted
-returns-clause-acted g c =
-    let step = executed_one c.args.powered.now.exec.device c.execute-outcome.new.self.device c.args.request.now (outcome_of c.execute-outcome.result) c.args.powered.now.session
-    c.args.powered.now.first c.args.powered.now.open c.execute-outcome.ensures.step in
-    acted_waited c.args.powered.now.exec c.execute-outcome.new.self c.wait.new.exec c.args.request.now (outcome_of c.execute-outcome.result) (outcome_of c.in_ok-outcome.outcome) step
-    c.execute-outcome.ensures.idle_store (sym c.is_parked.ensures ∙ c.if-not-is_parked.false) c.in_ok-outcome.ensures.ends c.in_ok-outcome.ensures.ended
+pub returns-clause-tried : goal.returns-clause-tried
+returns-clause-tried g c =
+    let request = c.args.request.now in
+    steps_then _ _ _ (λ xs. xs ≡ Called (Executed 1 request Parked) ∷ []) _ _
+    (steps_call _ _ (Executed 1 request (outcome_of c.execute-outcome.result)) _ (grind arith) c.execute-outcome.ensures.idle_store (grind arith) (λ life d e. e) (λ image. tt) (λ e. e) (grind arith))
+    c.in_ok-outcome.ensures.ends (λ xs ys e wait. inr (c.in_ok-outcome.ensures.ended, inr (ys, wait, ap (λ (z : List RunStep). z ++ ys) e)))
+
+pub returns-then-not-is_parked-clause-room : goal.returns-then-not-is_parked-clause-room
+returns-then-not-is_parked-clause-room g c = λ late.
+    let old = c.args.powered.now in
+    let serves : Serves old.exec.device (Executed 1 c.args.request.now (outcome_of c.execute-outcome.result)) c.execute-outcome.new.self.device = grind arith in
+    late_full old.exec.device c.args.request.now old.free (grind arith)

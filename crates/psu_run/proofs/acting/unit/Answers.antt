@@ -1,35 +1,40 @@
-use Rattle.std.proofs.Common.{◌∙◌, sym}
-use Rattle.psu_exec.specs.Shown.{outcome_of}
+use Rattle.std.proofs.Common.{List, [], ◌∷◌, ◌++◌, ◌∙◌, ap, arith, inl, inr, sym}
+use Rattle.psu_run.proofs.Common.{RunStep}
 use Rattle.psu_run.proofs.Fronts.{passed}
-use Rattle.psu_run.proofs.UnitEnds.{late_halts, later_halts, unit_later, unit_now}
-use Rattle.psu_run.proofs.LateUnits.{still_late_halts}
+use Rattle.psu_run.proofs.Going.{steps_as, steps_then, device_stops_then}
+use Rattle.psu_run.proofs.UnitEnds.{steps_late, late_executes, late_idle}
+use Rattle.psu_run.proofs.Walking.{begins_all, begins_more, begins_then, executes_join}
 use Rattle.psu_run.proofs.acting.unit.Goals as goal
 
 pub returns-then-not-is_later-clause-runs : goal.returns-then-not-is_later-clause-runs
-returns-then-not-is_later-clause-runs g c =
-    unit_now c.args.powered.now.exec c.act.new.powered.exec c.args.request.now (outcome_of c.in_ok-outcome.outcome) c.in_ok-outcome.ensures.acted
-    (sym c.is_later.ensures ∙ c.if-not-is_later.true)
+returns-then-not-is_later-clause-runs g c = steps_as _ _ _ _ c.in_ok-outcome.ensures.tried (λ steps tried. inl (grind arith))
 
-pub returns-in_err-flush-clause-device_stops : goal.returns-in_err-flush-clause-device_stops
-returns-in_err-flush-clause-device_stops g c =
+pub returns-in_err-flush-clause-stops : goal.returns-in_err-flush-clause-stops
+returns-in_err-flush-clause-stops g c =
     passed c.from_residual-in_err-flush.result c.in_err-flush.field-0.0 _ c.from_residual-in_err-flush.ensures.1
-    (late_halts c.args.powered.now.exec c.act.new.powered.exec c.flush.new.exec c.args.request.now (outcome_of c.in_ok-outcome.outcome) c.in_err-flush.field-0.0 c.in_ok-outcome.ensures.acted
-    (sym c.is_later.ensures ∙ c.if-not-is_later.false) c.in_err-flush.ensures.device_stops)
+    (device_stops_then _ _ _ _ _ _ _ c.in_ok-outcome.ensures.tried c.in_err-flush.ensures.stops
+    (λ xs ys tried b. begins_more (xs ++ ys) [] (c.args.request.now ∷ []) (begins_then xs ys [] [] (late_idle _ _ xs (sym c.is_later.ensures ∙ c.if-not-is_later.false) tried) b)))
 
-pub returns-in_err-outcome-2-clause-device_stops : goal.returns-in_err-outcome-2-clause-device_stops
-returns-in_err-outcome-2-clause-device_stops g c =
+pub returns-in_err-outcome-2-clause-stops : goal.returns-in_err-outcome-2-clause-stops
+returns-in_err-outcome-2-clause-stops g c =
+    let late = steps_late _ _ _ c.args.request.now _ c.in_ok-outcome.ensures.tried (sym c.is_later.ensures ∙ c.if-not-is_later.false) c.in_ok-flush.ensures.flushes in
     passed c.from_residual-in_err-outcome-2.result c.in_err-outcome-2.field-0.0 _ c.from_residual-in_err-outcome-2.ensures.1
-    (later_halts c.args.powered.now.exec c.act.new.powered.exec c.flush.new.exec c.act-2.new.powered.exec c.args.request.now (outcome_of c.in_ok-outcome.outcome) c.in_err-outcome-2.field-0.0
-    c.in_ok-outcome.ensures.acted (sym c.is_later.ensures ∙ c.if-not-is_later.false) c.in_ok-flush.ensures.flushes c.in_err-outcome-2.ensures.device_stops)
+    (device_stops_then _ _ _ _ _ _ _ late c.in_err-outcome-2.ensures.stops (λ xs ys late b. begins_then xs ys [] _ (late_executes _ xs late) b))
 
-pub returns-then-is_later-clause-device_stops : goal.returns-then-is_later-clause-device_stops
-returns-then-is_later-clause-device_stops g c =
-    still_late_halts c.args.powered.now.exec c.act.new.powered.exec c.flush.new.exec c.act-2.new.powered.exec c.args.request.now (outcome_of c.in_ok-outcome.outcome)
-    (outcome_of c.in_ok-outcome-2.outcome) c.in_ok-outcome.ensures.acted (sym c.is_later.ensures ∙ c.if-not-is_later.false) c.in_ok-flush.ensures.flushes c.in_ok-outcome-2.ensures.acted
-    (sym c.is_later-2.ensures ∙ c.if-is_later.true) (c.in_ok-flush.ensures.free c.act.new.powered.free) c.in_ok-flush.ensures.clean
+pub returns-then-is_later-clause-stops : goal.returns-then-is_later-clause-stops
+returns-then-is_later-clause-stops g c =
+    let late = steps_late _ _ _ c.args.request.now _ c.in_ok-outcome.ensures.tried (sym c.is_later.ensures ∙ c.if-not-is_later.false) c.in_ok-flush.ensures.flushes in
+    let still = sym c.is_later-2.ensures ∙ c.if-is_later.true in let again = c.in_ok-outcome-2.ensures.tried in
+    record {
+      leads = steps_then _ _ _ _ _ _ late again (λ xs ys late t.
+          begins_more (xs ++ ys) [] (c.args.request.now ∷ []) (begins_all [] (xs ++ ys) (executes_join xs ys [] [] (late_executes _ xs late) (late_idle _ _ ys still t))));
+      why = λ before t.
+          let room = c.in_ok-outcome-2.ensures.room still in
+          let left = c.in_ok-flush.ensures.clean before (c.in_ok-outcome.ensures.tried.tied before t) in let after = again.ran.later in
+          grind arith;
+    }
 
 pub returns-clause-runs : goal.returns-clause-runs
 returns-clause-runs g c =
-    unit_later c.args.powered.now.exec c.act.new.powered.exec c.flush.new.exec c.act-2.new.powered.exec c.args.request.now (outcome_of c.in_ok-outcome.outcome)
-    (outcome_of c.in_ok-outcome-2.outcome) c.in_ok-outcome.ensures.acted (sym c.is_later.ensures ∙ c.if-not-is_later.false) c.in_ok-flush.ensures.flushes c.in_ok-outcome-2.ensures.acted
-    (sym c.is_later-2.ensures ∙ c.if-is_later.false)
+    let late = steps_late _ _ _ c.args.request.now _ c.in_ok-outcome.ensures.tried (sym c.is_later.ensures ∙ c.if-not-is_later.false) c.in_ok-flush.ensures.flushes in
+    steps_then _ _ _ _ _ _ late c.in_ok-outcome-2.ensures.tried (λ xs ys late tried. inr (late.0, ys, late.1, grind arith, ap (λ (z : List RunStep). z ++ ys) late.2))

@@ -1,59 +1,35 @@
-use Rattle.std.proofs.Common.{◌≡◌, ◌∙◌, ◌==◌, ℕ, [], arith, false, sym, true}
+use Rattle.std.proofs.Common.{◌∙◌, [], arith, sym}
 use Rattle.std.proofs.lemmas.Bool.Decides.{nat_tests}
-use Rattle.psu_run.specs.Lines.{coming}
-use Rattle.psu_run.proofs.Feeding.{flush_stops, flushed_stops}
-use Rattle.psu_run.proofs.Fronts.{passed}
+use Rattle.psu_run.proofs.Common.{coming, held}
 use Rattle.psu_run.proofs.SessionOne.{still_allowed}
-use Rattle.psu_run.proofs.Reading.{answers_early, answers_flushed}
-use Rattle.psu_run.proofs.Starting.{left_halts}
+use Rattle.psu_run.proofs.Reading.{answers_flushed, answers_stop}
+use Rattle.psu_run.proofs.Stopping.{flush_stops, unflushed_stops}
 use Rattle.psu_run.proofs.engine.finish.Goals as goal
-
-some_left : (n : ℕ) → (n == 0) ≡ false → n ≡ 0 → ⊥
-some_left n some none = grind (arith, nat_tests, some, none)
-
-none_left : (n : ℕ) → (n == 0) ≡ true → n ≡ 0
-none_left n none = grind (arith, nat_tests, none)
-
-pub returns-in_err-powered-clause-early : goal.returns-in_err-powered-clause-early
-returns-in_err-powered-clause-early g c = passed c.from_residual.result c.in_err-powered.field-0.0 _ c.from_residual.ensures.1 c.in_err-powered.ensures.early
-
-pub invariant_of-powered : goal.invariant_of-powered
-invariant_of-powered g c = record {
-  first = c.in_ok-powered.powered.first;
-  «open» = c.flush.ensures.open ∙ c.in_ok-powered.powered.open;
-  allowed = still_allowed c.in_ok-powered.powered.exec.device c.flush.new.exec.device c.flush.ensures.locked c.in_ok-powered.powered.allowed;
-  idle = c.flush.ensures.idle;
-  free = c.flush.ensures.free c.in_ok-powered.powered.free;
-}
-
-pub invariant_of-powered-2 : goal.invariant_of-powered-2
-invariant_of-powered-2 g c = record {
-  first = c.in_ok-powered.powered.first;
-  «open» = c.flush.ensures.open ∙ c.in_ok-powered.powered.open;
-  allowed = still_allowed c.in_ok-powered.powered.exec.device c.flush.new.exec.device c.flush.ensures.locked c.in_ok-powered.powered.allowed;
-  idle = c.flush.ensures.idle;
-  free = c.flush.ensures.free c.in_ok-powered.powered.free;
-}
 
 pub returns-in-Err-clause-early : goal.returns-in-Err-clause-early
 returns-in-Err-clause-early g c =
     let mid = c.in_ok-powered.powered.exec in
-    let f = c.fault.ensures in
-    let device_stops = c.in-Err.ensures.device_stops in
-    answers_early (coming c.args.lines.now.is_too_long c.args.lines.now.line.items []) c.args.powered.exec mid c.fault.result _ _ c.in_ok-powered.ensures.whole (λ e. device_stops.own (sym f.cause ∙ e))
-    (flush_stops mid c.flush.new.exec c.fault.result c.in-Err.cause device_stops (record { cause_is = f.cause; failures = f.failures; extent = f.extent; state = f.state; reason = f.reason; disk = f.same }))
+    answers_stop (coming c.args.lines.now.is_too_long c.args.lines.now.line.items []) c.args.powered.exec mid c.fault.result _ _ c.in_ok-powered.ensures.whole (λ e. c.in-Err.ensures.other (sym c.fault.ensures.cause_is ∙ e))
+    (flush_stops mid c.flush.new.exec c.in-Err.cause c.fault.result c.in-Err.ensures.stops c.fault.ensures)
 
 pub returns-then-not-is_flushed-clause-early : goal.returns-then-not-is_flushed-clause-early
 returns-then-not-is_flushed-clause-early g c =
-    let fault = c.fault-then-not-is_flushed.result in
-    let f = c.fault-then-not-is_flushed.ensures in
-    let mid = c.in_ok-powered.powered.exec in
-    answers_early (coming c.args.lines.now.is_too_long c.args.lines.now.line.items []) c.args.powered.exec mid fault _ _ c.in_ok-powered.ensures.whole (λ e. let bad = sym f.cause ∙ e in cc)
-    (flushed_stops mid c.flush.new.exec fault c.in-Ok.ensures.flushes (record { cause_is = f.cause; failures = f.failures; extent = f.extent; state = f.state; reason = f.reason; disk = f.same })
-    (λ h. left_halts mid c.flush.new.exec (c.in-Ok.ensures.clean h) (some_left c.flush.new.exec.device.flush.unflushed (sym c.is_flushed.ensures ∙ c.if-not-is_flushed.true))))
+    let f = c.fault-then-not-is_flushed in let mid = c.in_ok-powered.powered.exec in
+    answers_stop (coming c.args.lines.now.is_too_long c.args.lines.now.line.items []) c.args.powered.exec mid f.result _ _ c.in_ok-powered.ensures.whole (λ e. let bad = sym f.ensures.cause_is ∙ e in cc)
+    (unflushed_stops mid c.flush.new.exec f.result c.in-Ok.ensures.flushes f.ensures (λ h. c.in-Ok.ensures.clean h) (λ none. grind (arith, nat_tests, c.is_flushed.ensures, c.if-not-is_flushed.true, none)))
 
 pub returns-clause-whole : goal.returns-clause-whole
 returns-clause-whole g c =
-    let disk = c.into_disk.ensures in
-    answers_flushed (coming c.args.lines.now.is_too_long c.args.lines.now.line.items []) c.args.powered.exec c.in_ok-powered.powered.exec c.flush.new.exec c.into_disk.result _ _
-    c.in_ok-powered.ensures.whole c.in-Ok.ensures.flushes (none_left c.flush.new.exec.device.flush.unflushed (sym c.is_flushed.ensures ∙ c.if-not-is_flushed.false)) disk.failures disk.extent disk.state disk.same
+    answers_flushed (coming c.args.lines.now.is_too_long c.args.lines.now.line.items []) c.args.powered.exec c.in_ok-powered.powered.exec c.flush.new.exec c.into_disk.result
+    (held (g.W.Write.contents c.args.writer.now) []) (held (g.W.Write.contents c.last_line.new.writer) [])
+    c.in_ok-powered.ensures.whole c.in-Ok.ensures.flushes (grind (arith, nat_tests, c.is_flushed.ensures, c.if-not-is_flushed.false)) c.into_disk.ensures.same
+
+pub invariant_of-powered : goal.invariant_of-powered
+invariant_of-powered g c =
+    let on = c.in_ok-powered.powered in let e = c.flush.ensures in
+    record { first = on.first; «open» = e.open ∙ on.open; allowed = still_allowed on.exec.device c.flush.new.exec.device e.locked on.allowed; idle = e.idle; free = e.free on.free; last = e.worn on.last }
+
+pub invariant_of-powered-2 : goal.invariant_of-powered-2
+invariant_of-powered-2 g c =
+    let on = c.in_ok-powered.powered in let e = c.flush.ensures in
+    record { first = on.first; «open» = e.open ∙ on.open; allowed = still_allowed on.exec.device c.flush.new.exec.device e.locked on.allowed; idle = e.idle; free = e.free on.free; last = e.worn on.last }

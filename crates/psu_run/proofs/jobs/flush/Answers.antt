@@ -1,100 +1,40 @@
-use Rattle.std.proofs.Common.{◌≡◌, arith, refl, sym, ap, ◌∙◌, inl, inr, subst, ⊎_elim, []}
-use Rattle.psu_exec.specs.Device.{State, is_open}
-use Rattle.psu_exec.specs.Calls.{Job}
-use Rattle.psu_exec.specs.Jobs.{job_data}
-use Rattle.psu_exec.proofs.Ignored.{serves_took}
-use Rattle.psu_run.specs.Lives.{world_of}
-use Rattle.psu_run.specs.Runs.{Jobs}
-use Rattle.psu_run.proofs.Calls.{Executes, executes_join}
-use Rattle.psu_run.proofs.JobEnds.{gave_free, gave_back_idle, gave_locks, gave_open, job_done}
-use Rattle.psu_run.proofs.FlushEnds.{calm_after, flush_ends, flush_full, halts_short, job_executes, job_spans, jobs_execute, jobs_more, out_free, run_lasts, same_world, still_spans}
-use Rattle.psu_run.proofs.Lasting.{lasts_none, lasts_same, lasts_then}
-use Rattle.psu_run.proofs.Moments.{spans_none, spans_then}
-use Rattle.psu_run.proofs.Within.{within_here}
+use Rattle.std.proofs.Common.{◌≤◌, ◌≡◌, ℕ, suc, ◌+◌, ◌-◌, [], rules, arith, refl, sym, inl, subst, append-nil}
+use Rattle.psu_run.proofs.Common.{IsFlush, IsTied, Jobs, failures_of}
+use Rattle.psu_run.proofs.UnitEnds.{IsFlushAfter, IsFlushed, one_more}
+use Rattle.psu_run.proofs.Fronts.{passed}
+use Rattle.psu_run.proofs.Going.{steps_as, steps_none, steps_then, device_stops_then}
+use Rattle.psu_run.proofs.Walking.{begins_then}
 use Rattle.psu_run.proofs.jobs.flush.Goals as goal
 
 pub loop-init : goal.loop-init
-loop-init g c = record {
-  idle = c.requires.idle;
-  same_open = refl;
-  same_locks = refl;
-  free = λ e. e;
-  count = omega arith;
-  jobs = λ h life. within_here _ (λ can. Jobs 0 can (world_of life c.args.exec.now) (world_of life c.args.exec.now)) (λ can. refl);
-  spans = λ h life. spans_none c.args.exec.now life;
-  lasts = lasts_none c.args.exec.now;
-  calm = λ h. inr (inr (inl refl));
-}
+loop-init g c =
+    let jobs = steps_none c.args.exec.now (IsFlushAfter 4) (refl, λ more jobs. jobs) in let idle = c.requires.idle in search rules
 
-pub returns-then-run_job-clause-device_stops : goal.returns-then-run_job-clause-device_stops
-returns-then-run_job-clause-device_stops g c =
-    halts_short c.args.exec.now c.run_job.new.exec
-    (λ h life. (
-      executes_join _ (world_of life c.loop.exec) _ _ _ (jobs_execute c.args.exec.now c.loop.exec life c.loop.counter (c.loop.invariant.jobs h life))
-          (job_executes c.loop.exec c.take.new.self c.run_job.new.exec c.in-Ok.job life c.run_job.result h c.in-Ok.ensures.step c.run_job.ensures.run),
-      spans_then c.args.exec.now c.loop.exec c.run_job.new.exec _ _ _ (c.loop.invariant.spans h life)
-          (job_spans c.loop.exec c.take.new.self c.run_job.new.exec c.in-Ok.job life c.run_job.result h c.in-Ok.ensures.step c.in-Ok.ensures.job c.run_job.ensures.run),
-    ))
-    (lasts_then c.args.exec.now c.loop.exec c.run_job.new.exec c.loop.invariant.lasts (run_lasts c.loop.exec c.take.new.self c.run_job.new.exec c.in-Ok.job c.run_job.result c.in-Ok.ensures.job c.run_job.ensures.run))
+pub returns-in_err-run_next-clause-stops : goal.returns-in_err-run_next-clause-stops
+returns-in_err-run_next-clause-stops g c =
+    passed c.from_residual.result c.in_err-run_next.field-0.0 _ c.from_residual.ensures.1
+    (device_stops_then _ _ _ _ _ _ _ c.loop.invariant.jobs c.in_err-run_next.ensures.stops (λ xs ys p b. begins_then xs ys [] [] p.0 b))
 
-pub returns-then-run_job-clause-free : goal.returns-then-run_job-clause-free
-returns-then-run_job-clause-free g c = λ e.
-    let run = c.run_job.ensures.run in
-    gave_free run.finished _ _ run.over run.give (out_free c.loop.exec.device c.take.new.self.device (job_data c.in-Ok.job) c.in-Ok.ensures.step (c.loop.invariant.free e))
-
-pub returns-in-Err-Nothing-clause-flushes : goal.returns-in-Err-Nothing-clause-flushes
-returns-in-Err-Nothing-clause-flushes g c = record {
-  runs = λ h life. (
-    life,
-    flush_ends c.args.exec.now c.loop.exec c.take.new.self life c.loop.counter c.loop.invariant.count (c.loop.invariant.jobs h life)
-        (rw c.in-Err-Nothing.field-0-is at c.in-Err-Nothing.ensures.step) c.in-Err-Nothing.ensures.same c.in-Err-Nothing.ensures.idle_store,
-    spans_then c.args.exec.now c.loop.exec c.take.new.self _ _ _ (c.loop.invariant.spans h life) (still_spans c.loop.exec c.take.new.self life c.in-Err-Nothing.ensures.same c.in-Err-Nothing.ensures.idle_store),
-  );
-  lasts = lasts_then c.args.exec.now c.loop.exec c.take.new.self c.loop.invariant.lasts
-      (lasts_same c.loop.exec c.take.new.self (ap (λ (s : State). s.flush.store) c.in-Err-Nothing.ensures.same) c.in-Err-Nothing.ensures.idle_store);
-}
-
-pub returns-in-Err-Memory-clause-device_stops : goal.returns-in-Err-Memory-clause-device_stops
-returns-in-Err-Memory-clause-device_stops g c =
-    halts_short c.args.exec.now c.take.new.self
-    (λ h life. (
-      subst (λ w. Executes (world_of life c.args.exec.now) [] w) (sym (same_world c.loop.exec c.take.new.self life c.in-Err-Memory.ensures.same c.in-Err-Memory.ensures.idle_store))
-          (jobs_execute c.args.exec.now c.loop.exec life c.loop.counter (c.loop.invariant.jobs h life)),
-      spans_then c.args.exec.now c.loop.exec c.take.new.self _ _ _ (c.loop.invariant.spans h life) (still_spans c.loop.exec c.take.new.self life c.in-Err-Memory.ensures.same c.in-Err-Memory.ensures.idle_store),
-    ))
-    (lasts_then c.args.exec.now c.loop.exec c.take.new.self c.loop.invariant.lasts
-    (lasts_same c.loop.exec c.take.new.self (ap (λ (s : State). s.flush.store) c.in-Err-Memory.ensures.same) c.in-Err-Memory.ensures.idle_store))
+pub returns-in-Nothing-clause-flushes : goal.returns-in-Nothing-clause-flushes
+returns-in-Nothing-clause-flushes g c =
+    let some : 4 - c.loop.counter ≡ suc (4 - (c.loop.counter + 1)) = omega (arith, c.loop-test.true) in
+    steps_then _ _ _ _ _ _ c.loop.invariant.jobs (rw c.in-Nothing.is at c.in_ok-run_next.ensures.steps) (λ xs ys p none. p.1 ys (subst (λ (n : ℕ). Jobs n ys) (sym some) (inl none)))
 
 pub loop-preserved : goal.loop-preserved
 loop-preserved g c =
-    let run = c.run_job.ensures.run in
-    let long = c.if-run_job.false in
-    let idle = gave_back_idle run.finished _ _ run.over run.give in record {
-      idle = idle;
-      same_open = gave_open run.finished _ _ run.over run.give ∙ ap (λ (s : State). is_open s 1) (serves_took c.loop.exec.device c.take.new.self.device (Job (job_data c.in-Ok.job)) c.in-Ok.ensures.step).1 ∙ c.loop.invariant.same_open;
-      same_locks = gave_locks run.finished _ _ run.over run.give ∙ ap (λ (s : State). s.volatile.locks) (serves_took c.loop.exec.device c.take.new.self.device (Job (job_data c.in-Ok.job)) c.in-Ok.ensures.step).1 ∙ c.loop.invariant.same_locks;
-      free = λ e. gave_free run.finished _ _ run.over run.give (out_free c.loop.exec.device c.take.new.self.device (job_data c.in-Ok.job) c.in-Ok.ensures.step (c.loop.invariant.free e));
-      count = omega (arith, c.loop-test.true);
-      jobs = λ h life. jobs_more c.args.exec.now c.loop.exec c.run_job.new.exec life c.loop.counter (c.loop.invariant.jobs h life)
-          (job_done c.loop.exec c.take.new.self c.run_job.new.exec c.in-Ok.job life c.run_job.result h c.in-Ok.ensures.step c.in-Ok.ensures.job run long);
-      spans = λ h life. spans_then c.args.exec.now c.loop.exec c.run_job.new.exec _ _ _ (c.loop.invariant.spans h life)
-          (job_spans c.loop.exec c.take.new.self c.run_job.new.exec c.in-Ok.job life c.run_job.result h c.in-Ok.ensures.step c.in-Ok.ensures.job run);
-      lasts = lasts_then c.args.exec.now c.loop.exec c.run_job.new.exec c.loop.invariant.lasts (run_lasts c.loop.exec c.take.new.self c.run_job.new.exec c.in-Ok.job c.run_job.result c.in-Ok.ensures.job run);
-      calm = λ h. calm_after c.args.exec.now c.loop.counter c.loop.exec c.take.new.self c.run_job.new.exec c.in-Ok.job c.run_job.result h c.in-Ok.ensures.step c.in-Ok.ensures.job run long
-          c.loop.invariant.lasts.later (c.loop.invariant.calm h);
-    }
+    let some : 4 - c.loop.counter ≡ suc (4 - (c.loop.counter + 1)) = omega (arith, c.loop-test.true) in
+    let job = rw c.in-Job.is at c.in_ok-run_next.ensures.steps in let count : c.loop.counter + 1 ≤ 4 = omega (arith, c.loop-test.true) in
+    let jobs = one_more c.args.exec.now c.loop.exec c.run_next.new.exec (4 - (c.loop.counter + 1)) (rw (← some) c.loop.invariant.jobs) job in
+    let flushed : (before : ℕ) → IsTied before c.args.exec.now → IsFlushed before (failures_of c.run_next.new.exec) (c.loop.counter + 1) c.run_next.new.exec.device.flush = λ before t.
+    let was = c.loop.invariant.flushed before t in
+    let leaves = c.in_ok-run_next.ensures.left c.in-Job.is before (c.loop.invariant.jobs.tied before t) in let later = job.ran.later in
+    let work = c.in_ok-run_next.ensures.some c.in-Job.is in grind arith in
+    search rules
 
 pub returns-clause-flushes : goal.returns-clause-flushes
-returns-clause-flushes g c = record {
-  runs = λ h life. (
-    life,
-    flush_full c.args.exec.now c.loop.exec life c.loop.counter (omega (arith, c.loop.invariant.count, c.loop-test.false)) (c.loop.invariant.jobs h life),
-    c.loop.invariant.spans h life,
-  );
-  lasts = c.loop.invariant.lasts;
-}
+returns-clause-flushes g c =
+    let none : 4 - c.loop.counter ≡ 0 = omega (arith, c.loop-test.false) in
+    steps_as _ _ _ _ c.loop.invariant.jobs (λ steps p. subst IsFlush (append-nil steps) (p.1 [] (subst (λ (n : ℕ). Jobs n []) (sym none) refl)))
 
 pub returns-clause-clean : goal.returns-clause-clean
-returns-clause-clean g c = λ h.
-    let four : c.loop.counter ≡ 4 = omega (arith, c.loop.invariant.count, c.loop-test.false) in
-    ⊎_elim inl (λ rest. ⊎_elim (λ worn. inr (inl worn)) (λ clean. inr (inr (⊎_elim (λ none. absurd (omega (arith, none, four))) (λ whole. whole.1 (omega (arith, four))) clean))) rest) (c.loop.invariant.calm h)
+returns-clause-clean g c = λ before t. let flushed = c.loop.invariant.flushed before t in let all = c.loop-test.false in grind arith

@@ -1,6 +1,5 @@
-use Rattle.psu_run.specs.Lines.{messages}
-use Rattle.psu_run.specs.Script.{at_start}
-use Rattle.psu_run.proofs.SomeScript.{some_script}
+use Rattle.psu_run.proofs.Common.{at_start, messages}
+use Rattle.psu_run.proofs.Scripts.{some_script}
 use Rattle.psu_run.proofs.laws.every_input_has_a_script.Goals as goal
 
 pub returns : goal.returns

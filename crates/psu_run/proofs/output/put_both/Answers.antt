@@ -1,5 +1,4 @@
-use Rattle.psu_run.proofs.Fronts.{on_err}
-use Rattle.psu_run.proofs.OutputState.{short_behind}
+use Rattle.psu_run.proofs.Fronts.{on_err, short_behind}
 use Rattle.psu_run.proofs.output.put_both.Goals as goal
 
 pub returns-in_err-put-2-clause-short : goal.returns-in_err-put-2-clause-short

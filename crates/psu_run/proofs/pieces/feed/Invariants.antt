@@ -1,7 +1,5 @@
 use Rattle.std.proofs.Common.{◌≡◌, ◌≤◌, length}
-use Rattle.psu_messages.specs.ResponseBuffer.{nothing}
-use Rattle.psu_run.specs.Lines.{coming}
-use Rattle.psu_run.specs.Output.{output_state}
+use Rattle.psu_run.proofs.Common.{coming, nothing, output_state}
 use Rattle.psu_run.proofs.Feeding.{FedSo}
 use Rattle.psu_run.proofs.pieces.feed.Given as goal
 

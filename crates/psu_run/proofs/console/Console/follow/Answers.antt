@@ -2,16 +2,15 @@ use Rattle.psu_messages.proofs.Going.{kept_advances, kept_interrupted}
 use Rattle.std.proofs.Common.{None, ap, ◌∙◌}
 use Rattle.psu_messages.specs.Shown.{progress, progress_of}
 use Rattle.psu_messages.specs.Standing.{start}
-use Rattle.psu_run.specs.Effects.{line_source}
-use Rattle.psu_run.specs.Output.{held}
-use Rattle.psu_run.proofs.Following.{broken, whole}
+use Rattle.psu_run.proofs.Common.{held, line_source}
+use Rattle.psu_run.proofs.Feeding.{broken, whole}
 use Rattle.psu_run.proofs.console.Console.follow.Goals as goal
 
 pub returns-clause-breaks : goal.returns-clause-breaks
 returns-clause-breaks g c =
     let lines = c.args.lines.now in
-    broken (λ x. x.run_state.now.powered.exec) (λ x. held (g.W.Write.contents x.writer.now) x.run_state.now.unwritten.output.items) _ (λ x y effect d. d.2) (λ x y request cause f. f.2) (λ x y cause s. s.2)
-    (line_source lines.is_too_long lines.line.items) _ c.proceed-done.new.executor c.in-Err.cause c.proceed-done.new.progress.gathered _ (ap (progress start None) (c.replace-gathered.ensures.value ∙ c.requires.fresh)) c.in-Err.ensures.stops
+    broken (λ x. x.run_state.now.powered.exec) (λ x. held (g.W.Write.contents x.writer.now) x.run_state.now.unwritten.output.items) _ (line_source lines.is_too_long lines.line.items)
+    (λ x y effect d. d.2) (λ x y request cause f. f.2) (λ x y cause s. s.2) _ c.proceed-done.new.executor c.in-Err.cause c.proceed-done.new.progress.gathered _ (ap (progress start None) (c.replace-gathered.ensures.value ∙ c.requires.fresh)) c.in-Err.ensures.stops
 
 pub returns-clause-run_state : goal.returns-clause-run_state
 returns-clause-run_state g c = kept_interrupted c.in-Err.ensures.stops (λ x. x.run_state.ghost_name) (λ x y effect d. d.0) (λ x y request stop d. d.0) (λ x y stop d. d.0)

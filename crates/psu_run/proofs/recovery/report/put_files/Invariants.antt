@@ -1,5 +1,5 @@
 use Rattle.std.proofs.Common.{◌≡◌, ◌++◌, drop}
-use Rattle.psu_run.specs.Report.{file_lines}
+use Rattle.psu_run.specs.Recover.{file_lines}
 use Rattle.psu_run.proofs.recovery.report.put_files.Given as goal
 
 abbrev pub invariant-loop-file : goal.invariant-loop-file
