@@ -1,17 +1,15 @@
 -- A history happens, call by call.
 use Rattle.std.proofs.Common.{◌≡◌, Option, Some, None, List, [], ◌∷◌, refl, sym, ap, subst, inl, inr}
-use Rattle.std.specs.Prelude.{⊤}
 use Rattle.psu_disk.specs.Disk.{DiskState}
 use Rattle.psu_exec.specs.Device.{State}
 use Rattle.psu_exec.specs.Calls.{Entry, JobEnd, Allows}
-use Rattle.psu_exec.specs.Lives.{broken_life}
-use Rattle.psu_exec.specs.World.{World, Running, Event, Call, DiskCall, Loss, Stop, Restart, DiskAfter, DiskOfEnd, Happens, Run, accepted_end, recorded}
+use Rattle.psu_exec.specs.World.{World, Running, Event, Call, DiskCall, DiskAfter, DiskOfEnd, Happens, Run, accepted_end, recorded}
 use Rattle.psu_exec.proofs.BrokenLife.{breaks_and_mends}
 use Rattle.psu_exec.proofs.Events.{prefix_is_left}
 use Rattle.psu_turn.specs.History.{HistoryLeads}
 use Rattle.psu_turn.specs.declared.numbered.Numbered.{Numbered}
 use Rattle.psu_bench.specs.Calls.{AllowsOn, EndHasDisk, HasDisk}
-use Rattle.psu_bench.specs.Lives.{Happening, Called, Moved, HistoriesHappen, LeadsOverDisks, Lives, LivesAreEvents, SeenHistoriesHappen, SomeHistoryHappens, ThreadsLeavePrefix, by_one, calls_in}
+use Rattle.psu_bench.specs.Lives.{Happening, Called, Moved, HistoriesHappen, LeadsOverDisks, Lives, LivesAreEvents, SeenHistoriesHappen, SomeHistoryHappens, ThreadsLeavePrefix, calls_in}
 
 -- ---- happenings are events
 
@@ -98,28 +96,9 @@ seen_histories_happen honest w history last h running leads = happen history w l
 
 -- ---- a history that happens
 
--- no power loss, no end of the process and no restart
-IsUninterrupted : List Event → Type 0
-IsUninterrupted [] = ⊤
-IsUninterrupted (Call entry disk ∷ more) = IsUninterrupted more
-IsUninterrupted (DiskCall disk ∷ more) = IsUninterrupted more
-IsUninterrupted (Loss image ∷ more) = ⊥
-IsUninterrupted (Stop ∷ more) = ⊥
-IsUninterrupted (Restart limit contents ∷ more) = ⊥
-
-lives_of : (events : List Event) (w new : World) → IsUninterrupted events → Run w events new → Lives w (by_one events) new
-unfolding IsUninterrupted
-lives_of [] w new goes same = same
-lives_of (Call entry disk ∷ more) w new goes (mid, happens, rest) = (mid, happens, lives_of more mid new goes rest)
-lives_of (DiskCall disk ∷ more) w new goes (mid, happens, rest) = (mid, happens, lives_of more mid new goes rest)
-lives_of (Loss image ∷ more) w new goes run = absurd goes
-lives_of (Stop ∷ more) w new goes run = absurd goes
-lives_of (Restart limit contents ∷ more) w new goes run = absurd goes
-
 pub some_history_happens : SomeHistoryHappens
-unfolding IsUninterrupted
 some_history_happens first torn disk start moves either mends each =
-    let life = breaks_and_mends first torn disk start moves either mends each in (life.0, lives_of (broken_life first torn disk) first life.0 tt life.2, life.3)
+    let life = breaks_and_mends first torn disk start moves either mends each in (life.0, life.2, life.3)
 
 -- ---- possible crash images
 

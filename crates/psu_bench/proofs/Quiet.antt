@@ -1,13 +1,12 @@
--- Units and ends of waits that cause nothing, whatever session made the call.
+-- Tries that cause nothing, whatever session made them.
 use Rattle.std.proofs.Common.{◌≡◌, ℕ, false}
-use Rattle.psu_tree.specs.declared.command.Request.{Request}
-use Rattle.psu_exec.specs.Calls.Entry.{Executed, Settled}
 use Rattle.psu_exec.specs.Device.{Reply}
 use Rattle.psu_exec.specs.Quiet.{EachUnitIsQuiet, EachWaitIsQuiet, may_cause}
 use Rattle.psu_bench.specs.Callers.{CausesNothing}
+use Rattle.psu_bench.specs.Tries.{tried}
+use Rattle.psu_bench.specs.declared.operations.Try.{Try}
+use Rattle.psu_bench.specs.declared.operations.Try.TheVariants as how
 
-pub unit_causes_nothing : EachUnitIsQuiet → (honest : Type 0) (session : ℕ) (request : Request) (reply : Reply) → may_cause reply ≡ false → CausesNothing honest (Executed session request reply)
-unit_causes_nothing law honest session request reply quiet s new allows = law s new session request reply quiet allows.0
-
-pub wait_causes_nothing : EachWaitIsQuiet → (honest : Type 0) (session : ℕ) (reply : Reply) → may_cause reply ≡ false → CausesNothing honest (Settled session reply)
-wait_causes_nothing law honest session reply quiet s new allows = law s new session reply quiet allows.0
+pub try_causes_nothing : EachUnitIsQuiet → EachWaitIsQuiet → (honest : Type 0) (session : ℕ) (t : Try) (reply : Reply) → may_cause reply ≡ false → CausesNothing honest (tried session t reply)
+try_causes_nothing units waits honest session (how.Execute request) reply quiet s new allows = units s new session request.now reply quiet allows.0
+try_causes_nothing units waits honest session how.Settle reply quiet s new allows = waits s new session reply quiet allows.0

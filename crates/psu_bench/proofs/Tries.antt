@@ -1,14 +1,10 @@
 -- Tries of a worker, one after another.
-use Rattle.std.proofs.Common.{◌≡◌, ℕ, ◌+◌, true, All, length, Option, Some, None, List, [], ◌∷◌, ◌++◌, refl, ap, ◌∙◌, arith}
+use Rattle.std.proofs.Common.{append_assoc, ◌≡◌, ℕ, ◌+◌, true, All, length, Option, Some, None, List, [], ◌∷◌, ◌++◌, refl, ap, ◌∙◌, arith}
 use Rattle.std.proofs.lemmas.List.Elements.{All-push, All-nil}
 use Rattle.psu_tree.specs.declared.command.Request.{Request}
 use Rattle.psu_exec.specs.Device.{Reply}
 use Rattle.psu_exec.specs.Calls.{Entry}
 use Rattle.psu_bench.specs.Tries.{AreTries, is_put_off, try_after, tries_from}
-
-append_append : {X : Type 0} (a b c : List X) → (a ++ b) ++ c ≡ a ++ (b ++ c)
-append_append [] b c = refl
-append_append (x ∷ xs) b c = λ k. x ∷ append_append xs b c k
 
 -- one more try
 tries_more : (session : ℕ) (request : Request) (before : Option Reply) (replies : List Reply) (last reply : Reply)
@@ -36,7 +32,7 @@ pub tried_again : (session : ℕ) (request : Request) (tries left less : ℕ) (o
 tried_again session request tries left less old now new last reply t off is one = record {
   before = t.before ++ last ∷ [];
   are = is ∙ ap (λ (l : List Entry). l ++ try_after session request (Some last) reply ∷ []) t.are
-      ∙ append_append old (tries_from session request None (t.before ++ last ∷ [])) (try_after session request (Some last) reply ∷ [])
+      ∙ append_assoc old (tries_from session request None (t.before ++ last ∷ [])) (try_after session request (Some last) reply ∷ [])
       ∙ ap (λ (l : List Entry). old ++ l) (tries_more session request None t.before last reply);
   put_off = All-push (λ (r : Reply). is_put_off r ≡ true) t.before last t.put_off off;
   count = let longer = length_more t.before last in let count = t.count in omega (arith, longer, count, one);

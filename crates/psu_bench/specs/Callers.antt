@@ -7,15 +7,19 @@ use Rattle.psu_locks.specs.declared.results.Freed.{Freed}
 use Rattle.psu_locks.specs.declared.results.LockRefusal.{LockRefusal}
 use Rattle.psu_exec.specs.Device.{State}
 use Rattle.psu_exec.specs.Quiet.{IsQuiet}
-use Rattle.psu_exec.specs.Calls.{Entry, JobEnd, Taken, Job}
+use Rattle.psu_exec.specs.Calls.{Entry, Job}
 use Rattle.psu_exec.specs.Calls.Entry.{Took, GaveBack, Notified}
-use Rattle.psu_exec.specs.Jobs.{job_data}
+use Rattle.psu_exec.specs.Jobs.{RunsTo, finished_of, job_data}
+use Rattle.psu_exec.specs.Shown.{none_of}
+use Rattle.psu_exec.specs.declared.finished.End.{End}
 use Rattle.psu_exec.specs.declared.job.Job.{Job as AnyJob}
+use Rattle.psu_exec.specs.declared.no_job.NoJob.{NoJob}
 use Rattle.psu_bench.specs.Calls.{AllowsOn}
-use Rattle.psu_bench.specs.Rounds.{IsEndOf}
+use Rattle.psu_bench.specs.Rounds.{ending_of}
 use Rattle.psu_bench.specs.declared.caused.Caused.{Caused}
 use Rattle.psu_bench.specs.declared.caused_by_job.CausedByJob.{CausedByJob}
 use Rattle.psu_bench.specs.declared.granted.Granted.{Granted}
+use Rattle.psu_bench.specs.declared.caused_by_job.JobEnding.{JobEnding}
 
 -- The seat made this call, and perhaps took the notifications after it. What it has seen then is one legal history, which begins with all that it had seen
 -- and ends with what it called.
@@ -23,15 +27,28 @@ abbrev pub MakesCall : Type 0 → Sight State Entry → Entry → Sight State En
 MakesCall honest old entry new = SeatCalls (AllowsOn honest) old entry new
     ⊎ ((mid : Sight State Entry) × (asking : List ℕ) × (work : Bool) × SeatCalls (AllowsOn honest) old entry mid × SeatCalls (AllowsOn honest) mid (Notified asking work) new)
 
--- the result of a job was given back
-abbrev pub GivesBack : Type 0 → JobEnd → Sight State Entry → Sight State Entry → Type 0
-GivesBack honest end old new = (over : Option (List ℕ)) × MakesCall honest old (GaveBack end over) new
+-- the sessions whose waits the end of a job has ended; none if it is the job of another device
+abbrev pub over_sessions : Option (List ℕ) → List ℕ
+over_sessions (Some over) = over
+over_sessions None = []
 
--- A round of the flusher is a take. Where it gave a job, that very job is run, its result is given back, and nothing else is called.
-abbrev pub MakesRound : {D : Type 0} (G : Ghosts D) → Taken → Sight State Entry → Sight State Entry → Type 0
-MakesRound {D} G (Job d) old new =
-    (job : AnyJob D Global G) × (mid : Sight State Entry) × (d ≡ job_data job) × SeatCalls (AllowsOn (Ghosts.honest G)) old (Took (Job d)) mid × ((end : JobEnd) × IsEndOf job end × GivesBack (Ghosts.honest G) end mid new)
-MakesRound G taken old new = SeatCalls (AllowsOn (Ghosts.honest G)) old (Took taken) new
+-- The seat made a round of the flusher: it took a job, that very job was run, and its result was given back. Nothing else
+-- was called. The job ended so, and the waits of these sessions are over.
+pub record HasRun {D : Type 0} (A : Type 0) (G : Ghosts D) (ending : JobEnding) (over : List ℕ) (old new : Sight State Entry) : Type 0 where
+  pub job : AnyJob D A G
+  pub finished : End D A G
+  pub ran : RunsTo job finished
+  pub given : Option (List ℕ)
+  pub mid : Sight State Entry
+  pub took : SeatCalls (AllowsOn (Ghosts.honest G)) old (Took (Job (job_data job))) mid
+  pub gave : SeatCalls (AllowsOn (Ghosts.honest G)) mid (GaveBack (finished_of finished) given) new
+  pub ended : ending ≡ ending_of finished
+  pub are_over : over ≡ over_sessions given
+
+-- the seat made a round of the flusher; where it gave no job, this is a take alone
+abbrev pub MakesRound : {D : Type 0} (A : Type 0) (G : Ghosts D) → Result (JobEnding × List ℕ) NoJob → Sight State Entry → Sight State Entry → Type 0
+MakesRound A G (Ok (ending, over)) old new = HasRun A G ending over old new
+MakesRound A G (Err none) old new = SeatCalls (AllowsOn (Ghosts.honest G)) old (Took (none_of none)) new
 
 -- ---- what calls cause for other threads
 
@@ -44,11 +61,6 @@ freed_to sessions (Err refusal) = Err refusal
 abbrev pub released_of : Result (Freed × Granted) LockRefusal → Result (Freed × List ℕ) LockRefusal
 released_of (Ok (freed, granted)) = Ok (freed, granted.sessions)
 released_of (Err refusal) = Err refusal
-
--- the sessions whose waits the end of a job has ended; none if it is the job of another device
-abbrev pub over_sessions : Option (List ℕ) → List ℕ
-over_sessions (Some over) = over
-over_sessions None = []
 
 -- Whatever the state was, this call has caused nothing: no session has a new service request, and there is nothing new
 -- to flush.
@@ -64,7 +76,9 @@ IsNotified honest entry old (Some caused) new = SeatCalls (AllowsOn honest) old 
 abbrev pub Causes : Type 0 → Sight State Entry → Entry → Option Caused → Sight State Entry → Type 0
 Causes honest old entry caused new = (mid : Sight State Entry) × SeatCalls (AllowsOn honest) old entry mid × IsNotified honest entry mid caused new
 
--- the seat gave back the result of a job, which has caused what the notifications say that were then taken
-abbrev pub HasEnded : Type 0 → JobEnd → Sight State Entry → CausedByJob → Sight State Entry → Type 0
-HasEnded honest end old caused new = (over : Option (List ℕ)) × (mid : Sight State Entry) × (work : Bool) × (caused.over ≡ over_sessions over)
-    × SeatCalls (AllowsOn honest) old (GaveBack end over) mid × SeatCalls (AllowsOn honest) mid (Notified caused.requesting work) new
+-- The seat made a round of the flusher. What the end of its job has caused is what the notifications say that were then
+-- taken.
+abbrev pub CausesByRound : {D : Type 0} (G : Ghosts D) → Result CausedByJob NoJob → Sight State Entry → Sight State Entry → Type 0
+CausesByRound G (Ok caused) old new = (mid : Sight State Entry) × (work : Bool)
+    × HasRun Global G caused.ending caused.over old mid × SeatCalls (AllowsOn (Ghosts.honest G)) mid (Notified caused.requesting work) new
+CausesByRound G (Err none) old new = SeatCalls (AllowsOn (Ghosts.honest G)) old (Took (none_of none)) new

@@ -3,7 +3,7 @@
 use Rattle.std.specs.Prelude.{◌≡◌, ◌<◌, ◌+◌, ◌-◌, ◌^◌, ℕ, min, Some}
 use Rattle.psu_bench.specs.declared.reported_condition.ReportedCondition.{ReportedCondition}
 use Rattle.psu_bench.specs.declared.condition_lines.ConditionLines.{ConditionLines}
-use Rattle.psu_bench.specs.declared.condition_line.ConditionLine.{ConditionLine}
+use Rattle.psu_bench.specs.declared.condition_lines.ConditionLine.{ConditionLine}
 use Rattle.psu_bench.specs.Seconds.{left_of_second}
 
 -- after a change to this condition

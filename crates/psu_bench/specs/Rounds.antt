@@ -1,11 +1,14 @@
 -- The calls of the flusher.
-use Rattle.std.specs.Prelude.{◌≡◌, ◌⊎◌, ℕ, zero, suc, Option, List, [], ◌∷◌, ◌++◌}
+use Rattle.std.specs.Prelude.{◌≡◌, ℕ, zero, suc, Option, List, [], ◌∷◌, ◌++◌}
 use Rattle.psu_disk.specs.declared.disk.Disk.{Ghosts}
-use Rattle.psu_exec.specs.Calls.{Entry, JobData, JobEnd, Taken, Commit, Reopen, Job, Nothing, Out, Memory}
-use Rattle.psu_exec.specs.Calls.JobEnd.{Stored, Unstarted, Failed, Reopened}
+use Rattle.psu_exec.specs.Calls.{Entry, JobEnd, Taken, Job, Nothing, Out, Memory}
 use Rattle.psu_exec.specs.Calls.Entry.{Took, GaveBack}
 use Rattle.psu_exec.specs.Jobs.{RunsTo, finished_of, job_data}
 use Rattle.psu_exec.specs.declared.finished.End.{End}
+use Rattle.psu_exec.specs.declared.finished.End.TheVariants as finished
+use Rattle.psu_items.specs.declared.commit.UnstartedCause.TheVariants as unstarted
+use Rattle.psu_bench.specs.declared.caused_by_job.JobEnding.{JobEnding}
+use Rattle.psu_bench.specs.declared.caused_by_job.JobEnding.TheVariants as ending
 use Rattle.psu_exec.specs.declared.job.Job.{Job as AnyJob}
 
 -- The history's end of a job is that of a possible result of its run. A run states more than the history holds: which
@@ -13,13 +16,13 @@ use Rattle.psu_exec.specs.declared.job.Job.{Job as AnyJob}
 abbrev pub IsEndOf : {D A : Type 0} {G : Ghosts D} → AnyJob D A G → JobEnd → Type 0
 IsEndOf {D} {A} {G} job end = (finished : End D A G) × RunsTo job finished × (end ≡ finished_of finished)
 
--- What that is in the history's terms (`suits`, in proofs/Rounds.antt): a reopening finds the map before or the
--- target, and is Failed if it finds neither.
-abbrev pub Suits : JobData → JobEnd → Type 0
-Suits job (Stored limit map) = (job.kind ≡ Commit) × (limit ≡ job.limit) × (map ≡ job.target)
-Suits job (Unstarted limit before edits cause) = (job.kind ≡ Commit) × (limit ≡ job.limit) × (before ≡ job.before) × (edits ≡ job.edits)
-Suits job (Failed limit before edits cause) = (limit ≡ job.limit) × (before ≡ job.before) × (edits ≡ job.edits)
-Suits job (Reopened limit map) = (job.kind ≡ Reopen) × (limit ≡ job.limit) × ((map ≡ job.before) ⊎ (map ≡ job.target))
+-- how a finished job ended
+abbrev pub ending_of : {D A : Type 0} {G : Ghosts D} → End D A G → JobEnding
+ending_of (finished.Stored store) = ending.Stored
+ending_of (finished.Reopened store) = ending.Reopened
+ending_of (finished.Broken broken) = ending.Broken
+ending_of (finished.Unstarted store batch unstarted.Worn) = ending.Worn
+ending_of (finished.Unstarted store batch unstarted.Memory) = ending.OutOfMemory
 
 -- A round is a take. If it returned a job, that very job is run, and its result is given back. Nothing else is called.
 abbrev pub IsRound : {D : Type 0} (A : Type 0) (G : Ghosts D) → Taken → List Entry → Type 0

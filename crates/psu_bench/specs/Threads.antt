@@ -1,5 +1,5 @@
 -- What threads do with a disk: the calls of a history, the runs of its jobs, and the disks that these leave.
-use Rattle.std.specs.Prelude.{◌≡◌, ℕ, ◌≤◌, false, Option, Some, None, List, [], ◌∷◌, ⊤}
+use Rattle.std.specs.Prelude.{◌≡◌, ℕ, ◌≤◌, false, Option, Some, None, List, [], ◌∷◌}
 use Rattle.psu_disk.specs.Disk.{DiskState, IsCrashImage, LeavesOnly}
 use Rattle.psu_disk.specs.declared.disk.Disk.{Ghosts}
 use Rattle.psu_items.specs.Image.{Represents, IsEither}

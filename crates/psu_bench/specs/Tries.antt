@@ -4,6 +4,13 @@ use Rattle.psu_tree.specs.declared.command.Request.{Request}
 use Rattle.psu_exec.specs.Device.{Reply, Parked, Held, Later}
 use Rattle.psu_exec.specs.Calls.{Entry}
 use Rattle.psu_exec.specs.Calls.Entry.{Executed, Settled}
+use Rattle.psu_bench.specs.declared.operations.Try.{Try}
+use Rattle.psu_bench.specs.declared.operations.Try.TheVariants as how
+
+-- the call that a try of a unit is
+abbrev pub tried : ℕ → Try → Reply → Entry
+tried session (how.Execute request) reply = Executed session request.now reply
+tried session how.Settle reply = Settled session reply
 
 -- whether the unit is to be tried again
 abbrev pub is_put_off : Reply → Bool

@@ -5,11 +5,11 @@ ghost use Rattle.psu_exec.specs.Calls.Entry.{Executed, Settled, Took, GaveBack, 
 ghost use Rattle.psu_exec.specs.Shown.{outcome_of, over_of};
 ghost use Rattle.psu_bench.specs.Calls.{AllowsOn, session_of};
 
-use crate::boxed_device::BoxedDevice;
+use crate::machine::BoxedDevice;
 use crate::operation::Operation;
 use crate::operations::{
-    Clear, CloseSession, Execute, Fetch, GiveBack, Inform, Lock, MarkDelivered, MarkSent,
-    NextDeadline, Notify, OpenSession, Query, Release, Settle, Take, Tick,
+    Clear, CloseSession, Fetch, GiveBack, Inform, Lock, MarkDelivered, MarkSent, NextDeadline,
+    Notify, OpenSession, Query, Release, Take, Tick, Try, TryUnit,
 };
 use crate::{Call, DeviceState};
 use psu_disk::Disk;
@@ -21,15 +21,19 @@ use psu_turn::{NoMemory, Turn};
 use std::alloc::Allocator;
 use std::marker::{Brand, Model};
 use std::snapshot::Snapshot;
-use std::sync::Wait;
+use std::sync::{Mutex, Wait};
 
 /// The handle that a thread needs for its calls of a bench.
 pub type Seat = psu_turn::Seat<DeviceState, Call>;
 
 /// The device's state, shared by threads that call it in turns. Contracts see which bench it is.
+///
+/// Before its turn a thread takes a mutex, at which threads wait asleep: many threads that waited for the turn itself
+/// would take the processor from each other. No other lock is taken while a thread holds it.
 #[derive(Drop)]
 pub struct Bench<D: Disk, A: Allocator + Copy> {
     turn: Turn<BoxedDevice<D, A>, A>,
+    pub(crate) mutex: Mutex<()>,
 }
 
 impl<D: Disk, A: Allocator + Copy> Model for Bench<D, A> {
@@ -57,7 +61,13 @@ impl<D: Disk, A: Allocator + Copy> Bench<D, A> {
             }),
         };
         match Turn::new(alloc, BoxedDevice { exec }) {
-            Ok((turn, seat)) => Ok((Bench { turn }, seat)),
+            Ok((turn, seat)) => Ok((
+                Bench {
+                    turn,
+                    mutex: Mutex::new(()),
+                },
+                seat,
+            )),
             Err(
                 NoMemory {
                     object: BoxedDevice { exec },
@@ -70,6 +80,21 @@ impl<D: Disk, A: Allocator + Copy> Bench<D, A> {
 
     /// Performs an operation, in a turn.
     pub fn call<R: Wait, O: Operation<D, A>>(
+        &self,
+        rt: &R,
+        seat: &mut Seat,
+        operation: O,
+    ) -> O::Reply
+        requires own { IsOf self.now seat.old }
+        ensures call { SeatCalls (AllowsOn D.honest) seat.old (O.entry operation result) seat.new }
+        ensures own { IsOf self.now seat.new }
+    {
+        let _guard = self.mutex.lock(rt);
+        self.in_turn(rt, seat, operation)
+    }
+
+    // Performs an operation, in a turn, for a thread that has the mutex. Each call of the device is made here.
+    pub(crate) fn in_turn<R: Wait, O: Operation<D, A>>(
         &self,
         rt: &R,
         seat: &mut Seat,
@@ -98,7 +123,7 @@ impl<D: Disk, A: Allocator + Copy> Bench<D, A> {
         ensures call { SeatCalls (AllowsOn D.honest) seat.old (Executed session request.now (outcome_of result)) seat.new }
         ensures own { IsOf self.now seat.new }
     {
-        self.call(rt, seat, Execute { session, request })
+        self.call(rt, seat, TryUnit(session, Try::Execute(request)))
     }
 
     /// Returns the result of a session's wait, in a turn; Later if the session isn't open.
@@ -107,7 +132,7 @@ impl<D: Disk, A: Allocator + Copy> Bench<D, A> {
         ensures call { SeatCalls (AllowsOn D.honest) seat.old (Settled session (outcome_of result)) seat.new }
         ensures own { IsOf self.now seat.new }
     {
-        self.call(rt, seat, Settle(session))
+        self.call(rt, seat, TryUnit(session, Try::Settle))
     }
 
     /// Takes a job, in a turn.
@@ -307,7 +332,7 @@ impl<D: Disk, A: Allocator + Copy> Bench<D, A> {
         requires own { IsOf self seat }
         ensures close { Closes (AllowsOn D.honest) seat result.device }
     {
-        let Bench { turn } = self;
+        let Bench { turn, mutex: _ } = self;
         let BoxedDevice { exec } = turn.close(rt, seat);
         Box::into_inner(exec)
     }

@@ -1,36 +1,66 @@
 //! A thread's calls of the device.
 ghost use Rattle.std.specs.Prelude.{◌≡◌, ◌⊎◌, ◌↔◌, ℕ, Bool, List, [], Ok, IfOk, IsTrue, is_some, true};
 ghost use Rattle.std.specs.Arc.{arc_value};
-ghost use Rattle.psu_turn.specs.Seats.{Begins, SeatCalls, IsOf, Splits};
-ghost use Rattle.psu_exec.specs.Calls.Entry.{Executed, Settled, Took, Opened, Closed, Cleared, Sent, Delivered, Queried, Fetched, Notified, Locked, Released, Ticked, Informed, Due};
+ghost use Rattle.psu_turn.specs.Seats.{SeatCalls, IsOf};
+ghost use Rattle.psu_exec.specs.Calls.Entry.{Closed, Sent, Notified, Locked, Released, Ticked};
 ghost use Rattle.psu_exec.specs.Quiet.{may_cause};
-ghost use Rattle.psu_exec.specs.Shown.{outcome_of, over_of};
-ghost use Rattle.psu_tree.specs.declared.command.Request.{Request as UnitRequest};
+ghost use Rattle.psu_exec.specs.Shown.{outcome_of};
 ghost use Rattle.psu_locks.specs.declared.results.Grant.TheVariants as grants;
-ghost use Rattle.psu_bench.specs.Calls.{AllowsOn, session_of};
-ghost use Rattle.psu_bench.specs.Callers.{Causes, GivesBack, HasEnded, IsNotified, MakesCall, over_sessions, released_of};
+ghost use Rattle.psu_bench.specs.Calls.{AllowsOn};
+ghost use Rattle.psu_bench.specs.Callers.{Causes, CausesByRound, IsNotified, MakesCall, released_of};
+ghost use Rattle.psu_bench.specs.Tries.{tried};
+ghost use Rattle.psu_bench.specs.declared.operations.Try.{Try as AnyTry};
 
 use crate::operation::Operation;
-use crate::operations::{CloseSession, Lock, MarkSent, Release, Tick};
-use crate::{
-    Bench, Caused, CausedByJob, Gate, Granted, Point, Seat, ServedDisk, SharedGate, Visit,
-};
+use crate::operations::{CloseSession, Lock, MarkSent, Notify, Release, Tick, Try, TryUnit};
+use crate::{Bench, Caused, CausedByJob, Gate, Granted, Point, Seat, ServedDisk, SharedGate};
 use psu_disk::Disk;
 use psu_exec::{
-    Exec, Finished, Freed, Grant, Kind, LockRefusal, Outcome, Request, Session, Sessions, Stranger,
-    units_and_waits_are_quiet,
+    Freed, Grant, Kind, LockRefusal, NoJob, Outcome, Session, units_and_waits_are_quiet,
 };
-use std::alloc::{AllocError, Global};
-use std::sync::{Arc, Wait};
+use std::alloc::Global;
+use std::marker::Model;
+use std::sync::{Arc, MutexGuard, Wait};
 
-/// A thread's access to the device: the bench, a seat of its own there, and the gate. Each call says what the seat has
-/// then seen. Calls are made in a visit, under the lock of the device.
+// The mutex of the bench, where a caller keeps it from one call to the next. Contracts see nothing of it, since it
+// changes no call.
 #[derive(Drop)]
-pub struct Caller<D: ServedDisk> {
-    bench: Arc<Bench<D, Global>>,
+struct KeptLock<'b> {
+    guard: Option<MutexGuard<'b, ()>>,
+}
+
+impl<'b> Model for KeptLock<'b> {
+    ghost Value = { Unit {0} };
+
+    ghost view = { λ _. tt };
+}
+
+impl<'b> KeptLock<'b> {
+    // Keeps the mutex for the next call.
+    fn keep(&mut self, guard: MutexGuard<'b, ()>)
+        ensures { self.new ≡ self.old }
+    {
+        self.guard = Some(guard);
+    }
+
+    // Releases the mutex, where it is kept.
+    fn release(&mut self)
+        ensures { self.new ≡ self.old }
+    {
+        self.guard = None;
+    }
+}
+
+/// What a thread calls the device by: the bench, a seat of its own there, and the gate. Each call says what the seat has
+/// then seen. It takes the mutex of the bench and releases it, but for a query that is answered: its response is mostly
+/// sent at once, in the same critical section.
+#[derive(Drop)]
+pub struct Caller<'b, D: ServedDisk> {
+    bench: &'b Arc<Bench<D, Global>>,
     seat: Seat,
     gate: SharedGate<D::Gate>,
-    ghost same: { seat.turn ≡ arc_value bench },
+    kept: KeptLock<'b>,
+    ghost same: { seat.turn ≡ arc_value bench.now },
     ghost here: { is_some seat.opening ≡ true },
 }
 
@@ -41,7 +71,7 @@ fn may_cause(outcome: &Outcome<Global>) -> bool
     matches!(outcome, Outcome::Done | Outcome::Error(_))
 }
 
-// Returns what a unit, or the end of a wait, with this outcome may have caused; none where it causes nothing.
+// Returns what a try with this outcome may have caused; none where it causes nothing. The thread has the mutex.
 fn caused_by<D: Disk, R: Wait>(
     rt: &R,
     bench: &Bench<D, Global>,
@@ -50,94 +80,81 @@ fn caused_by<D: Disk, R: Wait>(
 ) -> Option<Caused>
     requires own { IsOf bench.now seat.old }
     ensures call { (seat.new ≡ seat.old) ⊎ ((asking : List ℕ) × (work : Bool) × SeatCalls (AllowsOn D.honest) seat.old (Notified asking work) seat.new) }
-    ensures unit { (session : ℕ) → (request : UnitRequest)
-        → IsNotified D.honest (Executed session request (outcome_of outcome.now)) seat.old result seat.new }
-    ensures wait { (session : ℕ) → IsNotified D.honest (Settled session (outcome_of outcome.now)) seat.old result seat.new }
+    ensures caused { (session : ℕ) (how : AnyTry)
+        → IsNotified D.honest (tried session how (outcome_of outcome.now)) seat.old result seat.new }
     ensures own { IsOf bench.now seat.new }
 {
     units_and_waits_are_quiet();
     if !may_cause(outcome) {
         return None;
     }
-    Some(Caused::of(bench.take_notifications(rt, seat)))
+    Some(Caused::of(bench.in_turn(rt, seat, Notify)))
 }
 
-// Returns the sessions whose waits are over. The end of another device's job ends none here, and is discarded.
-fn sessions_over<D: Disk + Drop>(given: Result<Sessions, Stranger<D, Global>>) -> Sessions
-    ensures { result ≡ over_sessions (over_of given) }
-{
-    match given {
-        Ok(over) => over,
-        Err(stranger) => {
-            stranger.discard();
-            Sessions::new()
+impl<'b, D: ServedDisk> Caller<'b, D> {
+    /// Creates a caller with this seat of a bench.
+    pub fn new(
+        bench: &'b Arc<Bench<D, Global>>,
+        seat: Seat,
+        gate: SharedGate<D::Gate>,
+    ) -> Caller<'b, D>
+        requires same { seat.turn ≡ arc_value bench.now }
+        requires here { is_some seat.opening ≡ true }
+        ensures { result.seat ≡ seat }
+    {
+        Caller {
+            bench,
+            seat,
+            gate,
+            kept: KeptLock { guard: None },
         }
     }
-}
 
-impl<D: ServedDisk> Caller<D> {
-    ghost use Rattle.psu_exec.specs.Jobs.{finished_of, taken_of};
-
-    /// Creates the first caller of a device. The history begins in the state that the device has now, and has no call.
-    pub fn new(
-        alloc: Global,
-        exec: Exec<D, Global>,
-        gate: SharedGate<D::Gate>,
-    ) -> Result<Caller<D>, AllocError>
-        ensures begins { IfOk result (λ caller. Begins caller.seat.turn exec.device caller.seat) }
+    // Takes the mutex, unless it is kept.
+    fn enter<R: Wait>(&mut self, rt: &R) -> MutexGuard<'b, ()>
+        ensures { self.new.seat ≡ self.old.seat }
     {
-        let Ok((bench, seat)) = Bench::new(alloc, exec) else {
-            return Err(AllocError);
-        };
-        let bench = Arc::new(alloc, bench)?;
-        Ok(Caller { bench, seat, gate })
+        match self.kept.guard.take() {
+            Some(guard) => guard,
+            None => self.bench.mutex.lock(rt),
+        }
     }
 
-    /// Creates a caller for another thread.
-    #[tactic(auto, using(crate::proofs::Seats::is_of))]
-    pub fn split(&mut self) -> Result<Caller<D>, AllocError>
-        ensures same { self.new.seat ≡ self.old.seat }
-        ensures split { IfOk result (λ other. Splits self.old.seat other.seat) }
+    /// Releases the mutex, if it is kept from a query.
+    pub fn leave(&mut self)
+        ensures { self.new ≡ self.old }
     {
-        let bench = Arc::try_clone(&self.bench)?;
-        let gate = self.gate.another()?;
-        let seat = self.bench.split(&mut self.seat);
-        Ok(Caller { bench, seat, gate })
+        self.kept.release();
     }
 
     /// Performs an operation.
     #[tactic(auto, using(crate::proofs::Seats::is_of))]
-    pub fn call<R: Wait, O: Operation<D, Global>>(
-        &mut self,
-        rt: &R,
-        visit: &mut Visit<'_>,
-        operation: O,
-    ) -> O::Reply
+    pub fn call<R: Wait, O: Operation<D, Global>>(&mut self, rt: &R, operation: O) -> O::Reply
         ensures call { SeatCalls (AllowsOn D.honest) self.old.seat (O.entry operation result) self.new.seat }
     {
-        let _guard = visit.enter(rt);
-        self.bench.call(rt, &mut self.seat, operation)
+        let _guard = self.enter(rt);
+        self.bench.in_turn(rt, &mut self.seat, operation)
     }
 
-    /// Executes one unit of a session, in one try. Returns its result, and what it may have caused: none unless it is done
-    /// or refused. After a query that is answered the visit keeps the lock, as its response is mostly sent at once; else
+    /// Tries a unit of a session. Returns its result, and what it may have caused: none unless the unit, or its wait, is
+    /// done or refused. After a query that is answered the mutex is kept, as its response is mostly sent at once; else
     /// the gate is called.
     #[tactic(auto, using(crate::proofs::Seats::is_of))]
-    pub fn execute<R: Wait>(
+    pub fn try_unit<R: Wait>(
         &mut self,
         rt: &R,
-        visit: &mut Visit<'_>,
         session: Session,
-        request: &Request<'_>,
+        how: Try<'_, '_>,
     ) -> (Outcome<Global>, Option<Caused>)
-        ensures call { MakesCall D.honest self.old.seat (Executed session request.now (outcome_of result.0)) self.new.seat }
-        ensures caused { Causes D.honest self.old.seat (Executed session request.now (outcome_of result.0)) result.1 self.new.seat }
+        ensures call { MakesCall D.honest self.old.seat (tried session how.entry (outcome_of result.0)) self.new.seat }
+        ensures caused { Causes D.honest self.old.seat (tried session how.entry (outcome_of result.0)) result.1 self.new.seat }
     {
-        let guard = visit.enter(rt);
-        let outcome = self.bench.execute(rt, &mut self.seat, session, request);
-        let caused = caused_by(rt, &self.bench, &mut self.seat, &outcome);
+        let guard = self.enter(rt);
+        let unit = TryUnit(session, how);
+        let outcome = self.bench.in_turn(rt, &mut self.seat, unit);
+        let caused = caused_by(rt, self.bench, &mut self.seat, &outcome);
         match outcome {
-            Outcome::Answer(_) => visit.keep(guard),
+            Outcome::Answer(_) => self.kept.keep(guard),
             _ => {
                 drop(guard);
                 self.gate.at(Point::AfterAnswer);
@@ -146,61 +163,34 @@ impl<D: ServedDisk> Caller<D> {
         (outcome, caused)
     }
 
-    /// Returns the result of a session's wait, and what its end may have caused: none unless it is done or refused.
+    /// Makes a round of the flusher, and takes the notifications after it. Returns how the job ended and what that has
+    /// caused, or why there is no job.
     #[tactic(auto, using(crate::proofs::Seats::is_of))]
-    pub fn settle<R: Wait>(
-        &mut self,
-        rt: &R,
-        visit: &mut Visit<'_>,
-        session: Session,
-    ) -> (Outcome<Global>, Option<Caused>)
-        ensures call { MakesCall D.honest self.old.seat (Settled session (outcome_of result.0)) self.new.seat }
-        ensures caused { Causes D.honest self.old.seat (Settled session (outcome_of result.0)) result.1 self.new.seat }
+    pub fn round<R: Wait>(&mut self, rt: &R) -> Result<CausedByJob, NoJob>
+        ensures calls { CausesByRound D.Disk result self.old.seat self.new.seat }
     {
-        let _guard = visit.enter(rt);
-        let outcome = self.bench.settle(rt, &mut self.seat, session);
-        let caused = caused_by(rt, &self.bench, &mut self.seat, &outcome);
-        (outcome, caused)
-    }
-
-    /// Gives back a finished job, and returns what that has caused. The end of another device's job is discarded.
-    #[tactic(auto, using(crate::proofs::Seats::is_of))]
-    pub fn give_back<R: Wait>(
-        &mut self,
-        rt: &R,
-        visit: &mut Visit<'_>,
-        finished: Finished<D, Global>,
-    ) -> CausedByJob
-        ensures call { GivesBack D.honest (finished_of finished.end) self.old.seat self.new.seat }
-        ensures caused { HasEnded D.honest (finished_of finished.end) self.old.seat result self.new.seat }
-    {
-        let _guard = visit.enter(rt);
-        let given = self.bench.give_back(rt, &mut self.seat, finished);
+        self.leave();
+        let (ending, over) = self.bench.round(rt, &mut self.seat, &self.gate)?;
         let notifications = self.bench.take_notifications(rt, &mut self.seat);
-        CausedByJob::new(sessions_over(given), notifications.requesting)
+        Ok(CausedByJob::new(ending, over, notifications.requesting))
     }
 
     /// Closes a session. Returns the sessions whose lock requests were then granted.
     #[tactic(auto, using(crate::proofs::Seats::is_of))]
-    pub fn close_session<R: Wait>(
-        &mut self,
-        rt: &R,
-        visit: &mut Visit<'_>,
-        session: Session,
-    ) -> Granted
+    pub fn close_session<R: Wait>(&mut self, rt: &R, session: Session) -> Granted
         ensures call { SeatCalls (AllowsOn D.honest) self.old.seat (Closed session result.sessions) self.new.seat }
         ensures grant { result.grant ≡ grants.Granted }
     {
-        let granted = self.call(rt, visit, CloseSession(session));
+        let granted = self.call(rt, CloseSession(session));
         Granted::new(granted, Grant::Granted)
     }
 
     /// Records that a response is sent to a session, and calls the gate. Returns what that has caused.
     #[tactic(auto, using(crate::proofs::Seats::is_of))]
-    pub fn mark_sent<R: Wait>(&mut self, rt: &R, visit: &mut Visit<'_>, session: Session) -> Caused
+    pub fn mark_sent<R: Wait>(&mut self, rt: &R, session: Session) -> Caused
         ensures call { SeatCalls (AllowsOn D.honest) self.old.seat (Sent session result.requesting result.wakes_flusher) self.new.seat }
     {
-        let notifications = self.call(rt, visit, MarkSent(session));
+        let notifications = self.call(rt, MarkSent(session));
         self.gate.at(Point::AfterAnswer);
         Caused::of(notifications)
     }
@@ -211,7 +201,6 @@ impl<D: ServedDisk> Caller<D> {
     pub fn lock<R: Wait>(
         &mut self,
         rt: &R,
-        visit: &mut Visit<'_>,
         session: Session,
         kind: Kind,
         now: u64,
@@ -227,7 +216,7 @@ impl<D: ServedDisk> Caller<D> {
             now,
             timeout,
         };
-        let reply = self.call(rt, visit, operation);
+        let reply = self.call(rt, operation);
         let caused = Caused::by_request(&reply);
         (reply, caused)
     }
@@ -237,30 +226,22 @@ impl<D: ServedDisk> Caller<D> {
     pub fn release<R: Wait>(
         &mut self,
         rt: &R,
-        visit: &mut Visit<'_>,
         session: Session,
     ) -> Result<(Freed, Granted), LockRefusal>
         ensures call { SeatCalls (AllowsOn D.honest) self.old.seat (Released session (released_of result)) self.new.seat }
         ensures grant { IfOk result (λ released. released.1.grant ≡ grants.Granted) }
     {
-        match self.call(rt, visit, Release(session)) {
-            Ok((freed, granted)) => Ok((freed, Granted::new(granted, Grant::Granted))),
-            Err(refusal) => Err(refusal),
-        }
+        let (freed, granted) = self.call(rt, Release(session))?;
+        Ok((freed, Granted::new(granted, Grant::Granted)))
     }
 
     /// Fails the lock requests whose timeout has expired, and returns their sessions.
     #[tactic(auto, using(crate::proofs::Seats::is_of))]
-    pub fn tick<R: Wait>(&mut self, rt: &R, visit: &mut Visit<'_>, now: u64) -> Granted
+    pub fn tick<R: Wait>(&mut self, rt: &R, now: u64) -> Granted
         ensures call { SeatCalls (AllowsOn D.honest) self.old.seat (Ticked now result.sessions) self.new.seat }
         ensures grant { result.grant ≡ grants.Failed }
     {
-        let failed = self.call(rt, visit, Tick(now));
+        let failed = self.call(rt, Tick(now));
         Granted::new(failed, Grant::Failed)
-    }
-
-    /// Calls the gate before a job is run.
-    pub fn before_run(&self) {
-        self.gate.at(Point::BeforeRun);
     }
 }

@@ -4,8 +4,30 @@ ghost use Rattle.psu_bench.specs.Lines.{IsDue, due_line, with_change, with_line}
 ghost use Rattle.psu_bench.specs.Seconds.{left_of_second};
 ghost use Rattle.psu_bench.specs.declared.reported_condition.ReportedCondition.TheVariants.{Works};
 
-use crate::second::left_of_second;
-use crate::{ConditionLine, ReportedCondition};
+use crate::ReportedCondition;
+use crate::reopenings::left_of_second;
+use std::fmt;
+
+/// A line on the store's condition for an operator.
+#[derive(Clone, Copy, Debug, PartialEq, Eq)]
+pub struct ConditionLine {
+    /// The latest condition.
+    pub condition: ReportedCondition,
+    /// How often the condition has changed since the line before.
+    pub changes: u64,
+}
+
+impl fmt::Display for ConditionLine {
+    fn fmt<W: fmt::Write>(&self, f: &mut fmt::Formatter<W>) -> fmt::Result {
+        let condition = self.condition;
+        let changes = self.changes;
+        write!(f, "{condition}")?;
+        if changes > 1 {
+            write!(f, " (changed {changes} times)")?;
+        }
+        Ok(())
+    }
+}
 
 /// Which lines on the store's condition an operator is to read, and when: at most one a second, with how often the
 /// condition has changed since the line before.

@@ -1,19 +1,58 @@
-//! The thread that flushes.
+//! The rounds of the flusher.
 ghost use Rattle.std.specs.Prelude.{◌≡◌, ◌<◌, ◌++◌, List};
 ghost use Rattle.psu_turn.specs.Seats.{IsOf, IsSame};
-ghost use Rattle.psu_exec.specs.Calls.{Entry, Taken};
-ghost use Rattle.psu_bench.specs.Rounds.{IsRound, AreRounds};
+ghost use Rattle.psu_exec.specs.Calls.{Entry};
+ghost use Rattle.psu_exec.specs.Shown.{over_of};
+ghost use Rattle.psu_bench.specs.Callers.{MakesRound, over_sessions};
+ghost use Rattle.psu_bench.specs.Rounds.{AreRounds};
 ghost use Rattle.psu_bench.specs.Seen.{HasSeen};
 
-use crate::{Bench, Gate, Point, Seat};
+use crate::{Bench, Gate, JobEnding, Point, Seat};
 use psu_disk::Disk;
-use psu_exec::{Sessions, Stranger};
+use psu_exec::{NoJob, Sessions, Stranger};
 use std::alloc::Allocator;
 use std::sync::Wait;
 
-/// Runs this number of rounds: each takes a job, runs it outside the turn, and gives back its result. The gate is
-/// called before a job is run. With one round it returns at once. It is for a program without the server, whose own
-/// flusher is in psu_threads.
+impl<D: Disk + Drop, A: Allocator + Copy> Bench<D, A> {
+    /// Makes a round: takes a job, runs it outside the turn, and gives back its result. The gate is called before the job
+    /// is run. Returns how the job ended, with the sessions whose waits are over, or why there is no job.
+    pub fn round<R: Wait, G: Gate>(
+        &self,
+        rt: &R,
+        seat: &mut Seat,
+        gate: &G,
+    ) -> Result<(JobEnding, Sessions), NoJob>
+        requires own { IsOf self.now seat.old }
+        ensures calls { MakesRound A D.Disk result seat.old seat.new }
+        ensures own { IsOf self.now seat.new }
+    {
+        let job = self.take(rt, seat)?;
+        gate.at(Point::BeforeRun);
+        let finished = job.run();
+        let ending = JobEnding::of(finished.end());
+        let given = self.give_back(rt, seat, finished);
+        Ok((ending, sessions_over(given)))
+    }
+}
+
+// Returns the sessions whose waits are over. A stranger ends none here, and is discarded; a finished job is none where
+// its job was taken of the same bench.
+fn sessions_over<D: Disk + Drop, A: Allocator + Copy>(
+    given: Result<Sessions, Stranger<D, A>>,
+) -> Sessions
+    ensures { result ≡ over_sessions (over_of given) }
+{
+    match given {
+        Ok(over) => over,
+        Err(stranger) => {
+            stranger.discard();
+            Sessions::new()
+        }
+    }
+}
+
+/// Makes this number of rounds. With one round it returns at once. It is for a program without the server, whose own
+/// flusher (psu_threads) also reports what each round has caused.
 pub fn flusher<D: Disk + Drop, A: Allocator + Copy, R: Wait, G: Gate>(
     rt: &R,
     bench: &Bench<D, A>,
@@ -28,39 +67,7 @@ pub fn flusher<D: Disk + Drop, A: Allocator + Copy, R: Wait, G: Gate>(
     ensures own { IsOf bench.now result }
 {
     for _ in 0..rounds {
-        one_round(rt, bench, &mut seat, gate);
+        let _made = bench.round(rt, &mut seat, gate);
     }
     seat
-}
-
-// Discards a stranger. A finished job is none where its job was taken of the same bench.
-fn discard_stranger<D: Disk + Drop, A: Allocator + Copy>(given: Result<Sessions, Stranger<D, A>>) {
-    match given {
-        Ok(_) => {}
-        Err(stranger) => stranger.discard(),
-    }
-}
-
-// Runs one round.
-fn one_round<D: Disk + Drop, A: Allocator + Copy, R: Wait, G: Gate>(
-    rt: &R,
-    bench: &Bench<D, A>,
-    seat: &mut Seat,
-    gate: &G,
-)
-    requires own { IsOf bench.now seat.old }
-    ensures same { IsSame seat.old seat.new }
-    ensures calls { (taken : Taken) × (calls : List Entry) × (seat.new.mine ≡ seat.old.mine ++ calls) × IsRound A D.Disk taken calls }
-    ensures seen { HasSeen D.honest seat.old seat.new }
-    ensures own { IsOf bench.now seat.new }
-{
-    match bench.take(rt, seat) {
-        Ok(job) => {
-            gate.at(Point::BeforeRun);
-            let finished = job.run();
-            let given = bench.give_back(rt, seat, finished);
-            discard_stranger(given);
-        }
-        Err(_none) => {}
-    }
 }

@@ -1,5 +1,17 @@
 //! Gates, by which a thread can be blocked from outside.
-use crate::Point;
+use std::alloc::AllocError;
+use std::sync::Arc;
+
+/// A point that a thread of the bench has reached.
+#[derive(Clone, Copy, Debug, PartialEq, Eq)]
+pub enum Point {
+    /// The flusher has a job, and has not begun to run it.
+    BeforeRun,
+    /// A page is about to be written.
+    BeforeWrite,
+    /// A session's unit has its outcome.
+    AfterAnswer,
+}
 
 /// Called at each point before the thread continues. It waits for no other thread: a gate that blocks a thread checks
 /// a bounded number of times.
@@ -18,5 +30,31 @@ impl Gate for Open {
 impl<G: Gate> Gate for &G {
     fn at(&self, point: Point) {
         (**self).at(point);
+    }
+}
+
+/// A gate that all threads of the server call.
+#[derive(Drop)]
+pub struct SharedGate<G: Gate> {
+    gate: Arc<G>,
+}
+
+impl<G: Gate> SharedGate<G> {
+    /// Creates a shared gate.
+    pub fn new(gate: Arc<G>) -> SharedGate<G> {
+        SharedGate { gate }
+    }
+
+    /// Returns the same gate, for another thread.
+    pub fn another(&self) -> Result<SharedGate<G>, AllocError> {
+        Ok(SharedGate {
+            gate: Arc::try_clone(&self.gate)?,
+        })
+    }
+}
+
+impl<G: Gate> Gate for SharedGate<G> {
+    fn at(&self, point: Point) {
+        self.gate.at(point);
     }
 }

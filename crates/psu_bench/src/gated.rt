@@ -1,5 +1,5 @@
 //! A disk with a gate before each write.
-use crate::{Gate, Point};
+use crate::{Gate, Point, SharedGate};
 use psu_disk::{Disk, DiskFault};
 
 /// A disk that calls a gate before each write, and otherwise passes each call to the disk below it.
@@ -43,6 +43,8 @@ impl<D: Disk, G: Gate> Disk for Gated<D, G> {
 
     ghost failures = { λ g. D.failures g.inner };
 
+    ghost confirmed = { λ g. D.confirmed g.inner };
+
     ghost sized = { λ h g. D.sized h g.inner };
 
     ghost counts_now = { λ h g. D.counts_now h g.inner };
@@ -69,4 +71,21 @@ impl<D: Disk, G: Gate> Disk for Gated<D, G> {
     fn sync(&mut self) -> Result<(), DiskFault> {
         self.inner.sync()
     }
+
+    fn confirm(&mut self) -> Result<(), DiskFault> {
+        self.inner.confirm()
+    }
+}
+
+/// The disk of a served device, with the gate that its threads call.
+pub trait ServedDisk: Disk + Drop {
+    /// The gate.
+    type Gate: Gate + Drop;
+}
+
+/// The disk of the server, with a gate before each write.
+pub type Served<D, G> = Gated<D, SharedGate<G>>;
+
+impl<D: Disk + Drop, G: Gate + Drop> ServedDisk for Gated<D, SharedGate<G>> {
+    type Gate = G;
 }

@@ -1,8 +1,9 @@
 //! The operations of the device, each with what it does.
-ghost use Rattle.psu_exec.specs.Calls.Entry.{Executed, Settled, Took, GaveBack, Opened, Closed, Cleared, Sent, Delivered, Queried, Fetched, Notified, Locked, Released, Ticked, Informed, Due};
+ghost use Rattle.psu_exec.specs.Calls.Entry.{Took, GaveBack, Opened, Closed, Cleared, Sent, Delivered, Queried, Fetched, Notified, Locked, Released, Ticked, Informed, Due};
 ghost use Rattle.psu_exec.specs.Shown.{outcome_of, over_of};
 ghost use Rattle.psu_exec.specs.Jobs.{finished_of, taken_of};
 ghost use Rattle.psu_bench.specs.Calls.{session_of};
+ghost use Rattle.psu_bench.specs.Tries.{tried};
 
 use crate::operation::Operation;
 use psu_disk::Disk;
@@ -12,40 +13,35 @@ use psu_exec::{
 };
 use std::alloc::Allocator;
 
-/// Executes one unit of a session; Later if the session isn't open.
+/// How a unit of a session is tried.
 #[derive(Drop)]
-pub(crate) struct Execute<'r, 't> {
-    pub session: Session,
-    pub request: &'r Request<'t>,
+pub enum Try<'r, 't> {
+    /// The unit is executed.
+    Execute(&'r Request<'t>),
+    /// The unit waits, and the result of its wait is asked for.
+    Settle,
 }
 
-impl<'r, 't, D: Disk, A: Allocator + Copy> Operation<D, A> for Execute<'r, 't> {
-    type Reply = Outcome<A>;
-
-    ghost entry = { λ o reply. Executed o.session o.request.now (outcome_of reply) };
-
-    fn perform(self, exec: &mut Exec<D, A>) -> Outcome<A> {
-        exec.execute(self.session, self.request)
-    }
-}
-
-/// Returns the result of a session's wait; Later if the session isn't open.
+/// Tries a unit of a session: executes it, or returns the result of its wait; Later if the session isn't open.
 #[derive(Drop)]
-pub(crate) struct Settle(pub Session);
+pub(crate) struct TryUnit<'r, 't>(pub Session, pub Try<'r, 't>);
 
-impl<D: Disk, A: Allocator + Copy> Operation<D, A> for Settle {
+impl<'r, 't, D: Disk, A: Allocator + Copy> Operation<D, A> for TryUnit<'r, 't> {
     type Reply = Outcome<A>;
 
-    ghost entry = { λ o reply. Settled o.0 (outcome_of reply) };
+    ghost entry = { λ o reply. tried o.0 o.1 (outcome_of reply) };
 
     fn perform(self, exec: &mut Exec<D, A>) -> Outcome<A> {
-        exec.settle(self.0)
+        match self.1 {
+            Try::Execute(request) => exec.execute(self.0, request),
+            Try::Settle => exec.settle(self.0),
+        }
     }
 }
 
 /// Takes a job.
 #[derive(Drop)]
-pub struct Take;
+pub(crate) struct Take;
 
 impl<D: Disk, A: Allocator + Copy> Operation<D, A> for Take {
     type Reply = Result<Job<D, A>, NoJob>;

@@ -3,10 +3,20 @@ ghost use Rattle.std.specs.Prelude.{◌≡◌, None};
 ghost use Rattle.psu_bench.specs.Reopenings.{after_job, broken, reopened};
 ghost use Rattle.psu_bench.specs.Seconds.{left_of_second};
 
-use crate::second::left_of_second;
-use psu_disk::Disk;
-use psu_exec::End;
-use std::alloc::Allocator;
+use crate::JobEnding;
+
+/// A second, in milliseconds.
+const SECOND: u64 = 1_000;
+
+/// Returns how many milliseconds it is until a second has passed since a time, if there is one; 0 once it has.
+pub(crate) fn left_of_second(since: Option<u64>, now: u64) -> u64
+    ensures { result ≡ left_of_second since now }
+{
+    match since {
+        Some(since) => SECOND.saturating_sub(now.saturating_sub(since)),
+        None => 0,
+    }
+}
 
 /// When a store that broke is opened again: one that broke within a second of its reopening a second after that, and
 /// any other at once.
@@ -47,13 +57,13 @@ impl Reopenings {
     }
 
     /// Notes how a job ended at this time.
-    pub fn note<D: Disk, A: Allocator + Copy>(&mut self, end: &End<D, A>, now: u64)
-        ensures { self.new ≡ after_job self.old end.now now }
+    pub fn note(&mut self, ending: JobEnding, now: u64)
+        ensures { self.new ≡ after_job self.old ending now }
     {
-        match end {
-            End::Reopened(_) => self.note_reopening(now),
-            End::Broken(_) => self.note_break(now),
-            End::Stored(_) | End::Unstarted(_, _, _) => {}
+        match ending {
+            JobEnding::Reopened => self.note_reopening(now),
+            JobEnding::Broken => self.note_break(now),
+            JobEnding::Stored | JobEnding::Worn | JobEnding::OutOfMemory => {}
         }
     }
 

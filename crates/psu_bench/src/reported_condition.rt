@@ -2,10 +2,7 @@
 ghost use Rattle.std.specs.Prelude.{◌≡◌};
 ghost use Rattle.psu_bench.specs.ReportedCondition.{condition_shown};
 
-use psu_disk::Disk;
-use psu_exec::End;
-use psu_items::UnstartedCause;
-use std::alloc::Allocator;
+use crate::JobEnding;
 use thiserror::Error;
 
 /// The condition of the store, as it is reported to an operator on standard error once it has changed.
@@ -25,14 +22,14 @@ pub enum ReportedCondition {
 impl ReportedCondition {
     /// Returns the condition that the end of a job shows; none after a reopening, since a disk without room can be read
     /// and synced, but stores nothing.
-    pub fn shown_by<D: Disk, A: Allocator + Copy>(end: &End<D, A>) -> Option<ReportedCondition>
-        ensures { result ≡ condition_shown end.now }
+    pub fn shown_by(ending: JobEnding) -> Option<ReportedCondition>
+        ensures { result ≡ condition_shown ending }
     {
-        match end {
-            End::Stored(_) => Some(ReportedCondition::Works),
-            End::Broken(_) => Some(ReportedCondition::Broken),
-            End::Unstarted(_, _, UnstartedCause::Worn) => Some(ReportedCondition::Worn),
-            End::Reopened(_) | End::Unstarted(_, _, UnstartedCause::Memory) => None,
+        match ending {
+            JobEnding::Stored => Some(ReportedCondition::Works),
+            JobEnding::Broken => Some(ReportedCondition::Broken),
+            JobEnding::Worn => Some(ReportedCondition::Worn),
+            JobEnding::Reopened | JobEnding::OutOfMemory => None,
         }
     }
 }

@@ -2,23 +2,22 @@
 ghost use Rattle.std.specs.Prelude.{IfOk};
 ghost use Rattle.psu_bench.specs.PowerOn.{BeginsWith};
 
-use crate::caller::Caller;
-use crate::{Gate, Gated, Served, SharedGate};
+use crate::{Access, Bench, Gate, Gated, Served, SharedGate};
 use psu_disk::Disk;
 use psu_exec::{Exec, StartFault};
 use psu_items::Store;
 use std::alloc::Global;
 use std::sync::Arc;
 
-/// Powers a device on with the contents of a disk, and returns the first caller of it. The device begins in the state
+/// Powers a device on with the contents of a disk, and returns the first access to it. The device begins in the state
 /// at power-on that these contents prescribe, with no session and no lock (IEEE 488.2, 5.12), and its history has no
 /// call.
 pub fn power_on<D: Disk + Drop, G: Gate + Drop>(
     alloc: Global,
     disk: D,
     gate: G,
-) -> Result<Caller<Served<D, G>>, StartFault>
-    ensures begins { D.honest → IfOk result (λ caller. BeginsWith (D.state disk).bytes caller.seat) }
+) -> Result<Access<Served<D, G>>, StartFault>
+    ensures begins { D.honest → IfOk result (λ access. BeginsWith (D.state disk).bytes access.seat) }
 {
     let Ok(gate) = Arc::new(alloc, gate) else {
         return Err(StartFault::Memory);
@@ -29,8 +28,15 @@ pub fn power_on<D: Disk + Drop, G: Gate + Drop>(
         Ok(store) => store,
         Err(refused) => return Err(StartFault::from(refused.cause)),
     };
-    match Exec::power_on(alloc, store) {
-        Ok(exec) => Ok(Caller::new(alloc, exec, gate)?),
-        Err(refused) => Err(StartFault::from(refused.cause)),
+    let exec = match Exec::power_on(alloc, store) {
+        Ok(exec) => exec,
+        Err(refused) => return Err(StartFault::from(refused.cause)),
+    };
+    let Ok((bench, seat)) = Bench::new(alloc, exec) else {
+        return Err(StartFault::Memory);
+    };
+    match Arc::new(alloc, bench) {
+        Ok(bench) => Ok(Access { bench, seat, gate }),
+        Err(_refused) => Err(StartFault::Memory),
     }
 }

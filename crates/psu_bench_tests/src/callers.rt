@@ -1,12 +1,12 @@
-//! Threads that call the device as those of a server do, each by a caller of its own under the device's lock. The
+//! Threads that call the device as those of a server do, each by a caller of its own. The
 //! replies of all of them are those of one legal order of their calls.
 //!
 //! Each of four threads defines eight macros, one after another, and after each of them queries the labels of all that
 //! are defined: its set. No macro is removed. So the replies are those of one order if and only if of each two sets one
 //! contains the other, and each set has those of its thread's own macros that were defined before it.
 use crate::benches::{formatted, read};
-use psu_bench::operations::OpenSession;
-use psu_bench::{Caller, DeviceLock, LockedRegistry, Open, Others, Served, power_on};
+use psu_bench::operations::{OpenSession, Try};
+use psu_bench::{Access, Caller, LockedRegistry, Open, Others, Served, power_on};
 use psu_disk::MemDisk;
 use psu_exec::{Grant, Outcome, Session, Sessions};
 use std::alloc::{AllocError, Global};
@@ -25,7 +25,7 @@ const EACH: u8 = 8;
 // less concurrent, and fails nothing.
 const LOOKS: u32 = 100_000;
 
-type Device = Caller<Served<MemDisk<Global>, Open>>;
+type Disk = Served<MemDisk<Global>, Open>;
 
 /// The other threads of a server, to which these tests report nothing.
 #[derive(Drop)]
@@ -53,11 +53,10 @@ impl Others for Unreported {
     fn job_ended(&mut self, _over: &Sessions) {}
 }
 
-/// What the threads share: the lock of the device, how many steps they have begun in all, and the sets, a bit for each
+/// What the threads share beside the device: how many steps they have begun in all, and the sets, a bit for each
 /// label, in the order of threads and steps.
 #[derive(Drop)]
 struct Shared {
-    lock: DeviceLock,
     begun: AtomicU64,
     sets: Vec<AtomicU64>,
 }
@@ -72,7 +71,6 @@ impl Shared {
             }
         }
         Ok(Shared {
-            lock: DeviceLock::new(),
             begun: AtomicU64::new(0),
             sets,
         })
@@ -134,14 +132,12 @@ fn set_of(answer: &[u8]) -> Option<u64> {
 // Executes a unit, and reports what it has caused.
 fn executed<R: Wait>(
     rt: &R,
-    device: &mut Device,
-    shared: &Shared,
+    caller: &mut Caller<'_, Disk>,
     session: Session,
     text: &[u8],
 ) -> Outcome<Global> {
-    let mut visit = shared.lock.visit();
-    let (outcome, caused) = device.execute(rt, &mut visit, session, &read(text));
-    visit.leave();
+    let (outcome, caused) = caller.try_unit(rt, session, Try::Execute(&read(text)));
+    caller.leave();
     if let Some(caused) = caused {
         caused.report(&mut Unreported);
     }
@@ -151,8 +147,7 @@ fn executed<R: Wait>(
 // Defines the macro of a thread's step, and returns the set that is then found.
 fn defined<R: Wait>(
     rt: &R,
-    device: &mut Device,
-    shared: &Shared,
+    caller: &mut Caller<'_, Disk>,
     session: Session,
     thread: u8,
     step: u8,
@@ -160,26 +155,25 @@ fn defined<R: Wait>(
     let mut definition = *b"*DMC \"AA\",#10";
     definition[6] = b'A'.saturating_add(thread);
     definition[7] = b'A'.saturating_add(step);
-    if !matches!(
-        executed(rt, device, shared, session, &definition),
-        Outcome::Done
-    ) {
+    if !matches!(executed(rt, caller, session, &definition), Outcome::Done) {
         return None;
     }
-    match executed(rt, device, shared, session, b"*LMC?") {
+    match executed(rt, caller, session, b"*LMC?") {
         Outcome::Answer(text) => set_of(text.as_slice()),
         _ => None,
     }
 }
 
 // Makes the calls of a thread, and notes its sets up to a step that fails.
-fn one_thread<R: Wait>(rt: &R, mut device: Device, shared: &Shared, thread: u8) {
-    let Ok(session) = device.call(rt, &mut shared.lock.visit(), OpenSession) else {
+fn one_thread<R: Wait>(rt: &R, access: Access<Disk>, shared: &Shared, thread: u8) {
+    let Access { bench, seat, gate } = access;
+    let mut caller = Caller::new(&bench, seat, gate);
+    let Ok(session) = caller.call(rt, OpenSession) else {
         return;
     };
     for step in 0..EACH {
         shared.meet(step);
-        match defined(rt, &mut device, shared, session, thread, step) {
+        match defined(rt, &mut caller, session, thread, step) {
             Some(set) => shared.note(thread, step, set),
             None => return,
         }
@@ -189,14 +183,14 @@ fn one_thread<R: Wait>(rt: &R, mut device: Device, shared: &Shared, thread: u8) 
 // Makes the calls of two threads.
 fn two_threads<R: Threads + Wait + Sync>(
     rt: &R,
-    mut device: Device,
+    mut access: Access<Disk>,
     shared: &Shared,
     first: u8,
 ) -> Result<(), AllocError> {
-    let other = device.split()?;
+    let other = access.split()?;
     join(
         rt,
-        || one_thread(rt, device, shared, first),
+        || one_thread(rt, access, shared, first),
         || one_thread(rt, other, shared, first.saturating_add(1)),
     );
     Ok(())
@@ -205,13 +199,13 @@ fn two_threads<R: Threads + Wait + Sync>(
 // Makes the calls of all threads.
 fn all_threads<R: Threads + Wait + Sync>(
     rt: &R,
-    mut device: Device,
+    mut access: Access<Disk>,
     shared: &Shared,
 ) -> Result<(), AllocError> {
-    let other = device.split()?;
+    let other = access.split()?;
     let (some, more) = join(
         rt,
-        || two_threads(rt, device, shared, 0),
+        || two_threads(rt, access, shared, 0),
         || two_threads(rt, other, shared, 2),
     );
     some?;
@@ -257,11 +251,11 @@ fn are_of_one_order(shared: &Shared) -> bool {
 
 // Whether the replies of threads on a new device are those of one order.
 fn is_in_order<R: Threads + Wait + Sync + Abort>(rt: &R, alloc: Global) -> bool {
-    let device = power_on(alloc, formatted(rt, alloc), Open)
+    let access = power_on(alloc, formatted(rt, alloc), Open)
         .ok()
         .expect(rt, "a device");
     let shared = Shared::new(alloc).ok().expect(rt, "memory");
-    all_threads(rt, device, &shared).is_ok() && are_of_one_order(&shared)
+    all_threads(rt, access, &shared).is_ok() && are_of_one_order(&shared)
 }
 
 // How often the threads try, each time with a new device.

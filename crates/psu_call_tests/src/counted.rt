@@ -41,6 +41,8 @@ impl<D: Disk> Disk for Counted<D> {
 
     ghost failures = { λ c. D.failures c.inner };
 
+    ghost confirmed = { λ c. D.confirmed c.inner };
+
     ghost sized = { λ h c. D.sized h c.inner };
 
     ghost counts_now = { λ h c. D.counts_now h c.inner };
@@ -70,5 +72,9 @@ impl<D: Disk> Disk for Counted<D> {
     fn sync(&mut self) -> Result<(), DiskFault> {
         self.syncs = self.syncs.saturating_add(1);
         self.inner.sync()
+    }
+
+    fn confirm(&mut self) -> Result<(), DiskFault> {
+        self.inner.confirm()
     }
 }

@@ -44,14 +44,9 @@ IsWhole size None = ⊥
 abbrev pub LooksWhole : {F : Type 0} → (F → FileCall → F → Type 0) → ℕ → F → Bool → F → Type 0
 LooksWhole made size old whole new = (seen : Option FileFacts) × made old (FileCall.Looked seen) new × (IsTrue whole ↔ IsWhole size seen)
 
--- A successful sync made the file's data durable, and then saw the file whole.
-abbrev pub IsSync : {F : Type 0} → (F → FileCall → F → Type 0) → ℕ → F → F → Type 0
-IsSync made size old new = (seen : Option FileFacts) × AreFileCalls made (FileCall.SyncData true ∷ FileCall.Looked seen ∷ []) old new × IsWhole size seen
-
--- A sync that failed: the file's data was not made durable, or the file was not seen whole after that.
-abbrev pub IsFailedSync : {F : Type 0} → (F → FileCall → F → Type 0) → ℕ → F → F → Type 0
-IsFailedSync made size old new = made old (FileCall.SyncData false) new
-    ⊎ ((seen : Option FileFacts) × AreFileCalls made (FileCall.SyncData true ∷ FileCall.Looked seen ∷ []) old new × (IsWhole size seen → ⊥))
+-- the last call on the file was a look at it, which saw it whole
+abbrev pub SeenWhole : {F : Type 0} → (F → FileCall → F → Type 0) → ℕ → F → Type 0
+SeenWhole {F} made size new = (old : F) × (seen : Option FileFacts) × made old (FileCall.Looked seen) new × IsWhole size seen
 
 -- no other opening of the file has it locked, or the file system has no locks
 abbrev pub IsFree : LockAnswer → Type 0

@@ -4,10 +4,11 @@ ghost use Rattle.psu_disk.specs.Disk.{DiskState, IsCrashImage, Range, Holds, Sam
 
 use crate::DiskFault;
 
-/// A disk of a fixed number of bytes with three calls that may fail: read, write and sync.
+/// A disk of a fixed number of bytes with calls that may fail: read, write, sync and confirm.
 ///
 /// Between two syncs a power loss may leave any bytes in the ranges that were written, and leaves the bytes outside
-/// them unchanged. After a successful sync it leaves what a read returns.
+/// them unchanged. After a successful sync it leaves what a read returns. What was synced counts as stored once the disk
+/// has confirmed that it is found again.
 pub trait Disk {
     /// The premise of every clause on bytes: this kind of disk behaves as they say.
     ghost honest: { Type 0 };
@@ -29,6 +30,9 @@ pub trait Disk {
 
     /// The number of calls that failed. The count saturates at its maximum.
     ghost failures: { Self → ℕ };
+
+    /// The last call was a `confirm` that succeeded.
+    ghost confirmed: { Self → Type 0 };
 
     /// The number of bytes.
     fn size(&self) -> u64
@@ -80,6 +84,20 @@ pub trait Disk {
 
         // Consequences of these, for the proofs of the layers above.
         ensures only { honest → OnOk result (Only (state self.new)) }
+        ensures left { honest → (x : List ℕ) → IsCrashImage (state self.new) x → IsCrashImage (state self.old) x }
+        ensures time { records → Elapses (moment self.old) (moment self.new) (left_since self.old) (left_since self.new) (IsCrashImage (state self.new)) };
+
+    /// Looks whether what was synced is found again where it was put: of a disk in a file, whether the file still has its
+    /// length and a name. It changes nothing.
+    fn confirm(&mut self) -> Result<(), DiskFault>
+        ensures extent { extent self.new ≡ extent self.old }
+        ensures cause { HasCause (failures self.old) (failures self.new) result }
+        ensures confirmed { OnOk result (confirmed self.new) }
+
+        ensures state { honest → state self.new ≡ state self.old }
+
+        // Consequences, for the proofs of the layers above.
+        ensures seen { honest → (state self.new).bytes ≡ (state self.old).bytes }
         ensures left { honest → (x : List ℕ) → IsCrashImage (state self.new) x → IsCrashImage (state self.old) x }
         ensures time { records → Elapses (moment self.old) (moment self.new) (left_since self.old) (left_since self.new) (IsCrashImage (state self.new)) };
 

@@ -110,6 +110,8 @@ impl<D: Disk> Disk for FailingDisk<D> {
 
     ghost failures = { failures_of D.Disk };
 
+    ghost confirmed = { λ f. D.confirmed f.inner };
+
     ghost sized = { λ h f. D.sized h f.inner };
 
     ghost counts_now = { λ h f. D.counts_now h f.inner };
@@ -195,5 +197,10 @@ impl<D: Disk> Disk for FailingDisk<D> {
     {
         self.step()?;
         self.inner.sync()
+    }
+
+    // It is not among the calls that are counted: it moves no bytes.
+    fn confirm(&mut self) -> Result<(), DiskFault> {
+        self.inner.confirm()
     }
 }

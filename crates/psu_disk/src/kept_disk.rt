@@ -188,6 +188,8 @@ impl<M: Medium, A: Allocator> Disk for KeptDisk<M, A> {
 
     ghost failures = { λ d. d.faults };
 
+    ghost confirmed = { λ d. M.confirmed d.medium };
+
     ghost sized = { λ h d. M.sized h d.medium };
 
     ghost counts_now = { λ h d. M.counts_now h.1 d.medium };
@@ -260,6 +262,22 @@ impl<M: Medium, A: Allocator> Disk for KeptDisk<M, A> {
         ensures recovers { M.works self.old.medium → self.old.written.full ≡ false → OnErr result ⊥ × M.works self.new.medium }
     {
         let answer = self.settle();
+        counted(&mut self.faults, answer)
+    }
+
+    /// Also: it leaves unchanged whether the last sync failed.
+    fn confirm(&mut self) -> Result<(), DiskFault>
+        ensures extent { M.extent self.new.medium ≡ M.extent self.old.medium }
+        ensures cause { HasCause self.old.faults self.new.faults result }
+        ensures confirmed { OnOk result (M.confirmed self.new.medium) }
+        ensures state { M.honest → M.state self.new.medium ≡ M.state self.old.medium }
+        ensures seen { M.honest → (M.state self.new.medium).bytes ≡ (M.state self.old.medium).bytes }
+        ensures left { M.honest → (x : List ℕ) → IsCrashImage (M.state self.new.medium) x → IsCrashImage (M.state self.old.medium) x }
+        ensures time { M.honest × M.records → MediumElapses M.Medium self.old.medium self.new.medium
+            (M.state self.new.medium) }
+        ensures failed { self.new.failed ≡ self.old.failed }
+    {
+        let answer = self.medium.confirm();
         counted(&mut self.faults, answer)
     }
 }

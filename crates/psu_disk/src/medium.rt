@@ -5,8 +5,8 @@ ghost use Rattle.psu_disk.specs.Medium.{NoneMore, IsKnown, Settles};
 
 use crate::DiskFault;
 
-/// What a [`KeptDisk`](crate::KeptDisk) is built on: a fixed number of bytes with three calls that may fail, read,
-/// write and sync.
+/// What a [`KeptDisk`](crate::KeptDisk) is built on: a fixed number of bytes with calls that may fail, read, write, sync
+/// and confirm.
 ///
 /// A sync that fails may forget bytes that it was to make durable: they read as they were written, and no later sync
 /// makes them durable until they are written again.
@@ -29,6 +29,9 @@ pub trait Medium {
 
     /// From here on each of its calls succeeds.
     ghost works: { Self → Type 0 };
+
+    /// The last call was a `confirm` that succeeded.
+    ghost confirmed: { Self → Type 0 };
 
     /// The current moment, as a number that never decreases.
     ghost moment: { Self → ℕ };
@@ -74,6 +77,15 @@ pub trait Medium {
         ensures settles { honest → OnOk result (Settles (state self.old) (state self.new) (forgotten self.old)) }
         ensures none_more { honest → OnOk result (NoneMore (forgotten self.old) (forgotten self.new)) }
         ensures err { honest → OnErr result (state self.new ≡ state self.old) }
+        ensures works { works self.old → OnErr result ⊥ × works self.new }
+        ensures time { records → Elapses (moment self.old) (moment self.new) (left_since self.old) (left_since self.new) (IsCrashImage (state self.new)) };
+
+    /// Looks whether what was synced is found again where it was put. It changes nothing.
+    fn confirm(&mut self) -> Result<(), DiskFault>
+        ensures extent { extent self.new ≡ extent self.old }
+        ensures confirmed { OnOk result (confirmed self.new) }
+        ensures state { honest → state self.new ≡ state self.old }
+        ensures none_more { honest → NoneMore (forgotten self.old) (forgotten self.new) }
         ensures works { works self.old → OnErr result ⊥ × works self.new }
         ensures time { records → Elapses (moment self.old) (moment self.new) (left_since self.old) (left_since self.new) (IsCrashImage (state self.new)) };
 

@@ -133,6 +133,8 @@ impl<A: Allocator + Copy> Disk for MemDisk<A> {
 
     ghost failures = { λ _. 0 };
 
+    ghost confirmed = { λ _. Unit {0} };
+
     ghost sized = { λ _ d. refl };
 
     ghost counts_now = { λ records. absurd records };
@@ -212,6 +214,22 @@ impl<A: Allocator + Copy> Disk for MemDisk<A> {
             &self.touched.spans,
         );
         self.touched = Touched::new();
+        Ok(())
+    }
+
+    fn confirm(&mut self) -> Result<(), DiskFault>
+        ensures extent { length self.new.bytes.items ≡ length self.old.bytes.items }
+        ensures cause { HasCause 0 0 result }
+        ensures confirmed { OnOk result (Unit {0}) }
+        ensures state { Unit {0} → memory self.new.bytes.items self.new.unsynced.items ≡ memory self.old.bytes.items self.old.unsynced.items }
+        ensures seen { Unit {0} → self.new.bytes.items ≡ self.old.bytes.items }
+        ensures left { Unit {0} → (x : List ℕ) → IsCrashImage
+            (memory self.new.bytes.items self.new.unsynced.items) x
+            → IsCrashImage (memory self.old.bytes.items self.old.unsynced.items) x }
+        // The call succeeds, and the bytes that the last sync made durable stay.
+        ensures works { IsOk result }
+        ensures made_sure { self.new.synced.items ≡ self.old.synced.items }
+    {
         Ok(())
     }
 }

@@ -90,6 +90,8 @@ impl<A: Allocator + Copy> Disk for RecordingDisk<A> {
 
     ghost failures = { λ d. d.failed };
 
+    ghost confirmed = { λ _. Unit {0} };
+
     ghost sized = { λ _ d. refl };
 
     ghost counts_now = { λ _ d t x le now. inl now };
@@ -136,5 +138,9 @@ impl<A: Allocator + Copy> Disk for RecordingDisk<A> {
                 Err(DiskFault)
             }
         }
+    }
+
+    fn confirm(&mut self) -> Result<(), DiskFault> {
+        Ok(())
     }
 }

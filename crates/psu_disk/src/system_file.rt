@@ -2,12 +2,12 @@
 ghost use Rattle.std.specs.Prelude.{◌≡◌, ◌+◌, ◌≤◌, length, is_ok, OnOk, OnErr};
 ghost use Rattle.psu_disk.specs.Disk.{Range, Holds, IsFlagged, Touches};
 ghost use Rattle.psu_disk.specs.Medium.{NoneMore, IsKnown, Settles};
-ghost use Rattle.psu_disk.specs.FileCalls.{FileCall, IsFailedSync, IsSync, LooksWhole};
+ghost use Rattle.psu_disk.specs.FileCalls.{FileCall, LooksWhole};
 
 use crate::{DiskFault, FileCalls, Medium};
 
-/// A file of the system as a medium. A write is the system's own. A sync is the system's fdatasync; it succeeds only if
-/// the file, looked at after that, still has its length and a name.
+/// A file of the system as a medium. A write is the system's own, and a sync is its fdatasync. A confirm looks whether the
+/// file still has its length and a name.
 #[derive(Drop)]
 pub struct SystemFile<F: FileCalls> {
     /// The open file.
@@ -29,6 +29,8 @@ impl<F: FileCalls> SystemFile<F> {
 }
 
 impl<F: FileCalls> Medium for SystemFile<F> {
+    ghost use Rattle.psu_disk.specs.FileCalls.{SeenWhole};
+
     ghost honest = { F.keeps };
 
     ghost records = { ⊥ };
@@ -40,6 +42,8 @@ impl<F: FileCalls> Medium for SystemFile<F> {
     ghost forgotten = { λ m. F.forgotten m.file };
 
     ghost works = { λ m. F.works m.file };
+
+    ghost confirmed = { λ m. SeenWhole F.made (F.extent m.file) m.file };
 
     ghost moment = { λ _. 0 };
 
@@ -79,7 +83,7 @@ impl<F: FileCalls> Medium for SystemFile<F> {
         self.file.write_at(at, bytes)
     }
 
-    /// Also: a successful sync made the file's data durable, and then saw the file whole.
+    /// Also: exactly one sync of the file's data was made, with the same result.
     fn sync(&mut self) -> Result<(), DiskFault>
         ensures extent { F.extent self.new.file ≡ F.extent self.old.file }
         ensures seen { F.keeps → (F.state self.new.file).bytes ≡ (F.state self.old.file).bytes }
@@ -87,11 +91,20 @@ impl<F: FileCalls> Medium for SystemFile<F> {
         ensures none_more { F.keeps → OnOk result (NoneMore (F.forgotten self.old.file) (F.forgotten self.new.file)) }
         ensures err { F.keeps → OnErr result (F.state self.new.file ≡ F.state self.old.file) }
         ensures works { F.works self.old.file → OnErr result ⊥ × F.works self.new.file }
-        ensures made { OnOk result (IsSync F.made (F.extent self.old.file) self.old.file self.new.file) }
-        ensures failed { OnErr result (IsFailedSync F.made (F.extent self.old.file) self.old.file self.new.file) }
+        ensures made { F.made self.old.file (FileCall.SyncData (is_ok result)) self.new.file }
     {
-        self.file.sync_data()?;
-        // The file is looked at last: a successful call has synced a file that was still whole afterwards.
+        self.file.sync_data()
+    }
+
+    /// Also: exactly one look at the file was made, and it succeeds exactly if the file was whole.
+    fn confirm(&mut self) -> Result<(), DiskFault>
+        ensures extent { F.extent self.new.file ≡ F.extent self.old.file }
+        ensures confirmed { OnOk result (SeenWhole F.made (F.extent self.new.file) self.new.file) }
+        ensures state { F.keeps → F.state self.new.file ≡ F.state self.old.file }
+        ensures none_more { F.keeps → NoneMore (F.forgotten self.old.file) (F.forgotten self.new.file) }
+        ensures works { F.works self.old.file → OnErr result ⊥ × F.works self.new.file }
+        ensures made { LooksWhole F.made (F.extent self.old.file) self.old.file (is_ok result) self.new.file }
+    {
         if self.is_whole() {
             Ok(())
         } else {

@@ -127,6 +127,8 @@ impl<D: Disk> Disk for SickDisk<D> {
 
     ghost failures = { λ d. d.failed };
 
+    ghost confirmed = { λ d. D.confirmed d.inner };
+
     ghost sized = { λ honest. absurd honest };
 
     ghost counts_now = { λ records. absurd records };
@@ -157,6 +159,13 @@ impl<D: Disk> Disk for SickDisk<D> {
 
     fn sync(&mut self) -> Result<(), DiskFault> {
         if self.inner.sync().is_err() {
+            return Err(self.fail());
+        }
+        Ok(())
+    }
+
+    fn confirm(&mut self) -> Result<(), DiskFault> {
+        if self.inner.confirm().is_err() {
             return Err(self.fail());
         }
         Ok(())

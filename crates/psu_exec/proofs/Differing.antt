@@ -1,5 +1,5 @@
 -- The edits that turn a map into that of contents, part by part.
-use Rattle.std.proofs.Common.{◌≡◌, ℕ, zero, suc, ◌+◌, ◌<◌, ◌≤◌, List, [], ◌∷◌, ◌++◌, length, map, take, slice_index_or, refl, sym, ap, ◌∙◌, subst, arith, append_assoc, append-nil}
+use Rattle.std.proofs.Common.{◌≡◌, ℕ, zero, suc, ◌+◌, ◌-◌, ◌<◌, ◌≤◌, List, [], ◌∷◌, ◌++◌, length, map, take, slice_index_or, refl, sym, ap, ◌∙◌, subst, arith, append_assoc, append-nil}
 use Rattle.std.proofs.Math.Seq.{take-suc}
 use Rattle.std.proofs.lemmas.Grind.{flat_map-append}
 use Rattle.std.proofs.lemmas.List.{take_all}
@@ -35,9 +35,22 @@ next_number f registers r edits new n within seen added =
     (ap (λ (k : ℕ). registers_items 0 (take n registers) ++ register_items k (settings_at registers n)) (let same : n ≡ 0 + n = omega arith in same) ∙ sym (registers-push 0 n registers within)
     ∙ ap (λ (k : ℕ). registers_items 0 (take k registers)) (let after : suc n ≡ n + 1 = omega arith in after))
 
-pub all_numbers : (f : Item → List Edit) (registers : List (List OutputSettings)) (r edits : List Edit) (n : ℕ) → length registers ≤ n → edits ≡ r ++ flat_map f (registers_items 0 (take n registers))
-    → edits ≡ r ++ flat_map f (registers_items 0 registers)
-all_numbers f registers r edits n all seen = seen ∙ ap (λ (l : List (List OutputSettings)). r ++ flat_map f (registers_items 0 l)) (take_all n registers all)
+-- registers of which none needs an edit are passed
+passed_numbers : (f : Item → List Edit) (registers : List (List OutputSettings)) (r edits : List Edit) (n k : ℕ) → n + k ≤ length registers → edits ≡ r ++ flat_map f (registers_items 0 (take n registers))
+    → ((m : ℕ) → n ≤ m → m < n + k → flat_map f (register_items m (settings_at registers m)) ≡ []) → edits ≡ r ++ flat_map f (registers_items 0 (take (n + k) registers))
+passed_numbers f registers r edits n zero within seen none = seen ∙ ap (λ (m : ℕ). r ++ flat_map f (registers_items 0 (take m registers))) (let same : n ≡ n + 0 = omega arith in same)
+passed_numbers f registers r edits n (suc k) within seen none =
+    let before = passed_numbers f registers r edits n k (omega (arith, within)) seen (λ m low high. none m low (omega (arith, high))) in
+    let at : flat_map f (register_items (n + k) (settings_at registers (n + k))) ≡ [] = none (n + k) (omega arith) (omega arith) in
+    let one = next_number f registers r edits edits (n + k) (omega (arith, within)) before (sym (append-nil edits) ∙ ap (λ (l : List Edit). edits ++ l) (sym at)) in
+    one ∙ ap (λ (m : ℕ). r ++ flat_map f (registers_items 0 (take m registers))) (let same : (n + k) + 1 ≡ n + suc k = omega arith in same)
+
+pub passed_to : (f : Item → List Edit) (registers : List (List OutputSettings)) (r edits : List Edit) (n m : ℕ) → n ≤ m → m ≤ length registers → edits ≡ r ++ flat_map f (registers_items 0 (take n registers))
+    → ((k : ℕ) → n ≤ k → k < m → flat_map f (register_items k (settings_at registers k)) ≡ []) → edits ≡ r ++ flat_map f (registers_items 0 (take m registers))
+passed_to f registers r edits n m later within seen none =
+    let same : n + (m - n) ≡ m = omega (arith, later) in
+    passed_numbers f registers r edits n (m - n) (omega (arith, later, within)) seen (λ k low high. none k low (omega (arith, later, high)))
+    ∙ ap (λ (k : ℕ). r ++ flat_map f (registers_items 0 (take k registers))) same
 
 map-push : (l : List Item) (g : Item) → map file_item (l ++ g ∷ []) ≡ map file_item l ++ file_item g ∷ []
 map-push [] g = refl

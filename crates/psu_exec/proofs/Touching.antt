@@ -1,6 +1,5 @@
 -- A part that has not changed needs no edit, and a change leaves each part but its own.
-use Rattle.std.proofs.Common.{◌≡◌, ◌≢◌, ◌⊎◌, ◌&&◌, ◌||◌, is_some, ℕ, zero, suc, ◌+◌, ◌<◌, Bool, true, false, cond, Option, Some, None, List, [], ◌∷◌, ◌++◌, length, map, refl, sym, ap, ◌∙◌, subst, inl, inr, arith, append-nil, slice_index_or, slice_set, replicate}
-use Rattle.std.proofs.lemmas.Grind.{flat_map-append}
+use Rattle.std.proofs.Common.{◌≡◌, ◌≢◌, ◌⊎◌, ◌&&◌, ◌||◌, is_some, ℕ, zero, suc, ◌<◌, Bool, true, false, cond, Option, Some, None, List, [], ◌∷◌, ◌++◌, length, map, refl, sym, ap, ◌∙◌, subst, inl, inr, append-nil, slice_index_or, slice_set, replicate}
 use Rattle.std.proofs.lemmas.List.{get_or-set_other}
 use Rattle.std.specs.List.{flat_map, AllByRecursion}
 use Rattle.psu_map.specs.Map.{Item, item_of, get, IsSorted}
@@ -12,7 +11,7 @@ use Rattle.psu_outputs.specs.declared.output_settings.OutputSettings.{OutputSett
 use Rattle.psu_outputs.specs.Settings.{bytes_of, is_reset, reset}
 use Rattle.psu_status.specs.declared.groups.Enables.{Enables}
 use Rattle.psu_nv.specs.Commands.{Command, ServiceEnable, EventEnable, PowerOnClear, Save, User, DefineMacro, RemoveMacro, PurgeMacros, StoreBytes, Delete, Copy, Move, StoreState, LoadState, StoreMacro, LoadMacro, Recall, apply, settings_at}
-use Rattle.psu_nv.specs.Contents.{Contents, Macro, enables_items, file_item, items_of, macros_items, macro_bytes, recall_items, register_items, registers_items, user_items}
+use Rattle.psu_nv.specs.Contents.{Contents, Macro, enables_items, file_item, items_of, macros_items, macro_bytes, recall_items, register_items, user_items}
 use Rattle.psu_nv.specs.Parts as kept
 use Rattle.psu_nv.specs.Parts.{Part, file_items, key_of, part_items, value_in}
 use Rattle.psu_nv.proofs.Gets.{part_found, value_file}
@@ -76,19 +75,9 @@ unchanged_part p before c part keeps same = at (alone c part)
         ap (flat_map (assignment before)) one ∙ append-nil (assignment before (item_of (key_of part) value))
         ∙ there before (key_of part) value (keeps part same ∙ part_found c part ∙ ap value_in one)
 
--- no register needs an edit if none by itself does
-none_of : (f : Item → List Edit) (q : ℕ) (registers : List (List OutputSettings)) → ((k : ℕ) → flat_map f (register_items (q + k) (settings_at registers k)) ≡ []) → flat_map f (registers_items q registers) ≡ []
-none_of f q [] each = refl
-none_of f q (s ∷ registers) each =
-    flat_map-append f (register_items q s) (registers_items (q + 1) registers)
-    ∙ ap (λ (l : List Edit). l ++ flat_map f (registers_items (q + 1) registers)) (subst (λ (n : ℕ). flat_map f (register_items n s) ≡ []) (let same : q + 0 ≡ q = omega arith in same) (each zero))
-    ∙ none_of f (q + 1) registers (λ k. subst (λ (n : ℕ). flat_map f (register_items n (settings_at registers k)) ≡ []) (let same : q + suc k ≡ (q + 1) + k = omega arith in same) (each (suc k)))
-
-pub unchanged_registers : (p : ChangedParts) (before : List Item) (c : Contents) → KeepsOthers p before (items_of c) → p.some_register ≡ false → flat_map (assignment before) (registers_items 0 c.registers) ≡ []
-unchanged_registers p before c keeps none =
-    none_of (assignment before) 0 c.registers
-    (λ k. subst (λ (n : ℕ). flat_map (assignment before) (register_items n (settings_at c.registers k)) ≡ []) (let same : k ≡ 0 + k = omega arith in same)
-    (unchanged_part p before c (kept.Register k) keeps (ap (λ (b : Bool). b && slice_index_or p.registers k true) none)))
+pub unchanged_register : (p : ChangedParts) (before : List Item) (c : Contents) (number : ℕ) → KeepsOthers p before (items_of c) → is_changed p (kept.Register number) ≡ false
+    → flat_map (assignment before) (register_items number (settings_at c.registers number)) ≡ []
+unchanged_register p before c number keeps same = unchanged_part p before c (kept.Register number) keeps same
 
 pub unchanged_files : (p : ChangedParts) (before : List Item) (c : Contents) → KeepsOthers p before (items_of c) → p.files ≡ false → IsSorted c.files → flat_map (assignment before) (map file_item c.files) ≡ []
 unchanged_files p before c keeps none sorted = each c.files (all_own c.files sorted)

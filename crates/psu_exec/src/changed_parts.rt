@@ -16,7 +16,7 @@ pub struct ChangedParts {
 }
 
 impl ChangedParts {
-    ghost use Rattle.std.specs.Prelude.{◌≡◌, true, false};
+    ghost use Rattle.std.specs.Prelude.{◌≡◌, ◌<◌, ◌≤◌, ℕ, true, false};
     ghost use Rattle.psu_nv.specs.Parts.{Part as Kept, Register as KeptRegister};
     ghost use Rattle.psu_nv.specs.Views.{command_of, part_of};
     ghost use Rattle.psu_exec.specs.Changed.{IsUnchanged, is_changed, with_change, with_register};
@@ -87,11 +87,22 @@ impl ChangedParts {
             && (usize::from(number) >= REGISTERS || self.registers[usize::from(number)])
     }
 
-    /// Whether a register is in the set.
-    pub fn has_registers(&self) -> bool
-        ensures { result ≡ self.now.some_register }
+    /// The number of the first register in the set from this one on; 100 if there is none.
+    #[inline]
+    pub fn next_register(&self, from: usize) -> usize
+        ensures most { result ≤ 100 }
+        ensures first { from ≤ 100 → from ≤ result }
+        ensures none { (number : ℕ) → from ≤ number → number < result → is_changed self.now (KeptRegister number) ≡ false }
     {
-        self.some_register
+        if !self.some_register {
+            return REGISTERS;
+        }
+        for number in from..REGISTERS {
+            if self.registers[number] {
+                return number;
+            }
+        }
+        REGISTERS
     }
 
     /// Whether the files are in the set.

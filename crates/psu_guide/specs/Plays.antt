@@ -1,9 +1,8 @@
 -- What the instrument answers to lines that are sent to it, in the words of a run.
-use Rattle.std.specs.Prelude.{◌≡◌, ⊤, ℕ, List, [], length, None, Some}
+use Rattle.std.specs.Prelude.{◌≡◌, ◌⊎◌, ⊤, ℕ, List, [], length, None, Some}
 use Rattle.psu_disk.specs.Disk.{DiskState, IsCrashImage}
 use Rattle.psu_items.specs.Image.{EachRepresents, current_root, number_in}
-use Rattle.psu_run.specs.Results.{WritesRun}
-use Rattle.psu_run.specs.Reasons.{EndsFor, GivenByInput}
+use Rattle.psu_run.specs.Runs.{DoesNotStart, GivenByInput, WritesFirst, WritesRun}
 use Rattle.psu_run.specs.declared.run_cause.RunCause.{RunCause}
 use Rattle.psu_guide.specs.declared.play_fault.PlayFault.{PlayFault}
 use Rattle.psu_guide.specs.declared.play_fault.PlayFault.TheVariants.{Memory, Run}
@@ -23,13 +22,15 @@ pub record Plays (sent text : List ℕ) : Type 0 where
   pub writes : WritesRun disk.bytes (Some sent) 0 0 (Some []) (Some text) over
 
 -- On a new image a run to which this is sent ends early for this cause, and no call of its disk fails. `rest` is what it
--- did not read.
+-- did not read, and `text` what it wrote.
 pub record FailsWith (sent : List ℕ) (cause : RunCause) : Type 0 where
   pub disk : DiskState
   pub is_new : IsNew disk
-  pub left : List ℕ
+  pub over : DiskState
   pub rest : List ℕ
-  pub why : EndsFor disk.bytes 0 0 left (GivenByInput (Some sent) (Some rest) None None) cause
+  pub text : List ℕ
+  pub ends : DoesNotStart cause 0 0 (Some sent) (Some rest) (Some []) (Some text) disk over
+      ⊎ WritesFirst (GivenByInput (Some sent) (Some rest) None None) cause disk.bytes (Some sent) 0 0 (Some []) (Some text) over
 
 -- Why a new instrument cannot answer. A contract cannot see that an allocation failed.
 abbrev pub CannotAnswer : List ℕ → PlayFault → Type 0

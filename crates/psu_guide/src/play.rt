@@ -1,7 +1,6 @@
 //! The responses of the instrument.
-ghost use Rattle.std.specs.Prelude.{IfErr, IfOk, IfSome, List, None, Some, [], ℕ};
-ghost use Rattle.psu_run.specs.Reasons.{EndsFor, GivenByInput};
-ghost use Rattle.psu_run.specs.Results.{WritesRun};
+ghost use Rattle.std.specs.Prelude.{◌⊎◌, IfErr, IfOk, IfSome, List, None, Some, [], ℕ};
+ghost use Rattle.psu_run.specs.Runs.{DoesNotStart, GivenByInput, WritesFirst, WritesRun};
 ghost use Rattle.psu_guide.specs.Plays.{CannotAnswer, IsNew, Plays};
 
 use crate::play_fault::PlayFault;
@@ -33,9 +32,10 @@ fn written<D: Disk + Drop, A: Allocator + Copy>(
     ensures whole { D.honest → IfOk result (λ text. (over : D)
         × WritesRun (D.state disk).bytes (Some sent.now) (D.failures disk) (D.failures over) (Some [])
         (Some text.items) (D.state over)) }
-    ensures early { D.honest → IfErr result (λ cause. (over : D) × (rest : List ℕ)
-        × EndsFor (D.state disk).bytes (D.failures disk) (D.failures over) (D.state over).bytes
-        (GivenByInput (Some sent.now) (Some rest) None None) cause) }
+    ensures early { D.honest → IfErr result (λ cause. (over : D) × (rest : List ℕ) × (text : List ℕ)
+        × (DoesNotStart cause (D.failures disk) (D.failures over) (Some sent.now) (Some rest) (Some []) (Some text) (D.state disk) (D.state over)
+        ⊎ WritesFirst (GivenByInput (Some sent.now) (Some rest) None None) cause (D.state disk).bytes (Some sent.now)
+        (D.failures disk) (D.failures over) (Some []) (Some text) (D.state over))) }
 {
     let mut reader = sent;
     let mut text = Vec::new(alloc);

@@ -42,7 +42,9 @@ pub record ShowsMap {D A : Type 0} {G : Ghosts D} (pages : Pages D A G) (map : L
   pub sorted : IsSorted map
   pub holds : Ghosts.honest G → IsMapOf map (shown_in pages.root (Ghosts.state G pages.disk).bytes)
 
--- the pages show the map, and no page of the pool is claimed but those of their heads
+-- the pages show the map, no page of the pool is claimed but those of their heads, and the disk has confirmed that what was
+-- written is found again
 pub record KeepsMap {D A : Type 0} {G : Ghosts D} (pages : Pages D A G) (map : List Item) : Type 0 where
   pub shows : ShowsMap pages map
   pub spare : IsSpare pages pages.heads.items
+  pub confirmed : Ghosts.confirmed G pages.disk

@@ -90,6 +90,7 @@ fn read_back<D: Disk, A: Allocator + Copy>(
     requires none_older { pages.old.older.items ≡ [] }
     requires spare { IsSpare pages.old pages.old.heads.items }
     ensures spare { OnOk result (IsSpare pages.new pages.new.heads.items) }
+    ensures confirmed { OnOk result (D.confirmed pages.new.disk) }
     ensures one { OnOk result (pages.new.standing ≡ One) }
     ensures root { OnOk result (pages.new.root ≡ pages.old.root) }
     ensures words { OnOk result ((pages.new.limit ≡ pages.old.limit) × (pages.new.version ≡ pages.old.version) × (pages.new.number ≡ pages.old.number)) }

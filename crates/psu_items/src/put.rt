@@ -44,6 +44,7 @@ pub(crate) fn put<D: Disk, A: Allocator + Copy>(
     ensures step { DiskStep D.Disk pages.old.disk pages.new.disk result (λ cause. ⊤) }
     ensures shows { OnOk result (ShowsMap pages.new (aimed target.now)) }
     ensures spare { OnOk result (IsSpare pages.new pages.new.heads.items) }
+    ensures confirmed { OnOk result (D.confirmed pages.new.disk) }
     ensures limit { pages.new.limit ≡ pages.old.limit }
     ensures version { OnOk result (pages.new.version ≡ 2) }
     ensures number { OnOk result (pages.new.number ≡ pages.old.number + 1) }

@@ -9,7 +9,8 @@ use psu_pages::Pages;
 use std::alloc::Allocator;
 use std::marker::Model;
 
-/// A map on a disk: each possible crash image of the disk represents the map. Contracts see a `MapOn`.
+/// A map on a disk: each possible crash image of the disk represents the map, and the disk has confirmed that what was
+/// written last is found again (`Disk::confirm`). Contracts see a `MapOn`.
 #[derive(Drop)]
 pub struct Store<D: Disk, A: Allocator + Copy> {
     pub(crate) pages: Pages<D, A>,
@@ -65,6 +66,7 @@ impl<D: Disk, A: Allocator + Copy> Store<D, A> {
         ensures value { result ≡ self.disk }
         ensures represents { D.honest → EachRepresents (D.state result) self.limit self.items }
         ensures number { D.honest → (image : List ℕ) → IsCrashImage (D.state result) image → number_in (current_root image) image ≡ self.number }
+        ensures confirmed { D.confirmed result }
     {
         self.pages.into_disk()
     }

@@ -155,6 +155,17 @@ fn datum_at(text: &[u8]) -> Option<Found<'_>>
     })
 }
 
+/// Returns the datum that a text begins with, as `datum_at` does. A query has mostly no text after its header.
+fn first_datum(text: &[u8]) -> Option<Found<'_>>
+    ensures some { IfSome result (λ found. datum_at text.now ≡ Some (datum_of found.datum, found.tail.now)) }
+    ensures none { IfNone result (datum_at text.now ≡ None) }
+{
+    if text.is_empty() {
+        return None;
+    }
+    datum_at(text)
+}
+
 /// Calls `datum_at` for a datum after a `,`: few units have one, so its code is kept out of line.
 #[inline(never)]
 fn later_datum(text: &[u8]) -> Option<Found<'_>>
@@ -210,7 +221,7 @@ pub(crate) fn list_at(text: &[u8]) -> Option<Data<'_>>
     ensures some { IfSome result (λ shown. (list : List DatumData) × Lists text.now list × HoldsData shown list) }
     ensures none { IfNone result ((list : List DatumData) → Lists text.now list → ⊥) }
 {
-    let found = datum_at(text);
+    let found = first_datum(text);
     if is_list(text, &found) {
         Some(Data { found })
     } else {

@@ -102,6 +102,7 @@ impl<'a> Units<'a> {
 
     /// Reads the next unit; returns none where none is left. A faulty string or block is reported as the fault of its
     /// unit, which extends up to END.
+    #[inline(always)]
     pub fn next_unit(&mut self) -> Option<Unit<'a>>
         ensures some { IfSome result (λ unit. (units : List Part)
             → MakesUnits self.new.first [] self.new.text.now units

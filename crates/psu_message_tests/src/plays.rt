@@ -19,7 +19,7 @@ fn proceeds(
     exec: &mut Power,
     session: Session,
     log: &mut Log,
-    transmission: &mut Transmission<Global>,
+    transmission: &mut Transmission<Global, Session>,
 ) -> Result<Option<Need>, Stopped> {
     let mut probe = Probe { exec, session, log };
     transmission.proceed(&mut probe, alloc)

@@ -2,7 +2,7 @@
 use crate::devices::Power;
 use crate::log::{Log, Turn};
 use psu_exec::{Outcome, Request, Session};
-use psu_messages::{Executor, MemoryRefused, Need};
+use psu_messages::{Executor, MemoryRefused, Need, Tried};
 use std::alloc::Global;
 
 /// The executor has stopped permanently.
@@ -20,6 +20,9 @@ pub(crate) struct Probe<'a> {
 impl<'a> Executor<Global> for Probe<'a> {
     type Stop = Stopped;
 
+    // The session whose unit waits.
+    type Wait = Session;
+
     ghost relations = { record { does = λ _ _ _. Unit {0}; fails = λ _ _ _ _. Unit {0}; stops = λ _ _ _. Unit {0}; yields = λ _. ⊥ } };
 
     // It never yields.
@@ -27,21 +30,23 @@ impl<'a> Executor<Global> for Probe<'a> {
         true
     }
 
-    fn execute(&mut self, request: &Request<'_>) -> Result<Outcome<Global>, Stopped> {
-        match self.log.turn() {
-            Turn::Continues => self.executed(request),
-            Turn::Ends => Err(Stopped),
+    fn execute(&mut self, request: &Request<'_>) -> Result<Tried<Global, Session>, Stopped> {
+        let outcome = match self.log.turn() {
+            Turn::Continues => self.executed(request)?,
+            Turn::Ends => return Err(Stopped),
             Turn::Held => self.put_off(Need::Lock, Outcome::Held),
             Turn::Later => self.put_off(Need::Room, Outcome::Later),
-        }
+        };
+        Ok(Tried::of(outcome, self.session))
     }
 
-    fn settle(&mut self) -> Result<Outcome<Global>, Stopped> {
-        match self.log.turn() {
-            Turn::Continues => self.settled(),
-            Turn::Ends => Err(Stopped),
+    fn settle(&mut self, wait: Session) -> Result<Tried<Global, Session>, Stopped> {
+        let outcome = match self.log.turn() {
+            Turn::Continues => self.settled(wait)?,
+            Turn::Ends => return Err(Stopped),
             Turn::Held | Turn::Later => self.put_off(Need::Flush, Outcome::Parked),
-        }
+        };
+        Ok(Tried::of(outcome, wait))
     }
 
     fn send(&mut self, text: &[u8], is_last: bool) -> Result<(), Stopped> {
@@ -58,13 +63,9 @@ impl<'a> Executor<Global> for Probe<'a> {
 
 impl<'a> Probe<'a> {
     // Puts the unit off, which has to wait for this.
-    fn put_off(
-        &mut self,
-        need: Need,
-        outcome: Outcome<Global>,
-    ) -> Result<Outcome<Global>, Stopped> {
+    fn put_off(&mut self, need: Need, outcome: Outcome<Global>) -> Outcome<Global> {
         self.log.need = need;
-        Ok(outcome)
+        outcome
     }
 
     // Executes a unit on the device.
@@ -76,10 +77,10 @@ impl<'a> Probe<'a> {
         }
     }
 
-    // Settles the wait of the session on the device.
-    fn settled(&mut self) -> Result<Outcome<Global>, Stopped> {
-        if self.exec.is_open(self.session) {
-            Ok(self.exec.settle(self.session))
+    // Settles the wait of a session on the device.
+    fn settled(&mut self, session: Session) -> Result<Outcome<Global>, Stopped> {
+        if self.exec.is_open(session) {
+            Ok(self.exec.settle(session))
         } else {
             Err(Stopped)
         }

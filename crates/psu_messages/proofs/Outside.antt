@@ -92,7 +92,7 @@ no_expansion : {A : Type 0} (expansion : Option (Expansion A)) → inside_of exp
 no_expansion None e = refl
 no_expansion (Some some) e = absurd (cc (e))
 
-pub turn_next : {A : Type 0} (source : Source) (c : Rust A) (units : ℕ) (request : Request) (first : Bool) → c.units ≡ units → Asks source units request first → (first ≡ true → c.expansion ≡ None → c.gathered.answered ≡ false) → NextUnit source (progress_of c) request
+pub turn_next : {A W : Type 0} (source : Source) (c : Rust A W) (units : ℕ) (request : Request) (first : Bool) → c.units ≡ units → Asks source units request first → (first ≡ true → c.expansion ≡ None → c.gathered.answered ≡ false) → NextUnit source (progress_of c) request
 turn_next source c units request first same asks clear =
     (first, subst (λ (z : ℕ). Asks source z request first) (sym same) asks, λ f none. clear f (no_expansion c.expansion none))
 
@@ -101,16 +101,16 @@ not_false true e = refl
 not_false false e = absurd (cc (e))
 
 -- where no expansion replaces the next unit
-plain_of : {A : Type 0} (c : Rust A) → c.expansion ≡ None → progress_of c ≡ plain c.units c.parked c.gathered
-plain_of c none = ap (λ e. progress (record { units = c.units; inside = inside_of e; parked = c.parked }) (body_of e) c.gathered) none
+plain_of : {A W : Type 0} (c : Rust A W) → c.expansion ≡ None → progress_of c ≡ plain c.units (is_some c.parked) c.gathered
+plain_of c none = ap (λ e. progress (record { units = c.units; inside = inside_of e; parked = is_some c.parked }) (body_of e) c.gathered) none
 
-module _ {A X : Type 0} (does : X → Effect → X → Type 0) (source : Source) (c : Rust A) (none : c.expansion ≡ None) where
-  pub next_of : (request : Request) → NextUnit source (progress_of c) request → IsNext source (plain c.units c.parked c.gathered) request
-  next_of request next = next_plain source c.units c.parked c.gathered request (subst (λ (z : Progress). NextUnit source z request) (plain_of c none) next)
+module _ {A W X : Type 0} (does : X → Effect → X → Type 0) (source : Source) (c : Rust A W) (none : c.expansion ≡ None) where
+  pub next_of : (request : Request) → NextUnit source (progress_of c) request → IsNext source (plain c.units (is_some c.parked) c.gathered) request
+  next_of request next = next_plain source c.units (is_some c.parked) c.gathered request (subst (λ (z : Progress). NextUnit source z request) (plain_of c none) next)
 
-  pub from_plain : (was now : X) (d : Progress) → Advances does source was (plain c.units c.parked c.gathered) now d → Advances does source was (progress_of c) now d
+  pub from_plain : (was now : X) (d : Progress) → Advances does source was (plain c.units (is_some c.parked) c.gathered) now d → Advances does source was (progress_of c) now d
   from_plain was now d advances = subst (λ (z : Progress). Advances does source was z now d) (sym (plain_of c none)) advances
 
-pub stops_plain : {A X S : Type 0} (r : Relations X S) (source : Source) (c : Rust A) → c.expansion ≡ None → (was now : X) (stop : S) (left : Text) → StopsAt r source was (plain c.units c.parked c.gathered) stop now left
+pub stops_plain : {A W X S : Type 0} (r : Relations X S) (source : Source) (c : Rust A W) → c.expansion ≡ None → (was now : X) (stop : S) (left : Text) → StopsAt r source was (plain c.units (is_some c.parked) c.gathered) stop now left
     → StopsAt r source was (progress_of c) stop now left
 stops_plain r source c none was now stop left stopped = subst (λ (z : Progress). StopsAt r source was z stop now left) (sym (plain_of c none)) stopped

@@ -1,11 +1,11 @@
 //! The executor of a session's units.
 ghost use Rattle.std.specs.Prelude.{◌≡◌, false, IfOk, IfErr, OnOk};
-ghost use Rattle.psu_exec.specs.Shown.{outcome_of};
 ghost use Rattle.psu_messages.specs.Effects.{Executed, Settled, Sent};
 ghost use Rattle.psu_messages.specs.Relations.{Relations};
+ghost use Rattle.psu_messages.specs.Shown.{HasItsWait, reply_of};
 
-use crate::MemoryRefused;
-use psu_exec::{Outcome, Request};
+use crate::{MemoryRefused, Tried};
+use psu_exec::Request;
 use std::alloc::Allocator;
 
 /// The executor of a session's units, which also sends their responses. It is known only by how an effect (`Effect`)
@@ -13,6 +13,9 @@ use std::alloc::Allocator;
 pub trait Executor<A: Allocator + Copy> {
     /// The reason why it stops for good.
     type Stop;
+
+    /// What settles the wait of a unit that was accepted. It has no value where no unit is left waiting.
+    type Wait: Copy;
 
     /// What leads from one of its states to another.
     ghost relations: { Relations Self Self.Stop };
@@ -22,13 +25,15 @@ pub trait Executor<A: Allocator + Copy> {
         ensures { result ≡ false → relations.yields self.now };
 
     /// Tries a unit.
-    fn execute(&mut self, request: &Request<'_>) -> Result<Outcome<A>, Self::Stop>
-        ensures done { IfOk result (λ o. relations.does self.old (Executed request.now (outcome_of o)) self.new) }
+    fn execute(&mut self, request: &Request<'_>) -> Result<Tried<A, Self::Wait>, Self::Stop>
+        ensures done { IfOk result (λ t. relations.does self.old (Executed request.now (reply_of t)) self.new) }
+        ensures wait { IfOk result HasItsWait }
         ensures failed { IfErr result (λ stop. relations.fails self.old request.now stop self.new) };
 
     /// Returns the result of the wait of a unit that was accepted.
-    fn settle(&mut self) -> Result<Outcome<A>, Self::Stop>
-        ensures done { IfOk result (λ o. relations.does self.old (Settled (outcome_of o)) self.new) }
+    fn settle(&mut self, wait: Self::Wait) -> Result<Tried<A, Self::Wait>, Self::Stop>
+        ensures done { IfOk result (λ t. relations.does self.old (Settled (reply_of t)) self.new) }
+        ensures wait { IfOk result HasItsWait }
         ensures stopped { IfErr result (λ stop. relations.stops self.old stop self.new) };
 
     /// Sends a piece of a response message, the last or an earlier one.

@@ -1,5 +1,5 @@
 //! The units of an expansion, in the place of the unit that it replaces.
-ghost use Rattle.std.specs.Prelude.{ℕ, IfOk, IfErr, IfSome};
+ghost use Rattle.std.specs.Prelude.{is_some, ℕ, IfOk, IfErr, IfSome};
 ghost use Rattle.psu_messages.specs.Relations.{IsAwaited};
 ghost use Rattle.psu_messages.specs.Executions.{Advances, StopsAt};
 ghost use Rattle.psu_messages.specs.Stepping.{expanded_by, within};
@@ -16,15 +16,15 @@ pub(crate) fn expand<A: Allocator + Copy, F: Executor<A>>(
     executor: &mut F,
     body: &[u8],
     done: &mut u64,
-    parked: &mut bool,
+    parked: &mut Option<F::Wait>,
     gathered: &mut ResponseBuffer<A>,
 ) -> Result<Option<Need>, F::Stop>
     ensures advances { IfOk result (λ need. (source : Source) (units : ℕ)
-        → Advances F.relations.does source executor.old (within units body.now done.old parked.old gathered.old)
-        executor.new (expanded_by need units body.now done.new parked.new gathered.new)) }
+        → Advances F.relations.does source executor.old (within units body.now done.old (is_some parked.old) gathered.old)
+        executor.new (expanded_by need units body.now done.new (is_some parked.new) gathered.new)) }
     ensures waits { IfOk result (λ some. IfSome some (IsAwaited F.relations executor.new)) }
     ensures stops { IfErr result (λ stop. (source : Source) (units : ℕ)
-        → StopsAt F.relations source executor.old (within units body.now done.old parked.old gathered.old) stop executor.new gathered.new) }
+        → StopsAt F.relations source executor.old (within units body.now done.old (is_some parked.old) gathered.old) stop executor.new gathered.new) }
 {
     let mut cursor = Cursor::of(body);
     cursor.pass_to(*done, true);
@@ -43,6 +43,6 @@ pub(crate) fn expand<A: Allocator + Copy, F: Executor<A>>(
         }
         *done += 1;
     }
-    *parked = false;
+    *parked = None;
     Ok(None)
 }

@@ -17,6 +17,7 @@ mod response_buffer;
 mod responses;
 mod steps;
 mod transmission;
+mod tried;
 mod tries;
 
 pub use executor::Executor;
@@ -33,3 +34,4 @@ pub use need::Need;
 pub use progress::Progress;
 pub use response_buffer::ResponseBuffer;
 pub use transmission::Transmission;
+pub use tried::Tried;

@@ -10,7 +10,7 @@ ghost use Rattle.psu_messages.specs.Units.{Asks, EndsMessage, Fault, Source, Tex
 use crate::cursor::{Cursor, SavedPlace, take_unit};
 use crate::expansions::expand;
 use crate::responses::{add_response, close};
-use crate::tries::{Tried, attempt};
+use crate::tries::{Attempt, take_try};
 use crate::{Executor, Expansion, Need, Progress};
 use psu_exec::{Outcome, Request, ScpiError};
 use std::alloc::Allocator;
@@ -19,7 +19,7 @@ use std::alloc::Allocator;
 #[inline(never)]
 fn continue_expansion<A: Allocator + Copy, F: Executor<A>>(
     executor: &mut F,
-    progress: &mut Progress<A>,
+    progress: &mut Progress<A, F::Wait>,
 ) -> Result<Option<Need>, F::Stop>
     requires some { is_some progress.old.expansion ≡ true }
     requires units { progress.old.units + 1 < 2 ^ 64 }
@@ -56,27 +56,27 @@ fn continue_expansion<A: Allocator + Copy, F: Executor<A>>(
 fn begin<A: Allocator + Copy, F: Executor<A>>(
     executor: &mut F,
     request: &Request<'_>,
-    progress: &mut Progress<A>,
+    progress: &mut Progress<A, F::Wait>,
 ) -> Result<Option<Need>, F::Stop>
     requires none { progress.old.expansion ≡ None }
     requires units { progress.old.units + 1 < 2 ^ 64 }
     ensures advances { IfOk result (λ _. (source : Source)
-        → IsNext source (plain progress.old.units progress.old.parked progress.old.gathered) request.now
+        → IsNext source (plain progress.old.units (is_some progress.old.parked) progress.old.gathered) request.now
         → Advances F.relations.does source executor.old
-        (plain progress.old.units progress.old.parked progress.old.gathered) executor.new
+        (plain progress.old.units (is_some progress.old.parked) progress.old.gathered) executor.new
         (progress_of progress.new)) }
     ensures units { IfOk result (λ need. need ≡ None → progress.new.units ≡ progress.old.units + 1) }
     ensures grows { progress.old.units ≤ progress.new.units }
     ensures waits { IfOk result (λ some. IfSome some (IsAwaited F.relations executor.new)) }
     ensures stops { IfErr result (λ stop. (source : Source)
-        → IsNext source (plain progress.old.units progress.old.parked progress.old.gathered) request.now
+        → IsNext source (plain progress.old.units (is_some progress.old.parked) progress.old.gathered) request.now
         → StopsAt F.relations source executor.old
-        (plain progress.old.units progress.old.parked progress.old.gathered) stop executor.new
+        (plain progress.old.units (is_some progress.old.parked) progress.old.gathered) stop executor.new
         progress.new.gathered) }
 {
-    match attempt(executor, &mut progress.parked, request)? {
-        Tried::Waits(need) => Ok(Some(need)),
-        Tried::Ended(outcome) => match outcome {
+    match take_try(executor, &mut progress.parked, request)? {
+        Attempt::Waits(need) => Ok(Some(need)),
+        Attempt::Ended(outcome) => match outcome {
             Outcome::Expand(body) => {
                 progress.expansion = Some(Expansion { body, done: 0 });
                 continue_expansion(executor, progress)
@@ -95,7 +95,7 @@ fn begin<A: Allocator + Copy, F: Executor<A>>(
 fn close_before<A: Allocator + Copy, F: Executor<A>>(
     executor: &mut F,
     first: bool,
-    progress: &mut Progress<A>,
+    progress: &mut Progress<A, F::Wait>,
 ) -> Result<(), F::Stop>
     ensures advances { OnOk result ((source : Source) → (first ≡ true → progress.old.expansion ≡ None
         → EndsMessage source progress.old.units None)
@@ -121,7 +121,7 @@ fn take_turn<A: Allocator + Copy, F: Executor<A>>(
     executor: &mut F,
     first: bool,
     request: &Request<'_>,
-    progress: &mut Progress<A>,
+    progress: &mut Progress<A, F::Wait>,
 ) -> Result<Option<Need>, F::Stop>
     requires { progress.old.units + 1 < 2 ^ 64 }
     ensures advances { IfOk result (λ _. (source : Source) → Asks source progress.old.units request.now first
@@ -144,7 +144,7 @@ fn take_turn<A: Allocator + Copy, F: Executor<A>>(
 fn execute_units<'t, A: Allocator + Copy, F: Executor<A>>(
     executor: &mut F,
     cursor: &mut Cursor<'t>,
-    progress: &mut Progress<A>,
+    progress: &mut Progress<A, F::Wait>,
 ) -> Result<Option<Need>, F::Stop>
     requires place { IsCursor false cursor.old }
     requires read { cursor.old.read ≡ progress.old.units }
@@ -189,7 +189,7 @@ fn execute_units<'t, A: Allocator + Copy, F: Executor<A>>(
 pub fn execute_text<A: Allocator + Copy, F: Executor<A>>(
     executor: &mut F,
     bytes: &[u8],
-    progress: &mut Progress<A>,
+    progress: &mut Progress<A, F::Wait>,
 ) -> Result<Option<Need>, F::Stop>
     requires { progress.old.units ≡ 0 }
     ensures advances { IfOk result (λ _. ProgressAdvances F.relations
@@ -209,7 +209,7 @@ pub fn execute_text<A: Allocator + Copy, F: Executor<A>>(
 pub fn execute_fault<A: Allocator + Copy, F: Executor<A>>(
     executor: &mut F,
     error: ScpiError,
-    progress: &mut Progress<A>,
+    progress: &mut Progress<A, F::Wait>,
 ) -> Result<Option<Need>, F::Stop>
     ensures advances { IfOk result (λ _. ProgressAdvances F.relations
         (Fault error) executor.old progress.old executor.new progress.new) }
@@ -242,7 +242,7 @@ pub(crate) fn execute_rest<A: Allocator + Copy, F: Executor<A>>(
     alloc: A,
     bytes: &[u8],
     place: &mut SavedPlace<A>,
-    progress: &mut Progress<A>,
+    progress: &mut Progress<A, F::Wait>,
 ) -> Result<Option<Need>, F::Stop>
     requires kept { IsSavedPlace false bytes.now place.old }
     requires done { place.old.read ≤ progress.old.units }

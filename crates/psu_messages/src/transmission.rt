@@ -13,14 +13,14 @@ use std::marker::Model;
 /// A transmission in execution: what is executed, and how far it is. Contracts see what it is and its progress. It
 /// keeps a place up to which all units are done, so that a call passes over at most the units of the call before it.
 #[derive(Drop)]
-pub struct Transmission<A: Allocator + Copy> {
+pub struct Transmission<A: Allocator + Copy, W: Copy> {
     input: Input<A>,
     // A place in its text up to which all units are done.
     place: SavedPlace<A>,
-    progress: Progress<A>,
+    progress: Progress<A, W>,
 }
 
-impl<A: Allocator + Copy> Model for Transmission<A> {
+impl<A: Allocator + Copy, W: Copy> Model for Transmission<A, W> {
     ghost use Rattle.psu_messages.specs.Shown.{progress_of};
     ghost use Rattle.psu_messages.specs.Transmissions.{IsPlaced, Shown};
     ghost use Rattle.psu_messages.specs.Units.{source_of};
@@ -32,10 +32,10 @@ impl<A: Allocator + Copy> Model for Transmission<A> {
     ghost invariant = { λ t. IsPlaced (source_of t.input) t.place t.progress.units };
 }
 
-impl<A: Allocator + Copy> Transmission<A> {
+impl<A: Allocator + Copy, W: Copy> Transmission<A, W> {
     /// Returns a transmission of which nothing is done. Its response buffer may be that of another one, whose allocation it
     /// takes over.
-    pub fn new(alloc: A, input: Input<A>, buffer: ResponseBuffer<A>) -> Transmission<A>
+    pub fn new(alloc: A, input: Input<A>, buffer: ResponseBuffer<A>) -> Transmission<A, W>
         ensures source { result.source ≡ source_of input }
         ensures progress { result.progress ≡ beginning }
     {
@@ -64,7 +64,7 @@ impl<A: Allocator + Copy> Transmission<A> {
     /// what is waited for, or none if the transmission is over. Another call continues it, here or elsewhere. If the
     /// executor stops, it stops for good; responses that are not sent are left, except the response of a unit for which
     /// an allocation failed.
-    pub fn proceed<F: Executor<A>>(
+    pub fn proceed<F: Executor<A, Wait = W>>(
         &mut self,
         executor: &mut F,
         alloc: A,

@@ -1,60 +1,76 @@
 //! One try of a unit.
-ghost use Rattle.std.specs.Prelude.{◌≡◌, IfOk, IfErr};
+ghost use Rattle.std.specs.Prelude.{◌≡◌, ◌≢◌, is_some, IfOk, IfErr};
+ghost use Rattle.psu_exec.specs.Device.{Parked};
 ghost use Rattle.psu_exec.specs.Shown.{outcome_of};
 ghost use Rattle.psu_messages.specs.Effects.{needs};
-ghost use Rattle.psu_messages.specs.Shown.{IsTried};
+ghost use Rattle.psu_messages.specs.Executions.{Trial};
+ghost use Rattle.psu_messages.specs.Shown.{HasItsWait, IsTried, reply_of};
 ghost use Rattle.psu_messages.specs.Stepping.{IsBrokenOff};
 
-use crate::{Executor, Need};
+use crate::{Executor, Need, Tried};
 use psu_exec::{Outcome, Request};
 use std::alloc::Allocator;
 
-/// The result of a try of a unit.
+/// Whether a unit has ended with a try.
 #[derive(Drop)]
-pub(crate) enum Tried<A: Allocator + Copy> {
+pub(crate) enum Attempt<A: Allocator + Copy> {
     /// The unit has ended.
     Ended(Outcome<A>),
     /// The unit is to be tried again once this need is met.
     Waits(Need),
 }
 
-// What a unit waits for if it is to be tried again.
+// What a unit that is not parked waits for if it is to be tried again.
 #[inline(always)]
 fn need_of<A: Allocator + Copy>(outcome: &Outcome<A>) -> Option<Need>
+    requires { outcome_of outcome.now ≢ Parked }
     ensures { result ≡ needs (outcome_of outcome.now) }
 {
     match outcome {
-        Outcome::Parked => Some(Need::Flush),
         Outcome::Held => Some(Need::Lock),
         Outcome::Later => Some(Need::Room),
         _ => None,
     }
 }
 
+// Executes a unit, or settles its wait where it was accepted.
+#[inline(always)]
+fn try_once<A: Allocator + Copy, F: Executor<A>>(
+    executor: &mut F,
+    parked: Option<F::Wait>,
+    request: &Request<'_>,
+) -> Result<Tried<A, F::Wait>, F::Stop>
+    ensures tried { IfOk result (λ t. Trial F.relations.does executor.old (is_some parked) request.now executor.new (reply_of t)) }
+    ensures wait { IfOk result HasItsWait }
+    ensures stopped { IfErr result (λ stop. IsBrokenOff F.relations executor.old (is_some parked) request.now stop executor.new) }
+{
+    match parked {
+        Some(wait) => executor.settle(wait),
+        None => executor.execute(request),
+    }
+}
+
 /// Tries a unit once, whether it was accepted before or not.
 #[inline(always)]
-pub(crate) fn attempt<A: Allocator + Copy, F: Executor<A>>(
+pub(crate) fn take_try<A: Allocator + Copy, F: Executor<A>>(
     executor: &mut F,
-    parked: &mut bool,
+    parked: &mut Option<F::Wait>,
     request: &Request<'_>,
-) -> Result<Tried<A>, F::Stop>
-    ensures tried { IfOk result (IsTried F.relations.does executor.old parked.old request.now executor.new parked.new) }
-    ensures stopped { IfErr result (λ stop. IsBrokenOff F.relations executor.old parked.old request.now stop executor.new) }
+) -> Result<Attempt<A>, F::Stop>
+    ensures tried { IfOk result (IsTried F.relations.does executor.old (is_some parked.old) request.now executor.new (is_some parked.new)) }
+    ensures stopped { IfErr result (λ stop. IsBrokenOff F.relations executor.old (is_some parked.old) request.now stop executor.new) }
 {
-    let outcome = if *parked {
-        executor.settle()?
-    } else {
-        executor.execute(request)?
-    };
-    match need_of(&outcome) {
-        Some(Need::Flush) => {
-            *parked = true;
-            Ok(Tried::Waits(Need::Flush))
+    match try_once(executor, *parked, request)? {
+        Tried::Parked(wait) => {
+            *parked = Some(wait);
+            Ok(Attempt::Waits(Need::Flush))
         }
-        Some(need) => Ok(Tried::Waits(need)),
-        None => {
-            *parked = false;
-            Ok(Tried::Ended(outcome))
-        }
+        Tried::Replied(outcome) => match need_of(&outcome) {
+            Some(need) => Ok(Attempt::Waits(need)),
+            None => {
+                *parked = None;
+                Ok(Attempt::Ended(outcome))
+            }
+        },
     }
 }

@@ -22,8 +22,31 @@ impl<D: Disk, A: Allocator + Copy> Pages<D, A> {
 
     /// Formats a disk, whatever it held, so that it has no items. The limit is 4 to 480, and the disk has at least 512
     /// bytes for each of the pages: the two roots, and twice the limit. All memory is allocated before the first call
-    /// of the disk.
-    pub fn format(alloc: A, mut disk: D, limit: u16) -> Result<Pages<D, A>, FormatFault<D>>
+    /// of the disk. In the end the disk confirms that what was written is found again (`Disk::confirm`).
+    pub fn format(alloc: A, disk: D, limit: u16) -> Result<Pages<D, A>, FormatFault<D>>
+        requires limit_least { 4 ≤ limit }
+        requires limit_most { limit ≤ 480 }
+        requires room { 512 * (2 + 2 * limit) ≤ D.extent disk }
+        ensures fresh { IfOk result (IsFresh limit) }
+        ensures spelled { D.honest → IfOk result (λ pages. page_of First (D.state pages.disk).bytes ≡ open_root limit 1 []) }
+        ensures zero { D.honest → IfOk result (λ pages. gate Second (D.state pages.disk).bytes ≡ 0) }
+        ensures empty { D.honest → IfOk result (λ pages. items_in pages.root (D.state pages.disk).bytes ≡ []) }
+        ensures confirmed { IfOk result (λ pages. D.confirmed pages.disk) }
+        ensures step { DiskStep D.Disk disk (formatted_disk result) result (λ e. e.cause ≡ NotWritten) }
+        ensures no_call { IfErr result (λ e. e.cause ≡ NoMemory → e.disk ≡ disk) }
+    {
+        let mut pages = Pages::laid_out(alloc, disk, limit)?;
+        match pages.confirm() {
+            Ok(()) => Ok(pages),
+            Err(_) => Err(FormatFault {
+                cause: FormatCause::Device,
+                disk: pages.into_disk(),
+            }),
+        }
+    }
+
+    // Formats a disk, as `format` does.
+    fn laid_out(alloc: A, mut disk: D, limit: u16) -> Result<Pages<D, A>, FormatFault<D>>
         requires limit_least { 4 ≤ limit }
         requires limit_most { limit ≤ 480 }
         requires room { 512 * (2 + 2 * limit) ≤ D.extent disk }

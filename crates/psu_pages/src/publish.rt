@@ -94,8 +94,31 @@ impl<D: Disk, A: Allocator + Copy> Pages<D, A> {
         Ok(())
     }
 
-    /// Closes the gate of the older root if it is open, and releases the pages that only the older root names.
+    /// Closes the gate of the older root if it is open, releases the pages that only the older root names, and confirms
+    /// that what was written is found again where it was put (`Disk::confirm`).
     pub fn close_old(&mut self) -> Result<(), PageFault>
+        requires sure { self.old.standing ≢ Unsure }
+        ensures step { DiskStep D.Disk self.old.disk self.new.disk result (λ cause. ⊤) }
+        ensures device { IfErr result (λ cause. cause ≡ Device) }
+
+        ensures closed { OnOk result (HasClosed self.old self.new) }
+        ensures limit { self.new.limit ≡ self.old.limit }
+        ensures planned { (other : HeadOf) → IsPlanned self.old other → IsPlanned self.new other }
+        ensures zero { D.honest → OnOk result (self.old.standing ≡ Both → gate (other self.old.root) (D.state self.new.disk).bytes ≡ 0) }
+        ensures none { OnOk result (self.old.standing ≡ One → (D.honest → D.state self.new.disk ≡ D.state self.old.disk) × (self.new.free ≡ self.old.free)) }
+        ensures confirmed { OnOk result (D.confirmed self.new.disk) }
+
+        // At every moment the disk represents the same items, and nothing but the older gate is written.
+        ensures shown { D.honest → OnOk result (items_in self.new.root (D.state self.new.disk).bytes ≡ items_in self.old.root (D.state self.old.disk).bytes) }
+        ensures left { LeavesImages D.Disk self.old.disk self.new.disk (EncodesPages self.old) }
+        ensures touched { LeavesImages D.Disk self.old.disk self.new.disk (Closes self.old) }
+    {
+        self.close_gate()?;
+        self.confirm()
+    }
+
+    // Closes the gate of the older root if it is open, and releases the pages that only the older root names.
+    fn close_gate(&mut self) -> Result<(), PageFault>
         requires sure { self.old.standing ≢ Unsure }
         ensures step { DiskStep D.Disk self.old.disk self.new.disk result (λ cause. ⊤) }
         ensures device { IfErr result (λ cause. cause ≡ Device) }
@@ -119,6 +142,22 @@ impl<D: Disk, A: Allocator + Copy> Pages<D, A> {
         hand_over(&mut self.free, &self.older, &self.heads);
         self.older.clear();
         self.standing = Standing::One;
+        Ok(())
+    }
+
+    // Looks whether what was written is found again where it was put. It changes nothing.
+    pub(crate) fn confirm(&mut self) -> Result<(), PageFault>
+        ensures step { DiskStep D.Disk self.old.disk self.new.disk result (λ cause. ⊤) }
+        ensures device { IfErr result (λ cause. cause ≡ Device) }
+        ensures confirmed { OnOk result (D.confirmed self.new.disk) }
+
+        ensures same { HasSameHeads self.old self.new }
+        ensures standing { self.new.standing ≡ self.old.standing }
+        ensures planned { (other : HeadOf) → IsPlanned self.old other → IsPlanned self.new other }
+        ensures state { D.honest → D.state self.new.disk ≡ D.state self.old.disk }
+        ensures left { LeavesImages D.Disk self.old.disk self.new.disk (IsCrashImage (D.state self.old.disk)) }
+    {
+        self.disk.confirm()?;
         Ok(())
     }
 }

@@ -1,13 +1,13 @@
 -- Where nothing goes wrong, a unit is executed as the script says.
 use Rattle.std.proofs.Common.{◌≡◌, ◌≢◌, ℕ, ◌≤◌, ◌==◌, true, false, List, [], ◌∷◌, ◌++◌, refl, ap, ◌∙◌, subst, subst₂, inl, inr, arith, Some}
 use Rattle.std.proofs.lemmas.Bool.Decides.{nat_tests}
-use Rattle.psu_run.proofs.Common.{Acts, AreCalm, ByMacro, ByMeaning, Called, DiskAfter, EachRepresents, Early, Entry, Executed, Flush, GaveBack, HasOutcome, HasOutcomeFrom, IsContents, IsFlush, IsJob, IsUnit, Item, Job, JobData, JobEnd, Jobs, Later, MayAnswer, Nothing, Parked, Replies, Reply, Request, Rest, RunStep, Serves, Settled, State, Took, UnitOutcome, Walks, Whole, World, after_reply, flushed, items_of, job_out, target, wait_of}
+use Rattle.psu_run.proofs.Common.{Acts, AreCalm, ByMacro, ByMeaning, Called, DiskAfter, EachRepresents, Early, Entry, Executed, Flush, GaveBack, HasOutcome, HasOutcomeFrom, IsContents, IsFlush, IsJob, IsUnit, Item, Job, JobData, JobEnd, Jobs, Later, MayAnswer, Nothing, Parked, Replies, Reply, Request, Rest, RunStep, Serves, Settled, State, Took, UnitOutcome, Walks, Whole, World, after_reply, committed, flushed, items_of, job_out, target, wait_of}
 use Rattle.psu_lex.specs.declared.scpi_error.ScpiError.TheVariants.{OutOfMemory}
 use Rattle.psu_exec.specs.Device.{Error, Held, LockedOut, TooEarly, Runs, Expands, Means, after_unit}
 use Rattle.psu_exec.specs.Calls.{Commit, Stored, settle_answer, after_settle, settled, with_flush}
 use Rattle.psu_exec.proofs.RqsUpdates.{followed_same}
-use Rattle.psu_run.specs.Script.{flushed_by, waited}
 use Rattle.psu_run.specs.Runs.{EndsJob}
+use Rattle.psu_run.specs.Script.{waited}
 use Rattle.psu_run.proofs.Readings.{Holds}
 use Rattle.psu_run.proofs.Walking.{calm_split, walks_split}
 
@@ -50,9 +50,6 @@ still_on q s state disk store limit sound = record { state = state; whole = stor
 
 -- ---- flushes
 
-abbrev committed : Rest → Rest
-committed r = flushed_by false r
-
 -- a job that is taken
 pub take_alone : {r : Rest} {w new : World} {job : JobData} → Still r w → Calmly w (Called (Took (Job job)) ∷ []) new
     → (1 ≤ r.state.flush.unflushed) × (job.kind ≡ Commit) × (new.state ≡ with_flush r.state (job_out r.state.flush))
@@ -64,8 +61,7 @@ job_alone {r} {w} {new} q is c =
     let a = parted (Called (Took (Job is.job)) ∷ []) (Called (GaveBack is.finished (Some is.over)) ∷ []) is.are c in
     let t = take_alone q a.1 in (t.0, by is.finished (rw (← t.1) is.own) a.0 t.2 a.2)
   where
-    by : (finished : JobEnd) → EndsJob Commit finished → (taken : World) → taken.state ≡ with_flush r.state (job_out r.state.flush) → Calmly taken (Called (GaveBack finished (Some is.over)) ∷ []) new
-        → Still (committed r) new
+    by : (finished : JobEnd) → EndsJob Commit finished → (taken : World) → taken.state ≡ with_flush r.state (job_out r.state.flush) → Calmly taken (Called (GaveBack finished (Some is.over)) ∷ []) new → Still (committed r) new
     by (Stored limit map) own taken out give =
         let f = r.state.flush in
         let commit : job_out f ≡ record f { out = true; held = Some (record { count = f.unflushed; map = items_of f.contents }) } = rw q.whole refl in

@@ -24,15 +24,10 @@ pub use Rattle.psu_messages.specs.Response.{response}
 pub use Rattle.psu_messages.specs.ResponseBuffer.{Text, nothing}
 pub use Rattle.psu_messages.specs.Units.{Fault, IsRequest, Source, path_at}
 pub use Rattle.psu_nv.specs.Contents.{Contents, IsContents, items_of}
-pub use Rattle.psu_run.specs.Input.{HasRead}
-pub use Rattle.psu_run.specs.Lines.{AreAsked, AreRequests, Asks, Message, coming, first_onto, has, is_none_begun, message_now, message_of, messages, parts_of, power_line}
-pub use Rattle.psu_run.specs.Output.{OutputState, Says, SaysUntil, WritesShort, held, output_state}
-pub use Rattle.psu_run.specs.Progress.{DeviceStops, FaultOf, Fed, IsNow, IsOf, IsTied, Leads, Ran, RunStops, Since, Stopped, StopsAt, line_source}
-pub use Rattle.psu_run.specs.Reasons.{EndsFor, StopsFor, never}
-pub use Rattle.psu_run.specs.Results.{IsOfRun}
-pub use Rattle.psu_run.specs.Runs.{Acts, IsFlush, IsJob, IsUnit, IsWait, Jobs, LineRuns, Makes, MessageRuns, Reopens, Runs, RunsUpTo, ScriptAlone, job_steps}
-pub use Rattle.psu_run.specs.Script.{ByMacro, ByMeaning, Early, HasMessageOutcome, HasOutcome, HasOutcomeFrom, IsScript, MessageOutcome, Replies, Rest, Scripted, Speaks, SpeaksInside, Spoken, UnitOutcome, after_reply, at_start, flushed, restarted, with_answer}
-pub use Rattle.psu_run.specs.Steps.{AreCalm, Begins, Called, CallsOnWorld, Executes, IsAlong, IsLeftBy, Life, PowersOn, Reached, Restarted, RunStep, SomeBreak, StandsForPrefix, Walks, born, disk_at, disk_in, extent_in, failures_in, failures_of, state_in, world_of}
+pub use Rattle.psu_run.specs.Lines.{AreAsked, AreRequests, AskedBy, Brings, HasRead, Message, first_onto, has, message_of, messages, parts_of, source_of}
+pub use Rattle.psu_run.specs.Progress.{Answers, DeviceStops, EndsEarly, FaultOf, Fed, IsNow, IsOf, IsTied, Leads, Life, OutputState, RanAll, Ran, Reached, RunStops, Says, SaysUntil, Since, born, disk_at, disk_in, extent_in, failures_in, failures_of, held, output_state, state_in, world_of}
+pub use Rattle.psu_run.specs.Runs.{Acts, AreCalm, Begins, Called, CallsOnWorld, IsAlong, IsFlush, IsJob, IsLeftBy, IsOfRun, IsUnit, IsWait, Jobs, LineBegins, LineRuns, Makes, MessageRuns, PowersOn, Reopens, Restarted, RunStep, Runs, RunsUpTo, ScriptAlone, SomeBreak, StandsForPrefix, StopsAt, StopsFor, Walks, WritesShort, job_steps}
+pub use Rattle.psu_run.specs.Script.{ByMacro, ByMeaning, Early, HasOutcome, HasOutcomeFrom, IsScript, Replies, Rest, Scripted, Speaks, SpeaksInside, Spoken, UnitOutcome, after_reply, at_start, committed, flushed, with_answer}
 pub use Rattle.psu_run.specs.declared.run_cause.RunCause.{RunCause}
 pub use Rattle.psu_run.specs.declared.run_cause.RunCause.TheVariants.{Memory, Write}
 pub use Rattle.psu_run.specs.declared.run_fault.RunFault.{RunFault}

@@ -1,13 +1,22 @@
 -- Lemmas on the parts of a text.
-use Rattle.std.proofs.Common.{◌≡◌, ℕ, ◌+◌, ◌-◌, ◌==◌, ◌<◌, ◌≤◌, Bool, true, false, List, [], ◌∷◌, ◌++◌, length, take, drop, map, refl, sym, ap, ◌∙◌, arith, slice_index, append_assoc, inl, inr, Some, None, suc, add-one, drop-cons}
+use Rattle.std.proofs.Common.{◌≡◌, ℕ, ◌+◌, ◌-◌, ◌==◌, ◌<◌, ◌≤◌, true, false, List, [], ◌∷◌, ◌++◌, length, take, drop, map, refl, sym, ap, ◌∙◌, arith, slice_index, append_assoc, inl, inr, Some, None, zero, suc, add-one, drop-cons, ◌⊎◌, codes, bytes_eq, if◌then◌else◌}
 use Rattle.std.proofs.lemmas.Bool.{cases_Bool}
-use Rattle.std.proofs.lemmas.List.{append-nil, get_or-take, take-append-drop}
+use Rattle.std.proofs.lemmas.List.{get_or-take, take-append-drop}
 use Rattle.std.proofs.lemmas.Grind.{common_steps}
 use Rattle.std.proofs.lemmas.Bool.Decides.{nat_tests}
-use Rattle.std.specs.Str.{bytes_eq}
 use Rattle.memchr.specs.Find.{IsFirstByte, is_byte}
-use Rattle.psu_run.proofs.Common.{Message, coming, first_onto, has, is_none_begun, message_now, message_of, messages, parts_of, power_line}
-use Rattle.psu_run.specs.Lines.{first_part, after_part}
+use Rattle.std.proofs.lemmas.Slice.Eq.{bytes_eq-Decides}
+use Rattle.psu_lex.specs.declared.scpi_error.ScpiError.TheVariants.{TooMuchData}
+use Rattle.psu_run.proofs.Common.{Fault, Message, first_onto, has, message_of, messages, parts_of}
+
+-- the first part, without its end, and what comes after it
+abbrev first_part : ℕ → List ℕ → List ℕ
+first_part end [] = []
+first_part end (x ∷ xs) = if x == end then [] else x ∷ first_part end xs
+
+abbrev after_part : ℕ → List ℕ → List ℕ
+after_part end [] = []
+after_part end (x ∷ xs) = if x == end then xs else after_part end xs
 
 pub has_none : (e x : ℕ) (p : List ℕ) → has e (x ∷ p) ≡ false → ((x == e) ≡ false) × (has e p ≡ false)
 has_none e x p h = grind (arith, common_steps, h)
@@ -32,10 +41,6 @@ pub parts_begun : (e x : ℕ) (p input : List ℕ) → has e (x ∷ p) ≡ false
     → parts_of e ((x ∷ p) ++ input) ≡ ((x ∷ p) ++ first_part e input) ∷ parts_of e (after_part e input)
 parts_begun e x [] input h = rw ((has_none e x [] h).0) (begun e x input)
 parts_begun e x (y ∷ p) input h = rw ((has_none e x (y ∷ p) h).0) (ap (first_onto x) (parts_begun e y p input (has_none e x (y ∷ p) h).1))
-
-pub after_begun : (e : ℕ) (p input : List ℕ) → has e p ≡ false → after_part e (p ++ input) ≡ after_part e input
-after_begun e [] input h = refl
-after_begun e (x ∷ p) input h = rw ((has_none e x p h).0) (after_begun e p input (has_none e x p h).1)
 
 pub parts_last : (e x : ℕ) (p : List ℕ) → has e (x ∷ p) ≡ false → parts_of e (x ∷ p) ≡ (x ∷ p) ∷ []
 parts_last e x [] h = rw ((has_none e x [] h).0) refl
@@ -66,41 +71,48 @@ found_parts e s at h =
     let within : at < length s = h.0.high in let is : slice_index s at ≡ e = grind (arith, nat_tests, h.1) in
     sym (take-append-drop at s) ∙ ap (λ (z : List ℕ). take at s ++ z) (drop-cons s at 0 within ∙ ap (λ (x : ℕ). x ∷ drop (suc at) s) is ∙ ap (λ (n : ℕ). e ∷ drop n s) (sym (add-one at)))
 
-long_message : (l : List ℕ) → 65536 < length l → message_of l ≡ Message.Overlong
-long_message l long = grind (arith, nat_tests, long)
+-- ---- lines
 
-over : (p input : List ℕ) → has 10 p ≡ false → 65536 < length p → messages (p ++ input) ≡ Message.Overlong ∷ messages (after_part 10 input)
+not_power : (l : List ℕ) → 65536 < length l → bytes_eq l (codes "!POWER") ≡ false
+not_power l long = elim (cases_Bool (bytes_eq l (codes "!POWER"))) [
+  | inl same ↦ absurd (omega (arith, long, ap length ((bytes_eq-Decides l (codes "!POWER")).0 same)))
+  | inr other ↦ other
+]
+
+long_message : (l : List ℕ) → 65536 < length l → message_of l ≡ Message.Line (Fault TooMuchData)
+long_message l long =
+    let plain = not_power l long in grind (arith, nat_tests, long, plain)
+
+over : (p input : List ℕ) → has 10 p ≡ false → 65536 < length p → messages (p ++ input) ≡ Message.Line (Fault TooMuchData) ∷ messages (after_part 10 input)
 over [] input h long = absurd (omega (arith, long))
 over (x ∷ p) input h long =
     let l = (x ∷ p) ++ first_part 10 input in
     let longer : 65536 < length l = grind (arith, common_steps, long) in
     ap (map message_of) (parts_begun 10 x p input h) ∙ ap (λ (m : Message). m ∷ messages (after_part 10 input)) (long_message l longer)
 
--- a line that exceeds the limit, whatever its bytes
-pub extend_over : (line part input : List ℕ) → has 10 line ≡ false → has 10 part ≡ false → 65536 < length line + length part
-    → messages (line ++ (part ++ input)) ≡ coming true [] input
-extend_over line part input p q long =
-    let longer : 65536 < length (line ++ part) = grind (arith, common_steps, long) in
-    ap messages (sym (append_assoc line part input)) ∙ over (line ++ part) input (has_none_append 10 line part p q) longer
+has_none_take : (e n : ℕ) (p : List ℕ) → has e p ≡ false → has e (take n p) ≡ false
+has_none_take e zero p h = refl
+has_none_take e (suc n) [] h = refl
+has_none_take e (suc n) (x ∷ p) h = grind (arith, has_none e x p h, has_none_take e n p (has_none e x p h).1)
 
-pub plain_message : (l : List ℕ) → length l ≤ 65536 → bytes_eq l power_line ≡ false → message_of l ≡ Message.Units l
-plain_message l short p = grind (arith, nat_tests, short, p)
+-- a part of which not more is kept than a line that is too long needs
+pub kept_none : (line part : List ℕ) (n : ℕ) → has 10 line ≡ false → has 10 part ≡ false → has 10 (line ++ take n part) ≡ false
+kept_none line part n p q = has_none_append 10 line (take n part) p (has_none_take 10 n part q)
 
-pub power_message : (l : List ℕ) → length l ≤ 65536 → bytes_eq l power_line ≡ true → message_of l ≡ Message.Power
-power_message l short p = grind (arith, nat_tests, short, p)
+pub kept_alike : (line part input : List ℕ) (n : ℕ) → has 10 line ≡ false → has 10 part ≡ false → (n ≡ length part) ⊎ (65536 < length line + n) → n ≤ length part
+    → messages (line ++ (part ++ input)) ≡ messages ((line ++ take n part) ++ input)
+kept_alike line part input n p q (inl all) le =
+    let whole : take n part ≡ part = grind (arith, common_steps, all) in
+    ap messages (sym (append_assoc line part input)) ∙ ap (λ (z : List ℕ). messages ((line ++ z) ++ input)) (sym whole)
+kept_alike line part input n p q (inr long) le =
+    let long-all : 65536 < length (line ++ part) = grind (arith, common_steps, long, le) in let long-kept : 65536 < length (line ++ take n part) = grind (arith, common_steps, long, le) in
+    ap messages (sym (append_assoc line part input)) ∙ over (line ++ part) input (has_none_append 10 line part p q) long-all ∙ sym (over (line ++ take n part) input (kept_none line part n p q) long-kept)
 
 -- the line that has begun ends
-pub coming_end : (over : Bool) (line input : List ℕ) → has 10 line ≡ false → coming over line (10 ∷ input) ≡ message_now over line ∷ coming false [] input
-coming_end true line input h = refl
-coming_end false line input h = ap (map message_of) (parts_at 10 line input h)
+pub line_end : (line input : List ℕ) → has 10 line ≡ false → messages (line ++ 10 ∷ input) ≡ message_of line ∷ messages input
+line_end line input h = ap (map message_of) (parts_at 10 line input h)
 
 -- the last line of the input, without a line feed
-pub coming_last : (over : Bool) (line : List ℕ) → is_none_begun over line ≡ false → has 10 line ≡ false → coming over line [] ≡ message_now over line ∷ []
-coming_last true line begun free = refl
-coming_last false [] begun free = cc
-coming_last false (x ∷ p) begun free = ap messages (append-nil (x ∷ p)) ∙ ap (λ (z : List (List ℕ)). map message_of z) (parts_last 10 x p free)
-
--- no line has begun
-pub coming_none : (over : Bool) (line : List ℕ) → is_none_begun over line ≡ true → coming over line [] ≡ []
-coming_none false [] h = refl
-coming_none over line h = absurd (grind (arith, nat_tests, h))
+pub line_last : (line : List ℕ) → (line ≡ [] → ⊥) → has 10 line ≡ false → messages line ≡ message_of line ∷ []
+line_last [] begun free = absurd (begun refl)
+line_last (x ∷ p) begun free = ap (map message_of) (parts_last 10 x p free)

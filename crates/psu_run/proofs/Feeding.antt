@@ -1,13 +1,11 @@
 -- The lines of a piece, one after another, and the pieces of an input.
-use Rattle.std.proofs.Common.{arith, ◌≡◌, ℕ, ◌+◌, ◌-◌, ◌≤◌, Bool, true, false, List, [], ◌∷◌, ◌++◌, length, take, drop, refl, sym, ap, ◌∙◌, subst, inr, append_assoc, Some, ◌⊎◌, inl, append-nil}
-use Rattle.std.specs.Str.{bytes_eq}
+use Rattle.std.proofs.Common.{arith, ◌≡◌, ℕ, ◌+◌, ◌-◌, Bool, true, false, List, [], ◌∷◌, ◌++◌, length, take, drop, refl, sym, ap, ◌∙◌, subst, inr, append_assoc, Some, ◌⊎◌, inl, append-nil, bytes_eq, codes}
 use Rattle.memchr.specs.Find.{IsFirstByte, is_byte}
-use Rattle.psu_run.proofs.Common.{Begins, DeviceStops, Effect, Exec, FaultOf, Fed, Ghosts, IsTry, IsUnit, Leads, LineRuns, Makes, Memory, Message, MessageRuns, OutputState, Request, RunCause, RunFault, RunStep, RunStops, Runs, Says, SaysUntil, Sent, Source, Stopped, Text, coming, has, held, line_source, message_now, message_of, never, power_line, text_sent}
+use Rattle.psu_run.proofs.Common.{Answers, Begins, DeviceStops, Effect, EndsEarly, Exec, FaultOf, Fed, Ghosts, IsTry, IsUnit, Leads, LineBegins, LineRuns, Makes, Memory, Message, OutputState, Request, RunCause, RunFault, RunStep, RunStops, Runs, Says, SaysUntil, Sent, Source, Text, has, held, message_of, messages, source_of, text_sent}
 use Rattle.psu_run.specs.Progress.{IsDone, IsFailed, IsStopped}
-use Rattle.psu_run.specs.Lines.{is_power}
-use Rattle.psu_run.specs.Runs.{LineBegins, LineOf}
-use Rattle.psu_run.proofs.Cuts.{plain_message, power_message, coming_end, found_parts, whole_tail}
-use Rattle.psu_run.proofs.Going.{steps_as, steps_none, steps_then, device_stops_as, device_stops_then}
+use Rattle.psu_run.specs.Runs.{never}
+use Rattle.psu_run.proofs.Cuts.{found_parts, line_end, whole_tail}
+use Rattle.psu_run.proofs.Going.{device_stops_then, steps_as, steps_none, steps_then}
 use Rattle.psu_run.proofs.Fronts.{says_join, says_none, until_after, until_none, until_rest, until_still}
 use Rattle.psu_run.proofs.Stopping.{halted, runs_join, runs_one, stops_now, stops_then}
 use Rattle.psu_exec.specs.Device.{Answer}
@@ -17,135 +15,103 @@ use Rattle.psu_messages.specs.Executions.{Progress, Interruption, Advances, IsNe
 use Rattle.psu_messages.specs.Executions.Interruption.{Failed, Stopped as StoppedBetween, NotBuffered}
 use Rattle.psu_messages.specs.Executions.Reaches.{Begins as Beginning}
 use Rattle.psu_messages.specs.Relations.{Relations}
-use Rattle.psu_run.proofs.Walking.{begins_all, unit_executes}
+use Rattle.psu_run.proofs.Walking.{unit_begins}
 
--- ---- one message
+-- ---- messages, one after another
 
--- a line that isn't that of a power loss is the message of what is executed of it
-line_message : (P : Source → Type 0) (over : Bool) (line : List ℕ) → length line ≤ 65536 → is_power (message_now over line) ≡ false → P (line_source over line) → LineOf P (message_now over line)
-line_message P true line short plain p = p
-line_message P false line short plain p = by (bytes_eq line power_line) refl where
-  by : (b : Bool) → bytes_eq line power_line ≡ b → LineOf P (message_of line)
-  by true e = let bad = sym (ap is_power (power_message line short e)) ∙ plain in cc
-  by false e = subst (LineOf P) (sym (plain_message line short e)) p
+pub answers_none : {D A : Type 0} {G : Ghosts D} (exec : Exec D A G) (t : OutputState) → Answers [] exec exec t t
+answers_none exec t = ([], says_none t, steps_none exec (Runs [] []) (refl, refl))
 
-line_runs : (m : Message) (text : List ℕ) (steps : List RunStep) → LineOf (λ source. LineRuns source text steps) m → MessageRuns m text steps
-line_runs x0 text steps l = grind arith
+pub answers_then : {D A : Type 0} {G : Ghosts D} (xs ys : List Message) (s s1 s2 : Exec D A G) (t0 t1 t2 : OutputState) → Answers xs s s1 t0 t1 → Answers ys s1 s2 t1 t2 → Answers (xs ++ ys) s s2 t0 t2
+answers_then xs ys s s1 s2 t0 t1 t2 p q =
+    (p.0 ++ q.0, says_join t0 t1 t2 p.0 q.0 p.1 q.1, steps_then s s1 s2 (Runs xs p.0) (Runs ys q.0) (Runs (xs ++ ys) (p.0 ++ q.0)) p.2 q.2 (λ a b x y. runs_join xs ys p.0 q.0 a b x y))
 
--- a message is executed, and its text is output
-abbrev pub OutputsLine : {D A : Type 0} {G : Ghosts D} → Message → Exec D A G → Exec D A G → OutputState → OutputState → Type 0
-OutputsLine m old new output now = (text : List ℕ) × Says output now text × Leads old new (Runs (m ∷ []) text)
+pub ends_then : {D A : Type 0} {G : Ghosts D} (by_input : RunCause → Type 0) (done due : List Message) (s s1 : Exec D A G) (fault : RunFault D) (t0 t1 t2 : OutputState) → Answers done s s1 t0 t1 → EndsEarly by_input s1 fault due t1 t2 → EndsEarly by_input s fault (done ++ due) t0 t2
+ends_then by_input done due s s1 fault t0 t1 t2 p q = (p.0 ++ q.0, until_after fault.cause t0 t1 t2 p.0 q.0 p.1 q.1, stops_then by_input s s1 fault done due p.0 q.0 p.2 q.2)
 
-pub outputs_line : {D A : Type 0} {G : Ghosts D} (over : Bool) (line text : List ℕ) (old new : Exec D A G) (a b : OutputState) → length line ≤ 65536 → is_power (message_now over line) ≡ false
-    → Leads old new (LineRuns (line_source over line) text) → Says a b text → OutputsLine (message_now over line) old new a b
-outputs_line over line text old new a b short plain goes says =
-    let m = message_now over line in (
-      text,
-      says,
-      steps_as old new (LineRuns (line_source over line) text) (Runs (m ∷ []) text) goes
-          (λ steps l. runs_one m text steps (line_runs m text steps (line_message (λ source. LineRuns source text steps) over line short plain l))),
-    )
+-- a line that is executed
+pub answers_line : {D A : Type 0} {G : Ghosts D} (source : Source) (text : List ℕ) (old new : Exec D A G) (a b : OutputState) → Leads old new (LineRuns source text) → Says a b text → Answers (Message.Line source ∷ []) old new a b
+answers_line source text old new a b goes says = (text, says, steps_as old new (LineRuns source text) (Runs (Message.Line source ∷ []) text) goes (λ steps l. runs_one (Message.Line source) text steps l))
 
--- a message that stops early
-abbrev pub BrokenLine : {D A : Type 0} {G : Ghosts D} → Message → Exec D A G → Exec D A G → OutputState → OutputState → RunCause → Type 0
-BrokenLine m old new output now cause = (part : List ℕ) × SaysUntil cause output now part × DeviceStops old new (λ steps. LineOf (λ source. LineBegins source part steps) m) cause
+pub power_message : (line : List ℕ) → bytes_eq line (codes "!POWER") ≡ true → message_of line ≡ Message.Power
+power_message line is = rw is refl
 
-pub broken_line : {D A : Type 0} {G : Ghosts D} (over : Bool) (line part : List ℕ) (old new : Exec D A G) (a b : OutputState) (cause : RunCause) → length line ≤ 65536 → is_power (message_now over line) ≡ false
-    → DeviceStops old new (LineBegins (line_source over line) part) cause → SaysUntil cause a b part → BrokenLine (message_now over line) old new a b cause
-broken_line over line part old new a b cause short plain breaks until = (
-  part,
-  until,
-  device_stops_as old new (LineBegins (line_source over line) part) (λ steps. LineOf (λ source. LineBegins source part steps) (message_now over line)) cause breaks
-      (λ steps l. line_message (λ source. LineBegins source part steps) over line short plain l),
-)
-
-pub is_power_line : (m : Message) → is_power m ≡ true → m ≡ Message.Power
-is_power_line x0 p = grind arith
-
--- the line of a power loss outputs nothing
-pub outputs_power : {D A : Type 0} {G : Ghosts D} (m : Message) (old new : Exec D A G) (t : OutputState) → is_power m ≡ true → Leads old new (Runs (Message.Power ∷ []) []) → OutputsLine m old new t t
-outputs_power m old new t p goes = subst (λ (z : Message). OutputsLine z old new t t) (sym (is_power_line m p)) ([], says_none t, goes)
+pub plain_message : (line : List ℕ) → bytes_eq line (codes "!POWER") ≡ false → message_of line ≡ Message.Line (source_of line)
+plain_message line is = rw is refl
 
 -- ---- pieces, one after another
 
-pub fed_none : {D A : Type 0} {G : Ghosts D} (before : List ℕ → List Message) (exec : Exec D A G) (t : OutputState) → Fed before [] before exec exec t t
-fed_none before exec t = ([], [], says_none t, (λ input. refl), steps_none exec (Runs [] []) (refl, refl))
+-- a run ended early in this piece, of whose lines `line` had begun, however the input continues
+abbrev pub Ends : {D A : Type 0} {G : Ghosts D} → (RunCause → Type 0) → List ℕ → List ℕ → Exec D A G → RunFault D → OutputState → OutputState → Type 0
+Ends by_input line piece old fault output now = (input : List ℕ) → EndsEarly by_input old fault (messages (line ++ (piece ++ input))) output now
 
-pub fed_then : {D A : Type 0} {G : Ghosts D} (f : List ℕ → List Message) {g h : List ℕ → List Message} (a b : List ℕ) {s s1 s2 : Exec D A G} (t0 t1 t2 : OutputState) → Fed f a g s s1 t0 t1 → Fed g b h s1 s2 t1 t2 → Fed f (a ++ b) h s s2 t0 t2
-fed_then f {g} {h} a b {s} {s1} {s2} t0 t1 t2 p q = (
+pub fed_none : {D A : Type 0} {G : Ghosts D} (line : List ℕ) (exec : Exec D A G) (t : OutputState) → Fed line [] line exec exec t t
+fed_none line exec t = ([], (λ input. refl), answers_none exec t)
+
+pub fed_then : {D A : Type 0} {G : Ghosts D} (line mid next a b : List ℕ) (s s1 s2 : Exec D A G) (t0 t1 t2 : OutputState) → Fed line a mid s s1 t0 t1 → Fed mid b next s1 s2 t1 t2 → Fed line (a ++ b) next s s2 t0 t2
+fed_then line mid next a b s s1 s2 t0 t1 t2 p q = (
   p.0 ++ q.0,
-  p.1 ++ q.1,
-  says_join t0 t1 t2 p.1 q.1 p.2 q.2,
-  λ input. ap f (append_assoc a b input) ∙ p.3 (b ++ input) ∙ ap (λ (z : List Message). p.0 ++ z) (q.3 input) ∙ sym (append_assoc p.0 q.0 (h input)),
-  steps_then s s1 s2 (Runs p.0 p.1) (Runs q.0 q.1) (Runs (p.0 ++ q.0) (p.1 ++ q.1)) p.4 q.4 (λ xs ys x y. runs_join p.0 q.0 p.1 q.1 xs ys x y),
+  λ input. ap (λ (z : List ℕ). messages (line ++ z)) (append_assoc a b input) ∙ p.1 (b ++ input) ∙ ap (λ (z : List Message). p.0 ++ z) (q.1 input) ∙ sym (append_assoc p.0 q.0 (messages (next ++ input))),
+  answers_then p.0 q.0 s s1 s2 t0 t1 t2 p.2 q.2,
 )
 
-pub stopped_then : {D A : Type 0} {G : Ghosts D} (by_input : RunCause → Type 0) (f g : List ℕ → List Message) (a b : List ℕ) (s s1 : Exec D A G) (fault : RunFault D) (t0 t1 t2 : OutputState) → Fed f a g s s1 t0 t1 → Stopped by_input g b s1 fault t1 t2
-    → Stopped by_input f (a ++ b) s fault t0 t2
-stopped_then by_input f g a b s s1 fault t0 t1 t2 p q = (
-  p.1 ++ q.0,
-  until_after fault.cause t0 t1 t2 p.1 q.0 p.2 q.1,
-  λ input. subst (λ (due : List Message). RunStops by_input s fault due (p.1 ++ q.0)) (sym (ap f (append_assoc a b input) ∙ p.3 (b ++ input))) (stops_then by_input s s1 fault p.0 (g (b ++ input)) p.1 q.0 p.4 (q.2 input)),
-)
+pub stopped_then : {D A : Type 0} {G : Ghosts D} (by_input : RunCause → Type 0) (line mid a b : List ℕ) (s s1 : Exec D A G) (fault : RunFault D) (t0 t1 t2 : OutputState) → Fed line a mid s s1 t0 t1 → Ends by_input mid b s1 fault t1 t2 → Ends by_input line (a ++ b) s fault t0 t2
+stopped_then by_input line mid a b s s1 fault t0 t1 t2 p q = λ input.
+    subst (λ (due : List Message). EndsEarly by_input s fault due t0 t2) (sym (ap (λ (z : List ℕ). messages (line ++ z)) (append_assoc a b input) ∙ p.1 (b ++ input))) (ends_then by_input p.0 (messages (mid ++ (b ++ input))) s s1 fault t0 t1 t2 p.2 (q input))
 
 -- ---- the loop over the lines of a piece
 
 -- the state of a piece of which this is the rest
-abbrev pub FedSo : {D A : Type 0} {G : Ghosts D} → (List ℕ → List Message) → List ℕ → List ℕ → (List ℕ → List Message) → Exec D A G → Exec D A G → OutputState → OutputState → Type 0
-FedSo before piece rest mid s s1 t0 t1 = (front : List ℕ) × (piece ≡ front ++ rest) × Fed before front mid s s1 t0 t1
+abbrev pub FedSo : {D A : Type 0} {G : Ghosts D} → List ℕ → List ℕ → List ℕ → List ℕ → Exec D A G → Exec D A G → OutputState → OutputState → Type 0
+FedSo line piece rest mid s s1 t0 t1 = (front : List ℕ) × (piece ≡ front ++ rest) × Fed line front mid s s1 t0 t1
 
--- a step of the loop
-pub feed_step : {D A : Type 0} {G : Ghosts D} (before mid : List ℕ → List Message) (piece rest : List ℕ) (at : ℕ) (over next_over : Bool) (line next : List ℕ) (s s1 s2 : Exec D A G) (t0 t1 t2 : OutputState)
-    → IsFirstByte (is_byte 10) rest (Some at) → FedSo before piece rest mid s s1 t0 t1 → ((input : List ℕ) → mid (take at rest ++ input) ≡ coming over line input) → has 10 line ≡ false
-    → OutputsLine (message_now over line) s1 s2 t1 t2 → next_over ≡ false → next ≡ [] → FedSo before piece (take (length rest - (at + 1)) (drop (at + 1) rest)) (coming next_over next) s s2 t0 t2
-feed_step before mid piece rest at over next_over line next s s1 s2 t0 t1 t2 found f shifted free output shut none =
+-- a line that has ended
+pub feed_step : {D A : Type 0} {G : Ghosts D} (line mid piece rest : List ℕ) (at : ℕ) (begun next : List ℕ) (s s1 s2 : Exec D A G) (t0 t1 t2 : OutputState)
+    → IsFirstByte (is_byte 10) rest (Some at) → FedSo line piece rest mid s s1 t0 t1 → ((input : List ℕ) → messages (mid ++ (take at rest ++ input)) ≡ messages (begun ++ input)) → has 10 begun ≡ false
+    → Answers (message_of begun ∷ []) s1 s2 t1 t2 → next ≡ [] → FedSo line piece (take (length rest - (at + 1)) (drop (at + 1) rest)) next s s2 t0 t2
+feed_step line mid piece rest at begun next s s1 s2 t0 t1 t2 found f shifted free output none =
     let part = take at rest ++ 10 ∷ [] in
-    let ends : (input : List ℕ) → mid (part ++ input) ≡ message_now over line ∷ coming false [] input = λ input. ap mid (append_assoc (take at rest) (10 ∷ []) input) ∙ shifted (10 ∷ input) ∙ coming_end over line input free in (
+    let ends : (input : List ℕ) → messages (mid ++ (part ++ input)) ≡ message_of begun ∷ messages input
+    = λ input. ap (λ (z : List ℕ). messages (mid ++ z)) (append_assoc (take at rest) (10 ∷ []) input) ∙ shifted (10 ∷ input) ∙ line_end begun input free in (
       f.0 ++ part,
       f.1 ∙ ap (λ (z : List ℕ). f.0 ++ z) (found_parts 10 rest at found ∙ ap (λ (z : List ℕ). take at rest ++ 10 ∷ z) (sym (whole_tail rest (at + 1))) ∙ sym (append_assoc (take at rest) (10 ∷ []) _)) ∙ sym (append_assoc f.0 part _),
-      subst (λ (o : Bool). Fed before (f.0 ++ part) (coming o next) s s2 t0 t2) (sym shut)
-          (subst (λ (l : List ℕ). Fed before (f.0 ++ part) (coming false l) s s2 t0 t2) (sym none) (fed_then before f.0 part t0 t1 t2 f.2 (message_now over line ∷ [], output.0, output.1, ends, output.2))),
+      subst (λ (l : List ℕ). Fed line (f.0 ++ part) l s s2 t0 t2) (sym none) (fed_then line mid [] f.0 part s s1 s2 t0 t1 t2 f.2 (message_of begun ∷ [], ends, output)),
     )
 
 -- the rest of the piece has no line feed
-pub feed_end : {D A : Type 0} {G : Ghosts D} (before mid after : List ℕ → List Message) (piece rest : List ℕ) (s s1 : Exec D A G) (t0 t1 : OutputState)
-    → FedSo before piece rest mid s s1 t0 t1 → ((input : List ℕ) → mid (rest ++ input) ≡ after input) → Fed before piece after s s1 t0 t1
-feed_end before mid after piece rest s s1 t0 t1 f shifted =
+pub feed_end : {D A : Type 0} {G : Ghosts D} (line mid next piece rest : List ℕ) (s s1 : Exec D A G) (t0 t1 : OutputState)
+    → FedSo line piece rest mid s s1 t0 t1 → ((input : List ℕ) → messages (mid ++ (rest ++ input)) ≡ messages (next ++ input)) → Fed line piece next s s1 t0 t1
+feed_end line mid next piece rest s s1 t0 t1 f shifted =
     let g = f.2 in
-    subst (λ (z : List ℕ). Fed before z after s s1 t0 t1) (sym f.1)
-    (g.0, g.1, g.2, (λ input. ap before (append_assoc f.0 rest input) ∙ g.3 (rest ++ input) ∙ ap (λ (z : List Message). g.0 ++ z) (shifted input)), g.4)
+    subst (λ (z : List ℕ). Fed line z next s s1 t0 t1) (sym f.1)
+    (g.0, (λ input. ap (λ (z : List ℕ). messages (line ++ z)) (append_assoc f.0 rest input) ∙ g.1 (rest ++ input) ∙ ap (λ (z : List Message). g.0 ++ z) (shifted input)), g.2)
 
 -- a fault after these lines
-pub feed_stops : {D A : Type 0} {G : Ghosts D} (before mid : List ℕ → List Message) (piece rest : List ℕ) (s s1 : Exec D A G) (fault : RunFault D) (t0 t1 t2 : OutputState) → FedSo before piece rest mid s s1 t0 t1 → Stopped never mid rest s1 fault t1 t2
-    → Stopped never before piece s fault t0 t2
-feed_stops before mid piece rest s s1 fault t0 t1 t2 f stopped =
-    subst (λ (z : List ℕ). Stopped never before z s fault t0 t2) (sym f.1) (stopped_then never before mid f.0 rest s s1 fault t0 t1 t2 f.2 stopped)
+pub feed_stops : {D A : Type 0} {G : Ghosts D} (line mid piece rest : List ℕ) (s s1 : Exec D A G) (fault : RunFault D) (t0 t1 t2 : OutputState) → FedSo line piece rest mid s s1 t0 t1 → Ends never mid rest s1 fault t1 t2 → Ends never line piece s fault t0 t2
+feed_stops line mid piece rest s s1 fault t0 t1 t2 f stopped = subst (λ (z : List ℕ). Ends never line z s fault t0 t2) (sym f.1) (stopped_then never line mid f.0 rest s s1 fault t0 t1 t2 f.2 stopped)
 
 -- memory is refused for the line
-pub feed_refused : {D A : Type 0} {G : Ghosts D} (before mid : List ℕ → List Message) (piece rest : List ℕ) (s s1 : Exec D A G) (fault : RunFault D) (t0 t1 : OutputState) → FedSo before piece rest mid s s1 t0 t1 → FaultOf s1 Memory fault
-    → Stopped never before piece s fault t0 t1
-feed_refused before mid piece rest s s1 fault t0 t1 f at =
-    feed_stops before mid piece rest s s1 fault t0 t1 t1 f ([], until_none fault.cause t1 (λ e. grind arith), λ input. stops_now never s1 Memory fault (mid (rest ++ input)) at tt (λ last. inr tt))
+pub feed_refused : {D A : Type 0} {G : Ghosts D} (line mid piece rest : List ℕ) (s s1 : Exec D A G) (fault : RunFault D) (t0 t1 : OutputState) → FedSo line piece rest mid s s1 t0 t1 → FaultOf s1 Memory fault → Ends never line piece s fault t0 t1
+feed_refused line mid piece rest s s1 fault t0 t1 f at =
+    feed_stops line mid piece rest s s1 fault t0 t1 t1 f (λ input. ([], until_none fault.cause t1 (λ e. grind arith), stops_now never s1 Memory fault (messages (mid ++ (rest ++ input))) at tt))
 
 -- a fault in the line that has ended, which comes first in the rest
-pub line_stops : {D A : Type 0} {G : Ghosts D} (mid : List ℕ → List Message) (rest : List ℕ) (at : ℕ) (over : Bool) (line part : List ℕ) (s1 : Exec D A G) (fault : RunFault D) (t1 t2 : OutputState) → IsFirstByte (is_byte 10) rest (Some at)
-    → ((more : List ℕ) → mid (take at rest ++ more) ≡ coming over line more) → has 10 line ≡ false → SaysUntil fault.cause t1 t2 part
-    → ((later : List Message) → RunStops never s1 fault (message_now over line ∷ later) part) → Stopped never mid rest s1 fault t1 t2
-line_stops mid rest at over line part s1 fault t1 t2 found shifted free until stops = (
+pub line_stops : {D A : Type 0} {G : Ghosts D} (mid rest : List ℕ) (at : ℕ) (begun part : List ℕ) (s1 : Exec D A G) (fault : RunFault D) (t1 t2 : OutputState) → IsFirstByte (is_byte 10) rest (Some at)
+    → ((more : List ℕ) → messages (mid ++ (take at rest ++ more)) ≡ messages (begun ++ more)) → has 10 begun ≡ false → SaysUntil fault.cause t1 t2 part
+    → ((later : List Message) → RunStops never s1 fault (message_of begun ∷ later) part) → Ends never mid rest s1 fault t1 t2
+line_stops mid rest at begun part s1 fault t1 t2 found shifted free until stops = λ input. (
   part,
   until,
-  λ input.
-      let tail = drop (at + 1) rest ++ input in
-      let first : mid (rest ++ input) ≡ message_now over line ∷ coming false [] tail
-      = ap (λ (z : List ℕ). mid (z ++ input)) (found_parts 10 rest at found) ∙ ap mid (append_assoc (take at rest) (10 ∷ drop (at + 1) rest) input) ∙ shifted (10 ∷ tail) ∙ coming_end over line tail free in
-      subst (λ (due : List Message). RunStops never s1 fault due part) (sym first) (stops (coming false [] tail)),
+  let tail = drop (at + 1) rest ++ input in
+      let first : messages (mid ++ (rest ++ input)) ≡ message_of begun ∷ messages tail
+      = ap (λ (z : List ℕ). messages (mid ++ (z ++ input))) (found_parts 10 rest at found) ∙ ap (λ (z : List ℕ). messages (mid ++ z)) (append_assoc (take at rest) (10 ∷ drop (at + 1) rest) input) ∙ shifted (10 ∷ tail) ∙ line_end begun tail free in
+      subst (λ (due : List Message). RunStops never s1 fault due part) (sym first) (stops (messages tail)),
 )
 
 -- the device stopped in it
-pub broken_stop : {D A : Type 0} {G : Ghosts D} (old new : Exec D A G) (cause : RunCause) (fault : RunFault D) (m : Message) (rest : List Message) (part : List ℕ) → DeviceStops old new (λ steps. LineOf (λ source. LineBegins source part steps) m) cause
-    → FaultOf new cause fault → is_power m ≡ false → RunStops never old fault (m ∷ rest) part
-broken_stop old new cause fault m rest part s f plain =
-    halted old new cause fault (m ∷ rest) part (device_stops_as old new (λ steps. LineOf (λ source. LineBegins source part steps) m) _ cause s (λ steps l. inr l)) f (λ at. grind arith)
+pub broken_stop : {D A : Type 0} {G : Ghosts D} (old new : Exec D A G) (cause : RunCause) (fault : RunFault D) (source : Source) (rest : List Message) (part : List ℕ) → DeviceStops old new (LineBegins source part) cause
+    → FaultOf new cause fault → RunStops never old fault (Message.Line source ∷ rest) part
+broken_stop old new cause fault source rest part s f = halted old new cause fault (Message.Line source ∷ rest) part s f (λ at. at)
 
 -- ---- a line that is executed on a device and its output is executed in steps of the device
 
@@ -183,7 +149,7 @@ module _ {D A : Type 0} {G : Ghosts D} {X : Type 0} (exec : X → Exec D A G) (o
 responded : {D A : Type 0} {G : Ghosts D} (mid here : Exec D A G) (now then : OutputState) (parked : Bool) (request : Request) (effect : Effect) (response : List ℕ) → IsTry parked request effect (Answer response) → IsDone mid now effect here then
     → (then ≡ now) × Leads mid here (Begins (request ∷ []))
 responded mid here now then false request (Executed other reply) response (same, is) d =
-    (d.0, steps_as mid here (IsUnit other reply) (Begins (request ∷ [])) d.2 (λ steps u. subst (λ (z : Request). Begins (z ∷ []) steps) same (begins_all (other ∷ []) steps (unit_executes other reply steps u))))
+    (d.0, steps_as mid here (IsUnit other reply) (Begins (request ∷ [])) d.2 (λ steps u. subst (λ (z : Request). Begins (z ∷ []) steps) same (unit_begins other reply steps u)))
 responded mid here now then parked request effect response never d = grind arith
 
 module _ {D A : Type 0} {G : Ghosts D} {X : Type 0} (exec : X → Exec D A G) (output : X → OutputState) (r : Relations X RunCause) (source : Source)

@@ -1,7 +1,8 @@
 -- From a device at rest to a later moment, step by step.
 use Rattle.std.proofs.Common.{◌≡◌, ℕ, ◌≤◌, List, [], ◌∷◌, ◌++◌, refl, sym, ap, ◌∙◌, subst, inl, inr, arith, ⊎_elim, Option}
-use Rattle.psu_run.proofs.Common.{Called, CallsOnWorld, DeviceStops, DiskAfter, DiskState, Entry, Exec, Ghosts, HasFailed, IdleStore, IsAlong, IsOf, Leads, Life, Ran, RunCause, RunStep, Serves, Since, SomeBreak, Walks, World, disk_at, disk_in, extent_in, failures_in, failures_of, is_broken, world_of}
-use Rattle.psu_run.specs.Steps.{lived, Breaks, IsSound}
+use Rattle.psu_run.proofs.Common.{Called, CallsOnWorld, DeviceStops, DiskAfter, DiskState, Entry, Exec, Ghosts, HasFailed, IdleStore, IsAlong, IsOf, Leads, Life, Ran, RunCause, RunStep, Serves, Since, SomeBreak, State, Walks, World, disk_at, disk_in, extent_in, failures_in, failures_of, is_broken, world_of}
+use Rattle.psu_exec.specs.World.{recorded}
+use Rattle.psu_run.specs.Runs.{Breaks, IsSound}
 use Rattle.psu_run.proofs.Moments.{since_idle, since_then}
 use Rattle.psu_run.proofs.OneList.{reached_walk}
 use Rattle.psu_run.proofs.Prefixes.{prefix_of_reached}
@@ -77,6 +78,10 @@ steps_none {D} {A} {G} exec P p = record {
   };
   tied = λ before t. t;
 }
+
+-- a life after one more call
+abbrev lived : Life → State → Entry → Life
+lived life s entry = record life { history = recorded s entry life.history }
 
 -- a call that leaves the disk unchanged
 pub called : {D A : Type 0} {G : Ghosts D} (old new : Exec D A G) (life : Life) (entry : Entry) → Serves old.device entry new.device → new.idle_store ≡ old.idle_store

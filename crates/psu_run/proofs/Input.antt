@@ -5,7 +5,7 @@ use Rattle.std.proofs.lemmas.Grind.{common_steps}
 use Rattle.std.proofs.lemmas.List.{append-nil}
 use Rattle.std.specs.Io.KnownBytes.{Consumes, Keeps}
 use Rattle.psu_run.proofs.Common.{HasRead}
-use Rattle.psu_run.specs.Input.{Counts, Reads, ReadsNoFurther}
+use Rattle.psu_run.specs.Lines.{Counts, Reads, ReadsNoFurther}
 
 counts_then : (m f n g : ℕ) (a b c : Option Reads) → Counts m f a b → Counts n g b c → Counts (m + n) (f + g) a c
 counts_then m f n g a b c p q = grind arith

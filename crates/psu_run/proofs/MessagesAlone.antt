@@ -1,7 +1,7 @@
 -- Where nothing goes wrong, the messages of an input have one text, the script's.
 use Rattle.std.proofs.Common.{◌≡◌, ℕ, zero, suc, ◌||◌, ◌&&◌, Bool, true, false, List, [], ◌∷◌, ◌++◌, drop, refl, sym, ap, subst, append-nil, if◌then◌else◌, None, Some, ◌⊎◌, ◌==◌, ◌∙◌, subst₂, inl, inr, arith, append_assoc, map}
 use Rattle.psu_lex.specs.Bytes.{all_white, is_closed}
-use Rattle.psu_run.proofs.Common.{Asks, Called, Contents, Effect, Expand, Fault, GaveBack, HasMessageOutcome, HasOutcome, IsScript, IsTry, IsUnit, Job, LineRuns, Makes, Message, MessageOutcome, MessageRuns, Part, PowersOn, Reopened, Reopens, Reply, Request, Rest, Restarted, RunStep, Runs, ScriptAlone, Scripted, Sent, Source, Speaks, SpeaksInside, Spoken, State, Took, Walks, World, at_start, first_onto, has, items_of, message_of, parts_of, reads_left, response, restarted, text_sent, with_answer}
+use Rattle.psu_run.proofs.Common.{AskedBy, Called, Contents, Effect, Expand, Fault, GaveBack, HasOutcome, IsScript, IsTry, IsUnit, Job, LineRuns, Makes, Message, Part, PowersOn, Reopens, Reply, Request, Rest, Restarted, RunStep, Runs, ScriptAlone, Scripted, Sent, Source, Speaks, SpeaksInside, Spoken, State, Took, Walks, World, at_start, first_onto, has, items_of, message_of, messages, parts_of, reads_left, response, text_sent, with_answer}
 use Rattle.psu_lex.specs.Message.{Reads, Token, Separator, Faulty, ended, fault_of, next_first, text_of, units_of}
 use Rattle.psu_run.proofs.Cuts.{has_none}
 use Rattle.std.proofs.lemmas.Bool.Decides.{nat_tests}
@@ -13,10 +13,9 @@ use Rattle.psu_messages.specs.Turns.{NoneInside, OneInside, Untried, Again, NoUn
 use Rattle.psu_messages.specs.Units.{Text}
 use Rattle.psu_messages.proofs.Answering.{answers_append}
 use Rattle.psu_run.proofs.Alone.{Calmly, Still, calmly_as, outcome, parted, unit_alone, take_alone}
-use Rattle.psu_run.proofs.Readings.{AreLeft, AskedBy, AskedFrom, Holds, Ones, SomeUnits, asked_all, asked_next, asked_none, held_by, left_all, left_next, left_none}
+use Rattle.psu_run.proofs.Readings.{AreLeft, AskedFrom, Holds, Ones, SomeUnits, asked_all, asked_next, asked_none, held_by, left_all, left_next, left_none}
 use Rattle.std.proofs.lemmas.Bool.{cases_Bool}
 use Rattle.psu_items.proofs.Standing.{represents_one}
-use Rattle.psu_lex.specs.declared.scpi_error.ScpiError.TheVariants.{TooMuchData}
 use Rattle.psu_nv.proofs.Determining.{same_contents}
 use Rattle.psu_exec.specs.Calls.{opened}
 use Rattle.psu_messages.specs.Effects as effects
@@ -162,16 +161,15 @@ Follows Left Says r x place y =
     (rest : Rest) × Still rest y.world
     × ((more : List Request) (end : Spoken) → Left place more → Says rest y.answers more end → (all : List Request) × Left 0 all × Says r x.answers all end)
 
-abbrev pub message : Rest → List ℕ → MessageOutcome
-message r text = record { rest = r; text = text }
-
 -- the requests of a line, and the script's result of it
 abbrev pub LineSpeaks : Rest → Source → List ℕ → World → Type 0
 LineSpeaks r source text last =
-    (requests : List Request) × (rest : Rest) × AskedBy source requests
-    × ((all : Spoken) × Speaks r [] requests all × (message rest text ≡ message all.rest (response all.answers))) × Still rest last
+    (requests : List Request) × (all : Spoken) × AskedBy source requests × Speaks r [] requests all × (text ≡ response all.answers) × Still all.rest last
 
 -- ---- power
+
+abbrev restarted : Rest → Rest
+restarted r = at_start r.state.flush.limit r.stored
 
 -- a device that has just been powered on
 start_still : (image : List ℕ) (new : World) (p : PowersOn image new) → Still (at_start p.on.limit p.on.start) new
@@ -189,15 +187,16 @@ restart_alone r w new q p =
 -- the store is not broken, so it is not reopened
 reopened_alone : {r : Rest} {w new : World} {steps : List RunStep} → Still r w → Reopens steps → Calmly w steps new → new ≡ w
 reopened_alone q (inl none) c = (calmly_as none c).walks
-reopened_alone q (inr (job, limit, map, over, kind, all)) c =
-    let commit = (take_alone q (parted (Called (Took (Job job)) ∷ []) (Called (GaveBack (Reopened limit map) (Some over)) ∷ []) all c).1).1 in cc
+reopened_alone q (inr (is, kind)) c =
+    let commit = (take_alone q (parted (Called (Took (Job is.job)) ∷ []) (Called (GaveBack is.finished (Some is.over)) ∷ []) is.are c).1).1 in cc
 
 -- ---- lines without a line feed
 
--- a message has no line feed
-abbrev IsWhole : Message → Type 0
-IsWhole (Message.Units bytes) = has 10 bytes ≡ false
-IsWhole m = ⊤
+-- no message has a line feed
+abbrev AreWhole : List Message → Type 0
+AreWhole [] = ⊤
+AreWhole (Message.Power ∷ ms) = AreWhole ms
+AreWhole (Message.Line source ∷ ms) = IsLine source × AreWhole ms
 
 abbrev AreFree : List (List ℕ) → Type 0
 AreFree [] = ⊤
@@ -213,11 +212,11 @@ parts_free (x ∷ xs) = elim (cases_Bool (x == 10)) [
   | inr other ↦ rw other (free_onto x (parts_of 10 xs) other (parts_free xs))
 ]
 
--- ---- lines and messages
+parts_whole : (parts : List (List ℕ)) → AreFree parts → AreWhole (map message_of parts)
+parts_whole [] free = tt
+parts_whole (part ∷ parts) (free, more) = let rest = parts_whole parts more in grind arith
 
--- the requests of a message, and the script's result of it
-abbrev MessageSpeaks : Rest → Message → List ℕ → World → Type 0
-MessageSpeaks r m text last = (requests : List Request) × (rest : Rest) × Asks m requests × HasMessageOutcome r m requests (message rest text) × Still rest last
+-- ---- lines and messages
 
 module _ (ones : Ones) (some : SomeUnits) (over_is_messages : OverIsMessages) where
   inside_speaks : (r : Rest) (body : List ℕ) (place : ℕ) (list : List Effect) (x y : LineState) → InsideDone body place list → Still r x.world → effects.Runs Does x list y
@@ -263,27 +262,22 @@ module _ (ones : Ones) (some : SomeUnits) (over_is_messages : OverIsMessages) wh
       let d = line_does l.effects (record { world = w; answers = [] }) last steps l.makes c in
       let t = units_speak r source count (acts l.effects) (record { world = w; answers = [] }) d.0 m.0 q d.1 in
       let all = t.2 [] (spoken t.0 d.0.answers) (asked_none ones source count l.over.units) refl in
-      let says = ap (message t.0) (l.sent ∙ m.1 ∙ ap response (sym d.3)) in
-      (all.0, t.0, asked_all some source all.0 all.1, (spoken t.0 d.0.answers, all.2, says), subst (Still t.0) d.2 t.1)
+      (all.0, spoken t.0 d.0.answers, asked_all some source all.0 all.1, all.2, l.sent ∙ m.1 ∙ ap response (sym d.3), subst (Still t.0) d.2 t.1)
 
-  message_alone : (m : Message) (r : Rest) (w last : World) (text : List ℕ) (steps : List RunStep) → IsWhole m → Still r w → MessageRuns m text steps → Calmly w steps last → MessageSpeaks r m text last
-  message_alone Message.Power r w last text steps whole q (none, reopening, reopens, all) c =
-      let a = parted reopening (Restarted ∷ []) all c in let same = reopened_alone q reopens a.1 in
-      ([], restarted r, refl, ap (message (restarted r)) none, power a.0 (subst (λ (z : World). Still r z) (sym same) q) a.2.walks)
+  messages_alone : (ms : List Message) (r : Rest) (w last : World) (text : List ℕ) (steps : List RunStep) → AreWhole ms → Still r w → Runs ms text steps → Calmly w steps last → Scripted r ms text
+  messages_alone [] r w last text steps whole q runs c = runs.0
+  messages_alone (Message.Power ∷ ms) r w last text steps whole q (first, more, made, others, (none, reopening, reopens, all), rest, is, both) c =
+      let a = parted made others both c in let b = parted reopening (Restarted ∷ []) all a.1 in
+      subst (Scripted (restarted r) ms) (sym (is ∙ ap (λ (z : List ℕ). z ++ more) none))
+      (messages_alone ms (restarted r) a.0 last more others whole (power b.0 a.0 (subst (λ (z : World). Still r z) (sym (reopened_alone q reopens b.1)) q) b.2.walks) rest a.2)
     where
-      power : (mid : World) → Still r mid → Walks mid (Restarted ∷ []) last → Still (restarted r) last
-      power mid q (on, (whole, p), here) = restart_alone r mid last q (subst (PowersOn mid.disk.bytes) (sym here) p)
-  message_alone Message.Overlong r w last text steps whole q l c = line_alone r (Fault TooMuchData) w last text steps tt q l c
-  message_alone (Message.Units bytes) r w last text steps whole q l c = line_alone r (Text bytes) w last text steps whole q l c
-
-  parts_alone : (parts : List (List ℕ)) (r : Rest) (w last : World) (text : List ℕ) (steps : List RunStep) → AreFree parts → Still r w → Runs (map message_of parts) text steps → Calmly w steps last → Scripted r (map message_of parts) text
-  parts_alone [] r w last text steps free q runs c = runs.0
-  parts_alone (part ∷ parts) r w last text steps free q (first, more, made, others, one, rest, is, all) c =
-      let a = parted made others all c in
-      let s = message_alone (message_of part) r w a.0 first made (let here = free.0 in grind arith) q one a.1 in
-      (s.0, message s.1 first, more, s.2, s.3, parts_alone parts s.1 a.0 last more others free.1 s.4 rest a.2, is)
+      power : (mid new : World) → Still r mid → Walks mid (Restarted ∷ []) new → Still (restarted r) new
+      power mid new q (on, (whole, p), here) = restart_alone r mid new q (subst (PowersOn mid.disk.bytes) (sym here) p)
+  messages_alone (Message.Line source ∷ ms) r w last text steps whole q (first, more, made, others, one, rest, is, both) c =
+      let a = parted made others both c in let s = line_alone r source w a.0 first made whole.0 q one a.1 in
+      (s.0, s.1, more, s.2, s.3, messages_alone ms s.1.rest a.0 last more others whole.1 s.5 rest a.2, is ∙ ap (λ (z : List ℕ). z ++ more) s.4)
 
   pub script_is_alone : ScriptAlone
   script_is_alone image input text steps first last p runs walks calm =
       subst (λ (w : World). IsScript w.start w.limit input text) (sym p.opens.1.4)
-      (parts_alone (parts_of 10 input) (at_start p.on.limit p.on.start) first last text steps (parts_free input) (start_still image first p) runs (record { walks = walks; calm = calm }))
+      (messages_alone (messages input) (at_start p.on.limit p.on.start) first last text steps (parts_whole (parts_of 10 input) (parts_free input)) (start_still image first p) runs (record { walks = walks; calm = calm }))

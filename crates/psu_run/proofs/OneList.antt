@@ -7,7 +7,7 @@ use Rattle.psu_disk.specs.Ranges.{left_size}
 use Rattle.psu_items.proofs.Standing.{represents_one}
 use Rattle.psu_exec.specs.World.{Stopped, Restarting, Event, Call, DiskCall, Loss, Stop, Restart, Moves, Writes, Syncs, KeepsMaps, Happens, IsStart, Run}
 use Rattle.psu_exec.proofs.Invariant.{only_left}
-use Rattle.psu_run.specs.Steps.{EventsLead, StepsTo}
+use Rattle.psu_run.specs.Runs.{EventsLead, StepsTo}
 
 -- ---- lists of events
 

@@ -7,7 +7,6 @@ use Rattle.psu_nv.specs.Commands.{Command as Change, applied}
 use Rattle.psu_exec.specs.World.{after}
 use Rattle.psu_exec.proofs.Events.{other_disk, prefix_is_left, run_keeps, while_running}
 use Rattle.psu_exec.proofs.Invariant.{kept_at_start, left_in_life, only_left}
-use Rattle.psu_run.specs.Steps.{LeavesPrefix}
 
 pub prefix_of_reached : (w : World) (image : List ℕ) → Reached w → IsCrashImage w.disk image → StandsForPrefix w image
 prefix_of_reached w image r left = prefix_is_left r.first w r.events image r.start r.run left
@@ -21,7 +20,7 @@ prefix_of_either w image r running either =
     (p.k, record { from = p.prefix.from; to = p.prefix.to }, p.kept, p.stands)
 
 -- where each possible crash image represents one map, and did so in a world that was reached
-same_prefix : (w : World) (disk : DiskState) (limit : ℕ) (map : List Item) → Reached w → EachRepresents w.disk limit map → EachRepresents disk limit map → LeavesPrefix w disk
+same_prefix : (w : World) (disk : DiskState) (limit : ℕ) (map : List Item) → Reached w → EachRepresents w.disk limit map → EachRepresents disk limit map → (image : List ℕ) → IsCrashImage disk image → StandsForPrefix w image
 same_prefix w disk limit map r was is image left =
     let p = prefix_of_reached w w.disk.bytes r (reads_left w.disk) in
     let one = represents_one limit w.limit map (items_of (after w p.0)) w.disk.bytes (was w.disk.bytes (reads_left w.disk)) p.3 in
@@ -32,7 +31,7 @@ pub prefix_of_map : (w : World) (limit : ℕ) (map : List Item) (image : List �
 prefix_of_map w limit map image r was is =
     same_prefix w (without_power image) limit map r was (λ x left. subst (λ (z : List ℕ). Represents z limit map) (sym (only_left image x left)) is) image (reads_left (without_power image))
 
-pub leaves_prefix : (w : World) (disk : DiskState) → Reached w → IsLeftBy w disk → LeavesPrefix w disk
+pub leaves_prefix : (w : World) (disk : DiskState) → Reached w → IsLeftBy w disk → (image : List ℕ) → IsCrashImage disk image → StandsForPrefix w image
 leaves_prefix w disk r (inl same) = λ image left. prefix_of_reached w image r (same image left)
 leaves_prefix w disk r (inr (limit, map, was, is, size)) = same_prefix w disk limit map r was is
 

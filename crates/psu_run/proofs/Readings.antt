@@ -1,6 +1,6 @@
 -- The readings of units, and the requests of what is executed, from a place on.
 use Rattle.std.proofs.Common.{◌≡◌, ℕ, Bool, List, [], refl, sym, ap, ◌∙◌, Option, None, Some, Result, Ok, Err, ◌+◌, false, ◌∷◌, ◌++◌, take, drop, subst, arith}
-use Rattle.psu_run.proofs.Common.{AreAsked, AreRequests, Command, Datum, Fault, HoldsParameters, IsRequest, MacroCall, Part, Reads, Request, ScpiError, Source, Syntax, SyntaxCalls, SyntaxGives, SyntaxMoves, path_at}
+use Rattle.psu_run.proofs.Common.{AreAsked, AreRequests, AskedBy, Command, Datum, Fault, HoldsParameters, IsRequest, MacroCall, Part, Reads, Request, ScpiError, Source, Syntax, SyntaxCalls, SyntaxGives, SyntaxMoves, path_at}
 use Rattle.psu_lex.specs.Message.{IsMessage}
 use Rattle.psu_lex.specs.Syntax.{HeaderParts, IsHeader, header_text}
 use Rattle.psu_messages.specs.Units.{Root, Behind, Asks, HasNone, IsBehind, IsUnit, LeadsToPath, faulty}
@@ -89,11 +89,6 @@ left_all {bytes = bytes} some left = let parts = some bytes in (parts.0, parts.1
 abbrev pub AskedFrom : Source → ℕ → List Request → Type 0
 AskedFrom (units.Text bytes) place requests = AreLeft false bytes place requests
 AskedFrom (Fault error) place requests = requests ≡ drop place (faulty error ∷ [])
-
--- all of them
-abbrev pub AskedBy : Source → List Request → Type 0
-AskedBy (units.Text bytes) requests = AreAsked false bytes requests
-AskedBy (Fault error) requests = requests ≡ faulty error ∷ []
 
 pub asked_next : Ones → (source : Source) (place : ℕ) (request : Request) (first : Bool) (more : List Request) → Asks source place request first → AskedFrom source (place + 1) more → AskedFrom source place (request ∷ more)
 asked_next o (units.Text bytes) place request first more (part, u, e) left = left_next more o u left

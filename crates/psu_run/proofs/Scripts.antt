@@ -1,8 +1,8 @@
 -- Every input has a script, and only one.
-use Rattle.std.proofs.Common.{arith, ◌≡◌, ℕ, Bool, true, false, List, [], ◌∷◌, ◌++◌, refl, subst, Option, None, Some, Result, Ok, Err, is_ok, sym, ◌∙◌}
+use Rattle.std.proofs.Common.{arith, ◌≡◌, ℕ, Bool, true, false, List, [], ◌∷◌, ◌++◌, refl, subst, Option, None, Some, Result, Ok, Err, is_ok, sym, ap, ◌∙◌}
 use Rattle.std.specs.Prelude.{⊤}
 use Rattle.psu_lex.specs.Macros.{ExpandsTo}
-use Rattle.psu_run.proofs.Common.{AreAsked, AreRequests, Asks, ByMacro, ByMeaning, Command, Datum, Early, Expand, HasMessageOutcome, HasOutcome, HasOutcomeFrom, HoldsParameters, IsRequest, Later, MacroCall, Message, MessageOutcome, Part, Reads, Replies, Reply, Request, Rest, ScpiError, Scripted, Speaks, SpeaksInside, Spoken, State, Syntax, SyntaxCalls, SyntaxGives, SyntaxMoves, UnitOutcome, after_reply, flushed, path_at, response, restarted, with_answer}
+use Rattle.psu_run.proofs.Common.{AreAsked, AreRequests, AskedBy, ByMacro, ByMeaning, Command, Datum, Early, Expand, Fault, HasOutcome, HasOutcomeFrom, HoldsParameters, IsRequest, Later, MacroCall, Message, Parked, Part, Reads, Replies, Reply, Request, Rest, ScpiError, Scripted, Source, Speaks, SpeaksInside, Spoken, State, Syntax, SyntaxCalls, SyntaxGives, SyntaxMoves, UnitOutcome, after_reply, at_start, flushed, path_at, response, with_answer}
 use Rattle.psu_lex.specs.Names.{is_label}
 use Rattle.psu_lex.specs.Shown.{HoldsData, TailLists, HoldsFound}
 use Rattle.psu_lex.specs.Syntax.{IsBefore, Lists, UnitReads}
@@ -11,9 +11,11 @@ use Rattle.psu_lex.specs.declared.scpi_error.ScpiError.TheVariants.{MacroRecursi
 use Rattle.psu_tree.specs.Path.{path_after}
 use Rattle.psu_tree.specs.Reading.{SyntaxReads}
 use Rattle.psu_instrument.specs.Macros.{ExpandsAt, written, label_in}
-use Rattle.psu_exec.specs.Device.{answer_call, answer_meant, called, here, is_later, meant}
-use Rattle.psu_run.specs.Lines.{too_much}
-use Rattle.psu_run.specs.Script.{SpeaksReply, Expands}
+use Rattle.psu_exec.specs.Device.{after_unit, answer_call, answer_meant, called, here, is_later, meant}
+use Rattle.psu_messages.specs.Units.{faulty}
+use Rattle.psu_messages.specs.Units as units
+use Rattle.psu_run.specs.Script.{Expands, SpeaksReply, waited}
+use Rattle.psu_run.proofs.Alone.{outcome}
 use Rattle.psu_run.proofs.Readings.{Holds, SomeUnits, held_by, Ones, one_next}
 use Rattle.psu_lex.specs.declared.data.Found.{Found}
 use Rattle.psu_lex.proofs.DataLists.{one_list}
@@ -71,10 +73,9 @@ module _ (some : Somes) where
   some_asked : (inside : Bool) (bytes : List ℕ) → (requests : List Request) × AllHold requests × AreAsked inside bytes requests
   some_asked inside bytes = let units = some.units bytes in let requested = some_requests inside units.0 [] in (requested.0, requested.1, (units.0, units.1, requested.2))
 
-  some_asking : (m : Message) → (requests : List Request) × AllHold requests × Asks m requests
-  some_asking Message.Power = ([], tt, refl)
-  some_asking Message.Overlong = (too_much ∷ [], (([], refl), tt), refl)
-  some_asking (Message.Units bytes) = some_asked false bytes
+  some_asking : (source : Source) → (requests : List Request) × AllHold requests × AskedBy source requests
+  some_asking (Fault error) = (faulty error ∷ [], (([], refl), tt), refl)
+  some_asking (units.Text bytes) = some_asked false bytes
 
   -- ---- units
 
@@ -117,15 +118,12 @@ module _ (some : Somes) where
 
   -- ---- messages
 
-  some_outcome : (m : Message) (requests : List Request) (r : Rest) → AllHold requests → (outcome : MessageOutcome) × HasMessageOutcome r m requests outcome
-  some_outcome Message.Power requests r hold = (record { rest = restarted r; text = [] }, refl)
-  some_outcome m requests r hold = let all = some_line requests r [] hold in (record { rest = all.0.rest; text = response all.0.answers }, (all.0, all.1, refl))
-
   pub some_script : (ms : List Message) (r : Rest) → (text : List ℕ) × Scripted r ms text
   some_script [] r = ([], refl)
-  some_script (m ∷ ms) r =
-      let requests = some_asking m in let outcome = some_outcome m requests.0 r requests.1 in let rest = some_script ms outcome.0.rest in
-      (outcome.0.text ++ rest.0, (requests.0, outcome.0, rest.0, requests.2, outcome.1, rest.1, refl))
+  some_script (Message.Power ∷ ms) r = some_script ms (at_start r.state.flush.limit r.stored)
+  some_script (Message.Line source ∷ ms) r =
+      let requests = some_asking source in let all = some_line requests.0 r [] requests.1 in let rest = some_script ms all.0.rest in
+      (response all.0.answers ++ rest.0, (requests.0, all.0, rest.0, requests.2, all.1, rest.1, refl))
 
 -- no body has two expansions
 abbrev pub OneExpansion : Type 0
@@ -173,10 +171,9 @@ one_requests o inside (part ∷ units) path requests others (r, more, next, here
 one_asked : Ones → (inside : Bool) (bytes : List ℕ) (requests others : List Request) → AreAsked inside bytes requests → AreAsked inside bytes others → Alike requests others
 one_asked o inside bytes requests others (units, is, asks) (list, is_too, asks_too) = one_requests o inside units [] requests others asks (rw (o.units bytes units list is is_too) asks_too)
 
-one_asking : Ones → (m : Message) (requests others : List Request) → Asks m requests → Asks m others → Alike requests others
-one_asking o Message.Power requests others a b = rw (a, b) tt
-one_asking o Message.Overlong requests others a b = rw (a, b) (record { reading = refl; place = refl; label = refl; parameters = λ list others l k. l ∙ sym k }, tt)
-one_asking o (Message.Units bytes) requests others a b = one_asked o false bytes requests others a b
+one_asking : Ones → (source : Source) (requests others : List Request) → AskedBy source requests → AskedBy source others → Alike requests others
+one_asking o (Fault error) requests others a b = rw (a, b) (record { reading = refl; place = refl; label = refl; parameters = λ list others l k. l ∙ sym k }, tt)
+one_asking o (units.Text bytes) requests others a b = one_asked o false bytes requests others a b
 
 -- ---- replies
 
@@ -187,8 +184,12 @@ later_same : {a b : Request} (s : State) → Same a b → is_later s 1 a ≡ is_
 later_same s same = grind arith
 
 -- the result of a unit depends only on its reading and its reply
+unit_alike : {a b : Request} (s : State) (reply : Reply) → Same a b → after_unit s 1 a reply ≡ after_unit s 1 b reply
+unit_alike s reply same = grind arith
+
 reply_alike : {a b : Request} (r : Rest) (reply : Reply) → Same a b → after_reply r a reply ≡ after_reply r b reply
-reply_alike r reply same = grind arith
+reply_alike r Parked same = ap (λ (s : State). waited (flushed (record r { state = s }))) (unit_alike r.state Parked same)
+reply_alike r reply same = ap (λ (s : State). outcome (record r { state = s }) reply) (unit_alike r.state reply same)
 
 module _ (o : Ones) (one : OneExpansion) where
   one_given : (inside : Bool) (body : List ℕ) (args : List (List ℕ)) (given other : Result (List ℕ) ScpiError) → ExpandsAt inside body args given → ExpandsAt inside body args other → given ≡ other
@@ -241,12 +242,9 @@ module _ (o : Ones) (one : OneExpansion) where
 
   -- ---- messages
 
-  one_outcome : (m : Message) (requests others : List Request) (r : Rest) (x y : MessageOutcome) → Alike requests others → HasMessageOutcome r m requests x → HasMessageOutcome r m others y → x ≡ y
-  one_outcome Message.Power requests others r x y alike p q = p ∙ sym q
-  one_outcome m requests others r x y alike (all, tells, is) (every, tells_too, is_too) = let same = one_line requests others r [] all every alike tells tells_too in grind arith
-
   pub one_script : (ms : List Message) (r : Rest) (text other : List ℕ) → Scripted r ms text → Scripted r ms other → text ≡ other
   one_script [] r text other a b = a ∙ sym b
-  one_script (m ∷ ms) r text other (requests, outcome, more, asks, tells, script, is) (others, outcome_too, rest, asks_too, tells_too, script_too, is_too) =
-      let same : outcome ≡ outcome_too = one_outcome m requests others r outcome outcome_too (one_asking o m requests others asks asks_too) tells tells_too in
-      let then = one_script ms outcome.rest more rest script (rw same script_too) in grind arith
+  one_script (Message.Power ∷ ms) r text other a b = one_script ms (at_start r.state.flush.limit r.stored) text other a b
+  one_script (Message.Line source ∷ ms) r text other (requests, all, more, asks, tells, script, is) (others, every, rest, asks_too, tells_too, script_too, is_too) =
+      let same : all ≡ every = one_line requests others r [] all every (one_asking o source requests others asks asks_too) tells tells_too in
+      let after = one_script ms all.rest more rest script (rw same script_too) in grind arith

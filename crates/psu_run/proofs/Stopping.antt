@@ -1,24 +1,25 @@
 -- Why a run ends early, and where.
-use Rattle.std.proofs.Common.{◌≡◌, ◌⊎◌, ℕ, ◌≤◌, true, List, [], ◌∷◌, ◌++◌, refl, sym, ap, ◌∙◌, subst, inl, inr, arith, ⊎_elim, append_assoc, append-nil, length, Option, Some, false, None}
+use Rattle.std.proofs.Common.{◌≡◌, ◌⊎◌, ℕ, ◌≤◌, true, List, [], ◌∷◌, ◌++◌, refl, sym, ap, ◌∙◌, subst, subst₂, inl, inr, arith, ⊎_elim, append_assoc, append-nil, length, Option, Some, false, None}
 use Rattle.std.specs.Prelude.{⊤}
 use Rattle.std.proofs.lemmas.Bool.Decides.{nat_tests}
-use Rattle.psu_run.proofs.Common.{Begins, Contents, DeviceStops, DiskState, EachRepresents, EndsFor, Exec, FaultOf, Flush, Ghosts, HasFailed, IsAlong, IsContents, IsCrashImage, IsFlush, IsLeftBy, IsOf, IsOldOrSame, IsTied, Item, Leads, LeavesOnly, Life, Message, MessageRuns, PowersOn, Ran, Reached, Reopened, Reopens, Represents, Restarted, RunCause, RunFault, RunStep, RunStops, Runs, RunsUpTo, Since, SomeBreak, StopsAt, StopsFor, World, Worn, born, disk_in, extent_in, failures_in, failures_of, idle_disk, is_broken, items_of, job_steps, never, reads_left, state_in, world_of}
-use Rattle.psu_items.specs.Image.{HasReadableRoot}
+use Rattle.psu_run.proofs.Common.{Begins, Contents, DeviceStops, DiskState, EachRepresents, Exec, FaultOf, Flush, Ghosts, HasFailed, IsAlong, IsContents, IsCrashImage, IsFlush, IsLeftBy, IsOf, IsOldOrSame, IsTied, Item, Leads, LeavesOnly, Life, Message, MessageRuns, PowersOn, Ran, Reached, Reopens, Represents, Restarted, RunCause, RunFault, RunStep, RunStops, Runs, RunsUpTo, Since, SomeBreak, StopsAt, StopsFor, World, Worn, born, disk_in, extent_in, failures_in, failures_of, idle_disk, is_broken, items_of, reads_left, state_in, world_of}
 use Rattle.psu_pages.specs.declared.faults.BadImage.TheVariants as BadImage
 use Rattle.psu_items.proofs.Fitting.{represents_unrefused, represents_within}
 use Rattle.psu_items.proofs.Standing.{represents_one}
 use Rattle.psu_nv.specs.Contents.{fits}
 use Rattle.psu_exec.proofs.Changes.{sound_first}
 use Rattle.psu_exec.specs.Consistent.{IsConsistent}
-use Rattle.psu_exec.specs.declared.condition.Condition.{Condition}
+use Rattle.psu_exec.specs.declared.start_cause.StartFault.{StartFault}
+use Rattle.psu_exec.specs.declared.start_cause.StartFault.TheVariants as start_fault
+use Rattle.psu_exec.specs.declared.start_cause.StartFault.TheVariants.{Start}
 use Rattle.psu_exec.specs.declared.start_cause.StartCause.TheVariants as start
-use Rattle.psu_run.specs.Steps.{extent_of, IsWornOut}
-use Rattle.psu_run.specs.Reasons.{NotStarted, DeviceStopsFor, IsAtPower, IsByFailure, IsHaltedBy}
-use Rattle.psu_run.specs.Progress.{is_worn}
-use Rattle.psu_run.specs.Runs.{NextBegins}
-use Rattle.psu_run.specs.declared.run_cause.RunCause.TheVariants.{Open, Device}
+use Rattle.psu_messages.specs.Executions.{beginning}
+use Rattle.psu_messages.specs.Executions.Reaches.{Begins as Beginning}
+use Rattle.psu_run.specs.Progress.{IsHaltedBy, extent_of}
+use Rattle.psu_run.specs.Runs.{IsAtPower, IsByFailure, IsWornOut, NextBegins, NotStarted, cause_of, never}
+use Rattle.psu_run.specs.declared.run_cause.RunCause.TheVariants.{Device, Open, Read, TooLong}
 use Rattle.psu_run.proofs.Going.{failed_before, failed_on, steps_as, steps_none, device_stops_as, ran_then, ran_with, steps_then}
-use Rattle.psu_run.proofs.Walking.{begins_all, breaks_split, flush_executes, along_here}
+use Rattle.psu_run.proofs.Walking.{along_here, breaks_split, flush_begins, job_begins}
 use Rattle.std.specs.Option.{ForSome}
 use Rattle.psu_items.proofs.Opening.{still_represents}
 use Rattle.psu_run.proofs.Moments.{since_as, since_to}
@@ -33,38 +34,30 @@ fits_on image limit contents sound stands =
     let few = sound.most_macros in grind (arith, nat_tests, cheap, few)
 
 -- an image that represents contents powers on, unless a call failed or memory ran out
-stands_stops : (since before now : ℕ) (rest : List Message) (last : World) (image left : List ℕ) (limit : ℕ) (contents : Contents) (cause : RunCause) → since ≤ before → IsContents contents
-    → Represents image limit (items_of contents) → NotStarted image before now cause → DeviceStopsFor since now (Message.Power ∷ rest) last left cause
-stands_stops since before now rest last image left limit contents (Open start.Device) later sound stands why = (tt, failed_before since before now later why)
-stands_stops since before now rest last image left limit contents (Open start.NoRoot) later sound stands why = absurd (represents_unrefused image limit (items_of contents) BadImage.NoRoot stands why)
-stands_stops since before now rest last image left limit contents (Open start.BadRoot) later sound stands why = absurd (represents_unrefused image limit (items_of contents) BadImage.BadRoot stands why)
-stands_stops since before now rest last image left limit contents (Open start.BadVersion) later sound stands why = absurd (represents_unrefused image limit (items_of contents) BadImage.BadVersion stands why)
-stands_stops since before now rest last image left limit contents (Open start.BadItems) later sound stands why =
+stands_stops : (since before now : ℕ) (rest : List Message) (last : World) (image left : List ℕ) (limit : ℕ) (contents : Contents) (why : StartFault) → since ≤ before → IsContents contents
+    → Represents image limit (items_of contents) → NotStarted image before now why → StopsFor never since now (Message.Power ∷ rest) last left (cause_of why)
+stands_stops since before now rest last image left limit contents (Start start.Device) later sound stands why = (tt, failed_before since before now later why)
+stands_stops since before now rest last image left limit contents (Start start.NoRoot) later sound stands why = absurd (represents_unrefused image limit (items_of contents) BadImage.NoRoot stands why)
+stands_stops since before now rest last image left limit contents (Start start.BadRoot) later sound stands why = absurd (represents_unrefused image limit (items_of contents) BadImage.BadRoot stands why)
+stands_stops since before now rest last image left limit contents (Start start.BadVersion) later sound stands why = absurd (represents_unrefused image limit (items_of contents) BadImage.BadVersion stands why)
+stands_stops since before now rest last image left limit contents (Start start.BadItems) later sound stands why =
     let one = represents_one limit why.limit (items_of contents) why.map image stands why.stands in
     absurd (why.none contents sound (subst (λ (n : ℕ). fits n contents ≡ true) one.0 (fits_on image limit contents sound stands)) one.1)
-stands_stops since before now rest last image left limit contents cause later sound stands why = grind arith
+stands_stops since before now rest last image left limit contents start_fault.Memory later sound stands why = tt
 
-pub restart_stops : (since before now : ℕ) (rest : List Message) (last : World) (disk : DiskState) (left : List ℕ) (cause : RunCause) (f : Flush) → since ≤ before → IsConsistent f
-    → EachRepresents disk f.limit f.before → NotStarted disk.bytes before now cause → DeviceStopsFor since now (Message.Power ∷ rest) last left cause
-restart_stops since before now rest last disk left cause f later c stands why =
-    stands_stops since before now rest last disk.bytes left f.limit c.first cause later (sound_first f.limit c.first c.rest c.sound).sound (subst (λ (m : List Item). Represents disk.bytes f.limit m) c.first_map (stands disk.bytes (reads_left disk))) why
-
--- why a run ends, once power is on
-pub ends_for : (found : List ℕ) (since before now : ℕ) (rest : List Message) (last : World) (left : List ℕ) (by_input : RunCause → Type 0) (cause : RunCause) → HasReadableRoot found → since ≤ before
-    → StopsFor by_input before now rest last left cause → EndsFor found since now left by_input cause
-ends_for found since before now rest last left by_input cause rooted later why = grind arith
+pub restart_stops : (since before now : ℕ) (rest : List Message) (last : World) (disk : DiskState) (left : List ℕ) (why : StartFault) (f : Flush) → since ≤ before → IsConsistent f
+    → EachRepresents disk f.limit f.before → NotStarted disk.bytes before now why → StopsFor never since now (Message.Power ∷ rest) last left (cause_of why)
+restart_stops since before now rest last disk left why f later c stands reason =
+    stands_stops since before now rest last disk.bytes left f.limit c.first why later (sound_first f.limit c.first c.rest c.sound).sound (subst (λ (m : List Item). Represents disk.bytes f.limit m) c.first_map (stands disk.bytes (reads_left disk))) reason
 
 -- the image of an honest disk shows that the store is worn
 worn_shows : {D A : Type 0} {G : Ghosts D} (exec : Exec D A G) (cause : RunCause) (fault : RunFault D) → FaultOf exec cause fault → fault.is_worn ≡ true → Ghosts.honest G → IsWornOut (Ghosts.state G fault.disk).bytes
-worn_shows exec cause fault f worn h = f.worn h (by exec.device.flush.store (sym f.worn_is ∙ worn)) where
-  by : (condition : Condition) → is_worn condition ≡ true → condition ≡ Worn
-  by Worn e = refl
-  by condition e = cc
+worn_shows exec cause fault f worn h = f.worn h (f.worn_is.0 worn)
 
 pub halted_fails : {D A : Type 0} {G : Ghosts D} (before : ℕ) (new : Exec D A G) (cause : RunCause) (fault : RunFault D) → FaultOf new cause fault → IsHaltedBy before new cause → IsByFailure G before fault
 halted_fails {D} {A} {G} before new cause fault f why = record {
   opening = λ e. absurd (by cause why (sym f.cause_is ∙ e));
-  device = λ e whole. ⊎_elim (λ x. subst (λ (to : Option D). HasFailed before (failures_in G to)) f.disk x) (λ x. let bad = sym whole ∙ f.worn_is ∙ ap is_worn x.0 in cc) (subst (IsHaltedBy before new) (sym f.cause_is ∙ e) why);
+  device = λ e whole. ⊎_elim (λ x. subst (λ (to : Option D). HasFailed before (failures_in G to)) f.disk x) (λ x. let bad = f.worn_is.1 x.0 in cc) (subst (IsHaltedBy before new) (sym f.cause_is ∙ e) why);
   worn = worn_shows new cause fault f;
 }
   where
@@ -77,10 +70,20 @@ pub since_earlier : {D : Type 0} {G : Ghosts D} (since before : ℕ) (fault : Ru
 since_earlier since before fault later w = record { opening = λ e. failed_before _ _ _ later (w.opening e); device = λ e whole. failed_before _ _ _ later (w.device e whole); worn = w.worn }
 
 -- the device gives no such cause
-abbrev pub IsOther : RunCause → Type 0
-IsOther (Open cause) = ⊥
-IsOther Device = ⊥
-IsOther cause = ⊤
+abbrev pub IsOther : (RunCause → Type 0) → RunCause → Type 0
+IsOther by_input (Open cause) = ⊥
+IsOther by_input Device = ⊥
+IsOther by_input TooLong = by_input TooLong
+IsOther by_input Read = by_input Read
+IsOther by_input cause = ⊤
+
+-- the run stops with this fault, after this count of failures
+abbrev pub Stops : {D : Type 0} (G : Ghosts D) → (RunCause → Type 0) → ℕ → RunFault D → List Message → List ℕ → List RunStep → World → Type 0
+Stops G by_input before fault due text = StopsAt by_input fault.cause before (Ghosts.failures G fault.disk) (Ghosts.state G fault.disk) due text
+
+-- a run of these messages was whole, and its disk is this one
+abbrev pub RunsAll : {D : Type 0} (G : Ghosts D) → List Message → List ℕ → D → List RunStep → World → Type 0
+RunsAll G due text disk steps last = (runs : RunsUpTo [] due text steps) × IsFlush runs.next × (last.state.flush.unflushed ≡ 0) × (last.disk ≡ Ghosts.state G disk)
 
 -- ---- up to which message
 
@@ -104,7 +107,7 @@ abbrev pub begun : (rest : List Message) (part : List ℕ) (steps : List RunStep
 begun rest part steps b = record { done = []; is = refl; said = []; made = []; runs = (refl, refl); part = part; next = steps; begun = b; sent = refl; all = refl }
 
 -- after messages that were executed
-abbrev behind : (rest done due : List Message) (text part : List ℕ) (xs ys : List RunStep) → Runs done text xs → (r : RunsUpTo rest due part ys) → RunsUpTo rest (done ++ due) (text ++ part) (xs ++ ys)
+abbrev pub behind : (rest done due : List Message) (text part : List ℕ) (xs ys : List RunStep) → Runs done text xs → (r : RunsUpTo rest due part ys) → RunsUpTo rest (done ++ due) (text ++ part) (xs ++ ys)
 behind rest done due text part xs ys p r = record {
   done = done ++ r.done;
   is = ap (λ (z : List Message). done ++ z) r.is ∙ sym (append_assoc done r.done rest);
@@ -119,13 +122,17 @@ behind rest done due text part xs ys p r = record {
 }
 
 -- all of them
-pub whole_up_to : (due : List Message) (text : List ℕ) (xs ys : List RunStep) → Runs due text xs → Begins [] ys → RunsUpTo [] due text (xs ++ ys)
+pub runs_whole : (due : List Message) (text : List ℕ) (steps : List RunStep) → (r : RunsUpTo [] due text steps) → Runs due text r.made
+runs_whole due text steps r = subst₂ (λ (m : List Message) (t : List ℕ). Runs m t r.made) (sym (r.is ∙ append-nil r.done)) (sym (r.sent ∙ ap (λ (z : List ℕ). r.said ++ z) r.begun.1 ∙ append-nil r.said)) r.runs
+
+abbrev pub whole_up_to : (due : List Message) (text : List ℕ) (xs ys : List RunStep) → Runs due text xs → Begins [] ys → RunsUpTo [] due text (xs ++ ys)
 whole_up_to due text xs ys runs b = record { done = due; is = sym (append-nil due); said = text; made = xs; runs = runs; part = []; next = ys; begun = (b, refl); sent = sym (append-nil text); all = refl }
 
--- calls that execute no unit
-pub idle_begins : (rest : List Message) (steps : List RunStep) → Begins [] steps → NextBegins rest [] steps
-idle_begins [] steps b = (b, refl)
-idle_begins (m ∷ ms) steps b = inl (b, refl)
+-- nothing is executed
+pub none_begins : (rest : List Message) → NextBegins rest [] []
+none_begins [] = (tt, refl)
+none_begins (Message.Power ∷ ms) = (tt, refl)
+none_begins (Message.Line source ∷ ms) = record { effects = []; at = beginning; reaches = Beginning; made = []; makes = refl; sent = refl; next = []; begun = inl refl; all = refl }
 
 -- ---- a run that stops
 
@@ -136,7 +143,7 @@ pub stops_at : {D A : Type 0} {G : Ghosts D} (by_input : RunCause → Type 0) (o
 stops_at {D} {A} {G} by_input old new fault rest part goes there why counted =
     let P : List RunStep → World → Type 0 = λ steps last. IsOf new last × NextBegins rest part steps in
     let g : Ran old (Some fault.disk) P = subst (λ (to : Option D). Ran old to P) there goes.ran in record {
-      ran = ran_with old (Some fault.disk) P (StopsAt G by_input (failures_of old) fault rest part) g (λ h life steps last walks failed p.
+      ran = ran_with old (Some fault.disk) P (Stops G by_input (failures_of old) fault rest part) g (λ h life steps last walks failed p.
           let disk : last.disk ≡ Ghosts.state G fault.disk = ap (λ (w : World). w.disk) p.0.1 ∙ ap (λ (to : Option D). state_in G to) there in record {
             rest = rest;
             runs = begun rest part steps p.1;
@@ -158,19 +165,21 @@ halted {D} {A} {G} old new cause fault rest part s f plain = stops_at never old 
     (λ h life. let why = s.why (failures_of old) (omega arith, inl h) in grind arith) (λ before t. halted_fails before new cause fault f (s.why before t))
 
 -- before anything of these messages is executed
-pub stops_now : {D A : Type 0} {G : Ghosts D} (by_input : RunCause → Type 0) (exec : Exec D A G) (cause : RunCause) (fault : RunFault D) (rest : List Message) → FaultOf exec cause fault → IsOther cause
-    → ((last : World) → StopsFor by_input (failures_of exec) (Ghosts.failures G fault.disk) rest last (Ghosts.state G fault.disk).bytes cause) → RunStops by_input exec fault rest []
-stops_now {D} {A} {G} by_input exec cause fault rest f other why =
-    stops_at by_input exec exec fault rest [] (steps_none exec (NextBegins rest []) (idle_begins rest [] ([], [], refl, refl))) f.disk
-    (λ h life. subst (StopsFor by_input (failures_of exec) (Ghosts.failures G fault.disk) rest (world_of life exec) (Ghosts.state G fault.disk).bytes) (sym f.cause_is) (why (world_of life exec)))
+pub stops_now : {D A : Type 0} {G : Ghosts D} (by_input : RunCause → Type 0) (exec : Exec D A G) (cause : RunCause) (fault : RunFault D) (rest : List Message) → FaultOf exec cause fault → IsOther by_input cause → RunStops by_input exec fault rest []
+stops_now {D} {A} {G} by_input exec cause fault rest f other =
+    stops_at by_input exec exec fault rest [] (steps_none exec (NextBegins rest []) (none_begins rest)) f.disk
+    (λ h life. subst (StopsFor by_input (failures_of exec) (Ghosts.failures G fault.disk) rest (world_of life exec) (Ghosts.state G fault.disk).bytes) (sym f.cause_is) (by cause other (world_of life exec)))
     (λ before t. record { opening = λ e. grind arith; device = λ e whole. grind arith; worn = worn_shows exec cause fault f })
+  where
+    by : (cause : RunCause) → IsOther by_input cause → (last : World) → StopsFor by_input (failures_of exec) (Ghosts.failures G fault.disk) rest last (Ghosts.state G fault.disk).bytes cause
+    by cause other last = grind arith
 
 -- after these messages
 pub stops_then : {D A : Type 0} {G : Ghosts D} (by_input : RunCause → Type 0) (old mid : Exec D A G) (fault : RunFault D) (done due : List Message) (text part : List ℕ) → Leads old mid (Runs done text) → RunStops by_input mid fault due part
     → RunStops by_input old fault (done ++ due) (text ++ part)
 stops_then {D} {A} {G} by_input old mid fault done due text part p s = record {
   counted = λ before t. s.counted before (p.tied before t);
-  ran = ran_then old mid (Some fault.disk) (Runs done text) (StopsAt G by_input (failures_of mid) fault due part) (StopsAt G by_input (failures_of old) fault (done ++ due) (text ++ part)) p s.ran
+  ran = ran_then old mid (Some fault.disk) (Runs done text) (Stops G by_input (failures_of mid) fault due part) (Stops G by_input (failures_of old) fault (done ++ due) (text ++ part)) p s.ran
       (λ xs ys last broke ran q. record {
         rest = q.rest;
         runs = behind q.rest done due text part xs ys ran q.runs;
@@ -184,18 +193,13 @@ stops_then {D} {A} {G} by_input old mid fault done due text part p s = record {
       });
 }
 
--- all of these messages were executed
-pub stops_after : {D A : Type 0} {G : Ghosts D} (by_input : RunCause → Type 0) (old mid : Exec D A G) (fault : RunFault D) (due : List Message) (text : List ℕ) → Leads old mid (Runs due text) → RunStops by_input mid fault [] [] → RunStops by_input old fault due text
-stops_after by_input old mid fault due text p s =
-    subst (λ (z : List ℕ). RunStops by_input old fault due z) (append-nil text) (subst (λ (z : List Message). RunStops by_input old fault z (text ++ [])) (append-nil due) (stops_then by_input old mid fault due [] text [] p s))
-
--- for another reason, at the same place
+-- for another cause, at the same place
 pub stops_for : {D A : Type 0} {G : Ghosts D} (by_input other : RunCause → Type 0) (old : Exec D A G) (fault : RunFault D) (cause : RunCause) (due : List Message) (text : List ℕ) → RunStops by_input old fault due text
     → ((before : ℕ) (rest : List Message) (last : World) → StopsFor by_input before (Ghosts.failures G fault.disk) rest last (Ghosts.state G fault.disk).bytes fault.cause
     → StopsFor other before (Ghosts.failures G fault.disk) rest last (Ghosts.state G fault.disk).bytes cause)
     → ((before : ℕ) → IsByFailure G before fault → IsByFailure G before (record fault { cause = cause })) → RunStops other old (record fault { cause = cause }) due text
 stops_for {D} {A} {G} by_input other old fault cause due text s turn counted = record {
-  ran = ran_with old (Some fault.disk) (StopsAt G by_input (failures_of old) fault due text) (StopsAt G other (failures_of old) (record fault { cause = cause }) due text) s.ran (λ h life steps last walks failed p. record {
+  ran = ran_with old (Some fault.disk) (Stops G by_input (failures_of old) fault due text) (Stops G other (failures_of old) (record fault { cause = cause }) due text) s.ran (λ h life steps last walks failed p. record {
     rest = p.rest;
     runs = p.runs;
     count = p.count;
@@ -219,7 +223,7 @@ flush_stops old new cause fault s f = halted old new cause fault [] [] (device_s
 pub unflushed_stops : {D A : Type 0} {G : Ghosts D} (old new : Exec D A G) (fault : RunFault D) → Leads old new IsFlush → FaultOf new Device fault
     → ((before : ℕ) → IsTied before old → HasFailed before (failures_of new) ⊎ (new.device.flush.store ≡ Worn) ⊎ (new.device.flush.unflushed ≡ 0)) → (new.device.flush.unflushed ≡ 0 → ⊥) → RunStops never old fault [] []
 unflushed_stops old new fault g f clean some =
-    flush_stops old new Device fault (record { leads = steps_as old new IsFlush (Begins []) g (λ steps x. begins_all [] steps (flush_executes steps x)); why = λ before t. let left = clean before t in grind arith }) f
+    flush_stops old new Device fault (record { leads = steps_as old new IsFlush (Begins []) g (λ steps x. flush_begins steps x); why = λ before t. let left = clean before t in grind arith }) f
 
 -- ---- a power loss at rest, and a restart
 
@@ -286,8 +290,8 @@ module _ {D A : Type 0} {G : Ghosts D} (exec : Exec D A G) (disk : D) (ends : En
 -- ---- a store is reopened before
 
 reopening : (steps : List RunStep) → Reopens steps → Begins [] steps
-reopening steps (inl none) = subst (Begins []) (sym none) ([], [], refl, refl)
-reopening steps (inr (job, limit, map, over, kind, all)) = subst (Begins []) (sym all) (begins_all [] (job_steps job (Reopened limit map) over) ([], ([], refl, refl), refl))
+reopening steps (inl none) = rw none tt
+reopening steps (inr (is, kind)) = job_begins steps is
 
 -- the message of a power loss
 pub power_runs : {D A : Type 0} {G : Ghosts D} (old mid new : Exec D A G) → Leads old mid Reopens → Leads mid new (λ steps. steps ≡ Restarted ∷ []) → Leads old new (Runs (Message.Power ∷ []) [])
@@ -296,22 +300,23 @@ power_runs old mid new p q = steps_then old mid new Reopens (λ steps. steps ≡
 
 -- a restart that fails
 pub power_stops : {D A : Type 0} {G : Ghosts D} (old mid : Exec D A G) (disk : D) (fault : RunFault D) (rest : List Message) → Leads old mid Reopens → (ends : Ends mid disk) → Ghosts.failures G disk ≤ Ghosts.failures G fault.disk
-    → IsConsistent mid.device.flush → (Ghosts.honest G → NotStarted (Ghosts.state G disk).bytes (Ghosts.failures G disk) (Ghosts.failures G fault.disk) fault.cause)
+    → IsConsistent mid.device.flush → (Ghosts.honest G → (why : StartFault) × (fault.cause ≡ cause_of why) × NotStarted (Ghosts.state G disk).bytes (Ghosts.failures G disk) (Ghosts.failures G fault.disk) why)
     → IsByFailure G (Ghosts.failures G disk) fault → Ran mid (Some fault.disk) (λ steps last. Ghosts.honest G × (steps ≡ []) × IsLeftBy last (Ghosts.state G fault.disk)) → RunStops never old fault (Message.Power ∷ rest) []
 power_stops {D} {A} {G} old mid disk fault rest p ends rose consistent why by q =
     let same : failures_of mid ≡ Ghosts.failures G disk = ap (λ (z : Option D). failures_in G z) ends.same in
     let low : failures_of old ≤ Ghosts.failures G disk = let one = p.ran.later in omega (arith, one, same) in record {
       counted = λ before t. let u = (p.tied before t).0 in since_earlier before (Ghosts.failures G disk) fault (omega (arith, u, same)) by;
-      ran = ran_then old mid (Some fault.disk) Reopens (λ steps last. Ghosts.honest G × (steps ≡ []) × IsLeftBy last (Ghosts.state G fault.disk)) (StopsAt G never (failures_of old) fault (Message.Power ∷ rest) []) p q
+      ran = ran_then old mid (Some fault.disk) Reopens (λ steps last. Ghosts.honest G × (steps ≡ []) × IsLeftBy last (Ghosts.state G fault.disk)) (Stops G never (failures_of old) fault (Message.Power ∷ rest) []) p q
           (λ xs ys last broke r e. record {
             rest = Message.Power ∷ rest;
-            runs = begun (Message.Power ∷ rest) [] (xs ++ ys) (inl (subst (Begins []) (sym (ap (λ (z : List RunStep). xs ++ z) e.1 ∙ append-nil xs)) (reopening xs r), refl));
+            runs = begun (Message.Power ∷ rest) [] (xs ++ ys) (subst (Begins []) (sym (ap (λ (z : List RunStep). xs ++ z) e.1 ∙ append-nil xs)) (reopening xs r), refl);
             count = failures_of old;
             later = omega arith;
             failed = λ b. absurd b;
             later_then = omega (arith, low, rose);
             failed_then = λ b. ⊎_elim (λ x. failed_on _ _ _ q.later (broke x)) (λ y. absurd (subst SomeBreak e.1 y)) (breaks_split xs ys b);
-            why = inr (restart_stops (failures_of old) (Ghosts.failures G disk) (Ghosts.failures G fault.disk) rest last (Ghosts.state G disk) (Ghosts.state G fault.disk).bytes fault.cause mid.device.flush low consistent (ends.stands e.0) (why e.0));
+            why = let w = why e.0 in subst (StopsFor never (failures_of old) (Ghosts.failures G fault.disk) (Message.Power ∷ rest) last (Ghosts.state G fault.disk).bytes) (sym w.1)
+                (restart_stops (failures_of old) (Ghosts.failures G disk) (Ghosts.failures G fault.disk) rest last (Ghosts.state G disk) (Ghosts.state G fault.disk).bytes w.0 mid.device.flush low consistent (ends.stands e.0) w.2);
             left = e.2;
           });
     }
@@ -320,6 +325,6 @@ power_stops {D} {A} {G} old mid disk fault rest p ends rose consistent why by q 
 pub reopen_stops : {D A : Type 0} {G : Ghosts D} (old new : Exec D A G) (cause : RunCause) (fault : RunFault D) (rest : List Message) → DeviceStops old new (Begins []) cause → FaultOf new cause fault
     → (cause ≡ Device → (before : ℕ) → IsTied before old → HasFailed before (failures_of new)) → RunStops never old fault (Message.Power ∷ rest) []
 reopen_stops {D} {A} {G} old new cause fault rest s f failed =
-    stops_at never old new fault (Message.Power ∷ rest) [] (device_stops_as old new (Begins []) (NextBegins (Message.Power ∷ rest) []) cause s (λ steps b. idle_begins (Message.Power ∷ rest) steps b)).leads f.disk
+    stops_at never old new fault (Message.Power ∷ rest) [] (device_stops_as old new (Begins []) (NextBegins (Message.Power ∷ rest) []) cause s (λ steps b. (b, refl))).leads f.disk
     (λ h life. let tied : IsTied (failures_of old) old = (omega arith, inl h) in let why = s.why (failures_of old) tied in let broke : cause ≡ Device → HasFailed (failures_of old) (failures_of new) = λ e. failed e (failures_of old) tied in grind arith)
     (λ before t. halted_fails before new cause fault f (s.why before t))

@@ -1,19 +1,17 @@
 -- The steps of a job, of a flush, of a wait and of a unit; the changes that a flush leaves unflushed; and why a unit may be `Later`.
-use Rattle.std.proofs.Common.{true, false, ◌≡◌, ◌⊎◌, ℕ, suc, ◌≤◌, Bool, Option, Some, List, [], ◌∷◌, ◌++◌, refl, sym, ap, ◌∙◌, subst, inr, arith, append_assoc, ◌<◌, None}
-use Rattle.psu_run.proofs.Common.{Allows, Begins, Called, DeviceStops, Exec, Executed, Executes, Flush, GaveBack, Ghosts, HasFailed, IsAlong, IsEither, IsFlush, IsJob, IsOf, IsWait, Job, JobData, Jobs, Later, Leads, MayAnswer, Reopens, Reply, Request, RunCause, RunStep, Serves, Settled, Since, State, Took, Walks, Whole, World, Worn, disk_at, disk_in, is_broken, job_data, job_out, job_steps, wait_of, world_of}
-use Rattle.psu_exec.proofs.Giving.{flush_gives}
+use Rattle.std.proofs.Common.{true, ◌≡◌, ◌⊎◌, ℕ, suc, ◌≤◌, Bool, Option, Some, List, [], ◌∷◌, ◌++◌, refl, sym, ap, ◌∙◌, subst, inr, arith, append_assoc, ◌<◌, None}
+use Rattle.psu_run.proofs.Common.{Allows, Begins, Called, DeviceStops, Exec, Executed, Flush, GaveBack, Ghosts, HasFailed, IsAlong, IsEither, IsFlush, IsJob, IsOf, IsWait, Job, JobData, Jobs, Later, Leads, MayAnswer, Reopens, Reply, Request, RunCause, RunStep, Serves, Settled, Since, State, Took, Walks, Whole, World, Worn, disk_at, disk_in, is_broken, job_data, job_steps, wait_of, world_of}
 use Rattle.psu_exec.proofs.Ignored.{serves_took}
-use Rattle.psu_exec.specs.Calls.{Taken, job_of, kind_for, Cleared}
+use Rattle.psu_exec.specs.Calls.{Cleared, Reopen, Taken, job_of}
 use Rattle.psu_exec.specs.Device.{is_whole}
 use Rattle.psu_exec.specs.Jobs.{job_disk, job_store}
 use Rattle.psu_exec.specs.declared.job.Job.{Job as AnyJob}
-use Rattle.psu_run.specs.Jobs.{HasRun}
-use Rattle.psu_run.specs.Runs.{IsTried, is_later}
+use Rattle.psu_run.specs.Progress.{HasRun, IsTried}
 use Rattle.psu_run.proofs.Going.{steps_call, steps_then, ran_as}
 use Rattle.psu_run.proofs.Moments.{since_as}
 use Rattle.psu_run.proofs.OneList.{reached_walk}
 use Rattle.psu_run.proofs.Prefixes.{prefix_of_either}
-use Rattle.psu_run.proofs.Walking.{executes_join, begins_idle, flush_executes}
+use Rattle.psu_run.proofs.Walking.{begins_behind, begins_idle, flush_begins, job_begins}
 
 -- ---- a take and a job as steps
 
@@ -41,7 +39,7 @@ steps_job {D} {A} {G} old taken new j short P given there run p =
             let takes : Walks w taking mid = (mid, ((disk_at old.idle_store, (taken.device, refl, took, refl, refl)), tt), refl) in record {
               steps = steps;
               last = world_of life new;
-              walks = (mid, takes.1, (world_of life new, ((disk_at new.idle_store, (new.device, refl, run.give, run.stands h, refl)), run.refused h), refl));
+              walks = (mid, takes.1, (world_of life new, ((disk_at new.idle_store, (new.device, refl, run.give, run.stands h, refl)), run.sound h), refl));
               is = ((life, refl), p);
               failed = λ e. rw disk (run.failed h (grind arith));
               time = λ t now r. subst (λ (d : Option D). Since G d (disk_in new.idle_store) (IsAlong w steps)) (sym disk)
@@ -51,34 +49,26 @@ steps_job {D} {A} {G} old taken new j short P given there run p =
       };
     }
 
-pub job_executes : (steps : List RunStep) → IsJob steps → Executes [] steps
-job_executes steps is = rw is.are ([], ([], refl, refl), refl)
-
--- a job that leaves a broken store whole reopened it
-pub job_reopens : {D A : Type 0} {G : Ghosts D} (old new : Exec D A G) → is_broken old.device.flush.store ≡ true → is_broken new.device.flush.store ≡ false → Leads old new IsJob → Leads old new Reopens
-job_reopens {D} {A} {G} old new broken mended goes = record {
+-- the job that is taken where the store is broken reopens it
+pub job_reopens : {D A : Type 0} {G : Ghosts D} (old new : Exec D A G) → is_broken old.device.flush.store ≡ true → Leads old new IsJob → Leads old new Reopens
+job_reopens {D} {A} {G} old new broken goes = record {
   tied = goes.tied;
   ran = ran_as old (disk_in new.idle_store) (λ steps last. IsOf new last × IsJob steps) (λ steps last. IsOf new last × Reopens steps) goes.ran
-      (λ life steps last walks a. let is = a.1 in (a.0, rw is.are (by (world_of life old) last is broken (ap (λ (z : World). z.state.flush.store) a.0.1) (rw is.are at walks))));
+      (λ life steps last walks a. (a.0, inr (a.1, by (world_of life old) last a.1 broken (rw a.1.are at walks))));
 }
   where
-    by : (w last : World) {steps : List RunStep} (is : IsJob steps) → is_broken w.state.flush.store ≡ true → last.state.flush.store ≡ new.device.flush.store → Walks w (job_steps is.job is.finished is.over) last
-        → Reopens (job_steps is.job is.finished is.over)
-    by w last is broke end (mid, ((disk, (taken, running, took, stays, is-mid)), sound), (there, ((disk-2, (s, running-2, gave, after-2, is-there)), sound-2), same)) =
-        let gives = flush_gives mid.state s is.finished gave.gives in
-        let store : s.flush.store ≡ new.device.flush.store = ap (λ (z : World). z.state.flush.store) (sym (same ∙ is-there)) ∙ end in
-        let out : mid.state.flush ≡ job_out w.state.flush = ap (λ (z : World). z.state.flush) is-mid ∙ ap (λ (z : State). z.flush) took.1 in
-        let kind : is.job.kind ≡ kind_for w.state.flush.store = grind arith in grind arith
+    by : (w last : World) {steps : List RunStep} (is : IsJob steps) → is_broken w.state.flush.store ≡ true → Walks w (job_steps is.job is.finished is.over) last → is.job.kind ≡ Reopen
+    by w last is broke (mid, ((disk, (taken, running, took, stays, is-mid)), sound), more) = grind arith
 
 -- ---- a flush
 
 -- no unit is executed by these jobs, and with at most so many jobs more they are a flush
 abbrev pub IsFlushAfter : ℕ → List RunStep → Type 0
-IsFlushAfter left steps = Executes [] steps × ((more : List RunStep) → Jobs left more → IsFlush (steps ++ more))
+IsFlushAfter left steps = Begins [] steps × ((more : List RunStep) → Jobs left more → IsFlush (steps ++ more))
 
 pub one_more : {D A : Type 0} {G : Ghosts D} (first old new : Exec D A G) (left : ℕ) → Leads first old (IsFlushAfter (suc left)) → Leads old new IsJob → Leads first new (IsFlushAfter left)
 one_more first old new left jobs job = steps_then _ _ _ _ _ _ jobs job (λ xs ys p is. (
-  executes_join xs ys [] [] p.0 (job_executes ys is),
+  begins_behind xs ys [] p.0 (job_begins ys is),
   λ more rest. subst IsFlush (sym (append_assoc xs ys more)) (p.1 (ys ++ more) (inr (ys, more, is, rest, refl))),
 ))
 
@@ -100,27 +90,27 @@ steps_wait old mid new reply flushes serves there =
 -- a stop, and then the wait is dropped
 pub device_stops_cleared : {D A : Type 0} {G : Ghosts D} (old mid new : Exec D A G) (cause : RunCause) → DeviceStops old mid (Begins []) cause → Serves mid.device (Cleared 1) new.device → new.idle_store ≡ mid.idle_store → DeviceStops old new (Begins []) cause
 device_stops_cleared old mid new cause stops serves there = record {
-  leads = steps_then _ _ _ _ (Executes []) _ stops.leads (steps_call _ _ (Cleared 1) _ serves there (grind arith) (λ life d e. e) (λ image. tt) (λ e. e) ([], refl, refl)) (λ xs ys b e. begins_idle xs ys [] b e);
+  leads = steps_then _ _ _ _ (Begins []) _ stops.leads (steps_call _ _ (Cleared 1) _ serves there (grind arith) (λ life d e. e) (λ image. tt) (λ e. e) tt) (λ xs ys b e. begins_idle xs ys [] b e);
   why = λ before t. let w = stops.why before t in grind arith;
 }
 
 -- ---- a unit whose reply is `Later`
 
 -- it is one call
-pub late_call : (request : Request) (reply : Reply) (steps : List RunStep) → is_later reply ≡ true → IsTried request reply steps → steps ≡ Called (Executed 1 request Later) ∷ []
+pub late_call : (request : Request) (reply : Reply) (steps : List RunStep) → reply ≡ Later → IsTried request reply steps → steps ≡ Called (Executed 1 request Later) ∷ []
 late_call request reply steps late tried = grind arith
 
-pub late_idle : (request : Request) (reply : Reply) (steps : List RunStep) → is_later reply ≡ true → IsTried request reply steps → Executes [] steps
-late_idle request reply steps late tried = rw (late_call request reply steps late tried) ([], refl, refl)
+pub late_idle : (request : Request) (reply : Reply) (steps : List RunStep) → reply ≡ Later → IsTried request reply steps → Begins [] steps
+late_idle request reply steps late tried = rw (late_call request reply steps late tried) ([], refl, tt)
 
 -- that call, and a flush
 abbrev pub IsLate : Request → List RunStep → Type 0
 IsLate request steps = (flush : List RunStep) × IsFlush flush × (steps ≡ Called (Executed 1 request Later) ∷ flush)
 
-pub late_executes : (request : Request) (steps : List RunStep) → IsLate request steps → Executes [] steps
-late_executes request steps (flush, f, is) = rw is ([], flush_executes flush f, refl)
+pub late_begins : (request : Request) (steps : List RunStep) → IsLate request steps → Begins [] steps
+late_begins request steps (flush, f, is) = rw is ([], refl, flush_begins flush f)
 
-pub steps_late : {D A : Type 0} {G : Ghosts D} (old mid over : Exec D A G) (request : Request) (first : Reply) → Leads old mid (IsTried request first) → is_later first ≡ true → Leads mid over IsFlush → Leads old over (IsLate request)
+pub steps_late : {D A : Type 0} {G : Ghosts D} (old mid over : Exec D A G) (request : Request) (first : Reply) → Leads old mid (IsTried request first) → first ≡ Later → Leads mid over IsFlush → Leads old over (IsLate request)
 steps_late old mid over request first tried late flushes = steps_then _ _ _ _ _ _ tried flushes (λ xs ys t f. (ys, f, ap (λ (z : List RunStep). z ++ ys) (late_call request first xs late t)))
 
 -- the session waits for nothing, so a flush has to make room

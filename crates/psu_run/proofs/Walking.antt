@@ -1,7 +1,6 @@
 -- Steps, one after another.
 use Rattle.std.proofs.Common.{◌≡◌, ◌⊎◌, ℕ, zero, suc, List, [], ◌∷◌, ◌++◌, refl, sym, ap, ◌∙◌, subst, append_assoc, append-nil, inl, inr, ⊎_elim, arith}
-use Rattle.psu_run.proofs.Common.{Acts, AreCalm, Begins, Called, Executes, IsAlong, IsFlush, IsJob, IsUnit, IsWait, Jobs, Reply, Request, Restarted, RunStep, Running, SomeBreak, StandsForPrefix, Walks, World}
-use Rattle.psu_run.specs.Steps.{unit_in}
+use Rattle.psu_run.proofs.Common.{Acts, AreCalm, Begins, Called, Executed, IsAlong, IsFlush, IsJob, IsUnit, IsWait, Jobs, Reply, Request, Restarted, RunStep, Running, Settled, SomeBreak, StandsForPrefix, Walks, World}
 
 pub walks_join : (xs ys : List RunStep) (w mid new : World) → Walks w xs mid → Walks mid ys new → Walks w (xs ++ ys) new
 walks_join [] ys w mid new p q = subst (λ (z : World). Walks z ys new) p q
@@ -39,45 +38,41 @@ along_behind w mid xs ys image before (done, rest, there, is, walks, p) =
 
 -- ---- the units that they execute
 
-pub executes_join : (xs ys : List RunStep) (a b : List Request) → Executes a xs → Executes b ys → Executes (a ++ b) (xs ++ ys)
-executes_join [] ys a b none q = subst (λ (z : List Request). Executes (z ++ b) ys) (sym none) q
-executes_join (Called entry ∷ xs) ys a b (more, p, is) q = (more ++ b, executes_join xs ys more b p q, ap (λ (z : List Request). z ++ b) is ∙ append_assoc (unit_in entry) more b)
-executes_join (Restarted ∷ xs) ys a b never q = absurd never
+-- calls that execute no unit, and then some
+pub begins_behind : (xs ys : List RunStep) (a : List Request) → Begins [] xs → Begins a ys → Begins a (xs ++ ys)
+begins_behind [] ys a none b = b
+begins_behind (Called (Executed session request reply) ∷ xs) ys a (more, is, none) b = (a, grind arith, begins_behind xs ys a (grind arith) b)
+begins_behind (Called entry ∷ xs) ys a none b = begins_behind xs ys a none b
+begins_behind (Restarted ∷ xs) ys a never b = absurd never
 
-pub jobs_execute : (n : ℕ) (steps : List RunStep) → Jobs n steps → Executes [] steps
-jobs_execute zero steps none = subst (Executes []) (sym none) refl
-jobs_execute (suc n) steps (inl none) = subst (Executes []) (sym none) ([], refl, refl)
-jobs_execute (suc n) steps (inr (job, more, is, rest, all)) = subst (Executes []) (sym all) (executes_join job more [] [] (job_executes job is) (jobs_execute n more rest))
-  where
-    job_executes : (job : List RunStep) → IsJob job → Executes [] job
-    job_executes job is = subst (Executes []) (sym is.are) ([], ([], refl, refl), refl)
+pub begins_none : (steps : List RunStep) (a : List Request) → Begins [] steps → Begins a steps
+begins_none steps a none = subst (Begins a) (append-nil steps) (begins_behind steps [] a none tt)
 
-pub flush_executes : (steps : List RunStep) → IsFlush steps → Executes [] steps
-flush_executes steps f = jobs_execute 4 steps f
+-- some, and then calls that execute no unit
+pub begins_idle : (xs ys : List RunStep) (a : List Request) → Begins a xs → Begins [] ys → Begins a (xs ++ ys)
+begins_idle [] ys a p none = begins_none ys a none
+begins_idle (Called (Executed session request reply) ∷ xs) ys a (more, is, p) none = (more, is, begins_idle xs ys more p none)
+begins_idle (Called entry ∷ xs) ys a p none = begins_idle xs ys a p none
+begins_idle (Restarted ∷ xs) ys a never none = absurd never
 
-pub wait_executes : (reply : Reply) (steps : List RunStep) → IsWait reply steps → Executes [] steps
-wait_executes reply steps (flush, f, all) = subst (Executes []) (sym all) (executes_join flush _ [] [] (flush_executes flush f) ([], refl, refl))
+pub job_begins : (steps : List RunStep) → IsJob steps → Begins [] steps
+job_begins steps is = rw is.are tt
 
-pub acts_execute : (request : Request) (reply : Reply) (steps : List RunStep) → Acts request reply steps → Executes (request ∷ []) steps
-acts_execute request reply steps (final, inl at_once) = subst (Executes (request ∷ [])) (sym at_once) ([], refl, grind arith)
-acts_execute request reply steps (final, inr (wait, w, all)) = subst (Executes (request ∷ [])) (sym all) ([], wait_executes reply wait w, refl)
+pub jobs_begin : (n : ℕ) (steps : List RunStep) → Jobs n steps → Begins [] steps
+jobs_begin zero steps none = rw none tt
+jobs_begin (suc n) steps (inl none) = rw none tt
+jobs_begin (suc n) steps (inr (job, more, is, rest, all)) = rw all (begins_behind job more [] (job_begins job is) (jobs_begin n more rest))
 
-pub unit_executes : (request : Request) (reply : Reply) (steps : List RunStep) → IsUnit request reply steps → Executes (request ∷ []) steps
-unit_executes request reply steps (inl acts) = acts_execute request reply steps acts
-unit_executes request reply steps (inr (flush, again, f, acts, all)) =
-    subst (Executes (request ∷ [])) (sym all) (request ∷ [], executes_join flush again [] (request ∷ []) (flush_executes flush f) (acts_execute request reply again acts), refl)
+pub flush_begins : (steps : List RunStep) → IsFlush steps → Begins [] steps
+flush_begins steps f = jobs_begin 4 steps f
 
--- ---- a prefix of the requests
+pub wait_begins : (reply : Reply) (steps : List RunStep) → IsWait reply steps → Begins [] steps
+wait_begins reply steps (flush, f, all) = rw all (begins_behind flush (Called (Settled 1 reply) ∷ []) [] (flush_begins flush f) tt)
 
-pub begins_all : (requests : List Request) (steps : List RunStep) → Executes requests steps → Begins requests steps
-begins_all requests steps e = (requests, [], e, sym (append-nil requests))
+acts_begin : (request : Request) (reply : Reply) (steps : List RunStep) → Acts request reply steps → Begins (request ∷ []) steps
+acts_begin request reply steps (final, inl at_once) = rw at_once ([], grind arith, tt)
+acts_begin request reply steps (final, inr (wait, w, all)) = rw all ([], refl, wait_begins reply wait w)
 
-pub begins_then : (xs ys : List RunStep) (a b : List Request) → Executes a xs → Begins b ys → Begins (a ++ b) (xs ++ ys)
-begins_then xs ys a b e (some, rest, p, is) = (a ++ some, rest, executes_join xs ys a some e p, ap (λ (z : List Request). a ++ z) is ∙ sym (append_assoc a some rest))
-
--- and calls that execute no unit
-pub begins_idle : (xs ys : List RunStep) (a : List Request) → Begins a xs → Executes [] ys → Begins a (xs ++ ys)
-begins_idle xs ys a (some, rest, p, is) e = (some ++ [], rest, executes_join xs ys some [] p e, is ∙ ap (λ (z : List Request). z ++ rest) (sym (append-nil some)))
-
-pub begins_more : (steps : List RunStep) (a more : List Request) → Begins a steps → Begins (a ++ more) steps
-begins_more steps a more (some, rest, p, is) = (some, rest ++ more, p, ap (λ (z : List Request). z ++ more) is ∙ append_assoc some rest more)
+pub unit_begins : (request : Request) (reply : Reply) (steps : List RunStep) → IsUnit request reply steps → Begins (request ∷ []) steps
+unit_begins request reply steps (inl acts) = acts_begin request reply steps acts
+unit_begins request reply steps (inr (flush, again, f, acts, all)) = rw all (request ∷ [], refl, begins_behind flush again (request ∷ []) (flush_begins flush f) (acts_begin request reply again acts))

@@ -1,48 +1,88 @@
--- The lines of an input, and the requests of a line.
-use Rattle.std.specs.Prelude.{◌≡◌, ℕ, ◌==◌, ◌||◌, ◌&&◌, not, nat_lt, Bool, true, false, List, [], ◌∷◌, ◌++◌, length, Option, Some, None, Err, if◌then◌else◌, codes, map, ⊤}
+-- The input of a run: what is read of it, its lines, and the requests of a line.
+use Rattle.std.specs.Prelude.{◌≡◌, ◌⊎◌, ℕ, ◌+◌, ◌-◌, ◌^◌, ◌<◌, ◌≤◌, ◌==◌, ◌||◌, nat_lt, Bool, false, List, [], ◌∷◌, length, Option, Some, None, Result, MatchResult, if◌then◌else◌, codes, map, ⊤}
+use Rattle.std.specs.Io.KnownBytes.{Consumes, IsAtEnd}
 use Rattle.std.specs.Str.{bytes_eq}
 use Rattle.psu_lex.specs.Message.{Part, IsMessage}
-use Rattle.psu_tree.specs.declared.command.Request.{Request}
 use Rattle.psu_lex.specs.declared.scpi_error.ScpiError.TheVariants.{TooMuchData}
-use Rattle.psu_messages.specs.Units.{IsRequest, path_at}
+use Rattle.psu_tree.specs.declared.command.Request.{Request}
+use Rattle.psu_messages.specs.Units.{Fault, IsRequest, Source, Text, faulty, path_at}
 
--- the parts with a byte prepended to the first of them
+-- ---- reads
+
+-- The number of reads made, and of those that returned bytes.
+pub record Reads : Type 0 where
+  pub made : ℕ
+  pub filled : ℕ
+
+-- The count grew by `n`. A count saturates at 2 ^ 64 - 1, and is exact below it.
+abbrev pub GrewBy : ℕ → ℕ → ℕ → Type 0
+GrewBy n old new = (new ≤ old + n) × (new < 2 ^ 64 - 1 → new ≡ old + n)
+
+-- `made` reads were made and `filled` of them returned bytes, according to the counts of a reader that counts its
+-- reads.
+abbrev pub Counts : ℕ → ℕ → Option Reads → Option Reads → Type 0
+Counts made filled None new = ⊤
+Counts made filled (Some old) None = ⊥
+Counts made filled (Some old) (Some new) = GrewBy made old.made new.made × GrewBy filled old.filled new.filled
+
+-- One read was made. It returned bytes where its result is a number other than 0.
+abbrev pub CountsRead : {E : Type 0} → Option Reads → Option Reads → Result ℕ E → Type 0
+CountsRead old new result = MatchResult result (λ n. (n ≡ 0 → Counts 1 0 old new) × (1 ≤ n → Counts 1 1 old new)) (λ _. Counts 1 0 old new)
+
+-- What was read of an input: `made` reads were made, `filled` of them returned bytes, at least one each, and `bytes`
+-- are these bytes. The bytes are constrained where the reader's bytes are known, and the reads where they are counted.
+pub record HasRead (made filled : ℕ) (bytes : List ℕ) (old_rest new_rest : Option (List ℕ)) (old_reads new_reads : Option Reads) : Type 0 where
+  pub taken : Consumes old_rest new_rest bytes
+  pub counted : Counts made filled old_reads new_reads
+  pub each : filled ≤ length bytes
+
+-- The input is too long: more than 16,777,216 bytes were read, or 1,048,576 reads were made; and each read returned
+-- bytes.
+abbrev pub IsTooLong : Option (List ℕ) → Option (List ℕ) → Option Reads → Option Reads → Type 0
+IsTooLong old_rest new_rest old_reads new_reads = (made : ℕ) × (bytes : List ℕ)
+    × HasRead made made bytes old_rest new_rest old_reads new_reads
+    × ((16777216 < length bytes) ⊎ (made ≡ 1048576))
+
+-- The input was read to its end, and is not too long: it has at most 16,777,216 bytes, and of at most 1,048,576 reads
+-- the last found the end, and each of the others returned bytes.
+abbrev pub IsReadToEnd : Option (List ℕ) → Option (List ℕ) → Option Reads → Option Reads → Type 0
+IsReadToEnd old_rest new_rest old_reads new_reads = (filled : ℕ) × (bytes : List ℕ)
+    × HasRead (filled + 1) filled bytes old_rest new_rest old_reads new_reads
+    × (filled + 1 ≤ 1048576) × (length bytes ≤ 16777216) × IsAtEnd new_rest
+
+-- At most 1,048,576 reads were made, and what was read exceeds 16,777,216 bytes by at most one read, of at most `piece`
+-- bytes. So once the input is too long, no read is made that could return that many bytes.
+abbrev pub ReadsNoFurther : ℕ → Option (List ℕ) → Option (List ℕ) → Option Reads → Option Reads → Type 0
+ReadsNoFurther piece old_rest new_rest old_reads new_reads = (made : ℕ) × (filled : ℕ) × (bytes : List ℕ)
+    × HasRead made filled bytes old_rest new_rest old_reads new_reads
+    × (made ≤ 1048576) × (length bytes ≤ 16777216 + piece)
+
+-- ---- lines
+
+-- the parts of a text, each ended by a byte; the last may lack it
 abbrev pub first_onto : ℕ → List (List ℕ) → List (List ℕ)
 first_onto x [] = (x ∷ []) ∷ []
 first_onto x (part ∷ parts) = (x ∷ part) ∷ parts
 
--- the parts of a text, each ended by a byte; the last may lack it
 abbrev pub parts_of : ℕ → List ℕ → List (List ℕ)
 parts_of end [] = []
 parts_of end (x ∷ xs) = if x == end then [] ∷ parts_of end xs else first_onto x (parts_of end xs)
-
--- what comes after the first part
-abbrev pub after_part : ℕ → List ℕ → List ℕ
-after_part end [] = []
-after_part end (x ∷ xs) = if x == end then xs else after_part end xs
-
--- the first part, without its end
-abbrev pub first_part : ℕ → List ℕ → List ℕ
-first_part end [] = []
-first_part end (x ∷ xs) = if x == end then [] else x ∷ first_part end xs
 
 abbrev pub has : ℕ → List ℕ → Bool
 has end [] = false
 has end (x ∷ xs) = x == end || has end xs
 
--- A line of the input, without its line feed: a power loss at rest, a line that is too long, or a message.
+-- A line of the input, without its line feed: a power loss at rest, or what is executed.
 pub data Message : Type 0 where
   Power : Message
-  Overlong : Message
-  Units : (bytes : List ℕ) → Message
+  Line : (source : Source) → Message
 
-abbrev pub power_line : List ℕ
-power_line = codes "!POWER"
+-- what is executed of a line: its bytes, or the error that they are more than 65,536
+abbrev pub source_of : List ℕ → Source
+source_of line = if nat_lt 65536 (length line) then Fault TooMuchData else Text line
 
--- a line has at most 65,536 bytes
 abbrev pub message_of : List ℕ → Message
-message_of line =
-    if nat_lt 65536 (length line) then Message.Overlong else (if bytes_eq line power_line then Message.Power else Message.Units line)
+message_of line = if bytes_eq line (codes "!POWER") then Message.Power else Message.Line (source_of line)
 
 -- the messages of an input; the last may lack its line feed
 abbrev pub messages : List ℕ → List Message
@@ -53,21 +93,7 @@ abbrev pub Brings : Option (List ℕ) → List Message → Type 0
 Brings None due = ⊤
 Brings (Some input) due = due ≡ messages input
 
--- the messages to come, where a line has begun (or is already too long)
-abbrev pub coming : Bool → List ℕ → List ℕ → List Message
-coming over line input = if over then Message.Overlong ∷ messages (after_part 10 input) else messages (line ++ input)
-
--- the message of the line that has begun, once it ends
-abbrev pub message_now : Bool → List ℕ → Message
-message_now over line = if over then Message.Overlong else message_of line
-
-abbrev pub is_power : Message → Bool
-is_power Message.Power = true
-is_power m = false
-
--- no line has begun
-abbrev pub is_none_begun : Bool → List ℕ → Bool
-is_none_begun over line = not over && (length line == 0)
+-- ---- requests
 
 -- the requests of units, read one after another from a path, in an expansion or outside
 abbrev pub AreRequests : Bool → List (List ℕ) → List Part → List Request → Type 0
@@ -80,16 +106,7 @@ AreRequests inside path (part ∷ parts) requests =
 abbrev pub AreAsked : Bool → List ℕ → List Request → Type 0
 AreAsked inside bytes requests = (units : List Part) × IsMessage bytes units × AreRequests inside [] units requests
 
--- the requests of an expansion
-abbrev pub AsksInside : List ℕ → List Request → Type 0
-AsksInside bytes requests = AreAsked true bytes requests
-
--- a line that is too long is one request that has too much data
-abbrev pub too_much : Request
-too_much = record { call = None; reading = Err TooMuchData; inside = false }
-
--- the requests of a message
-abbrev pub Asks : Message → List Request → Type 0
-Asks Message.Power requests = requests ≡ []
-Asks Message.Overlong requests = requests ≡ too_much ∷ []
-Asks (Message.Units bytes) requests = AreAsked false bytes requests
+-- the requests of what is executed of a line
+abbrev pub AskedBy : Source → List Request → Type 0
+AskedBy (Text bytes) requests = AreAsked false bytes requests
+AskedBy (Fault error) requests = requests ≡ faulty error ∷ []

@@ -1,26 +1,81 @@
--- The progress of a run: the steps that each of its parts makes, and the text that it outputs.
-use Rattle.std.specs.Prelude.{◌≡◌, ◌⊎◌, Bool, true, false, ℕ, ◌≤◌, List, ◌++◌, Option, Some, None, ⊤, ◌≢◌, [], ◌∷◌}
-use Rattle.psu_disk.specs.Disk.{HasFailed, IsCrashImage, LeavesOnly}
+-- The progress of a run: what its parts leave of the device, of its disk and of the output.
+use Rattle.std.specs.Prelude.{◌≡◌, ◌≢◌, ◌⊎◌, ◌↔◌, Bool, true, IsTrue, ℕ, ◌+◌, ◌≤◌, ◌^◌, List, [], ◌∷◌, ◌++◌, Option, Some, None, ⊤}
+use Rattle.std.specs.Io.KnownBytes.{Appends}
+use Rattle.std.specs.Option.{ForSome}
+use Rattle.psu_disk.specs.Disk.{DiskState, HasFailed, IsCrashImage, LeavesOnly}
 use Rattle.psu_disk.specs.declared.disk.Disk.{Ghosts}
-use Rattle.psu_exec.specs.Device.{is_broken}
-use Rattle.psu_exec.specs.World.{World}
-use Rattle.psu_exec.specs.Exec.{Exec}
-use Rattle.psu_exec.specs.declared.condition.Condition.{Condition}
-use Rattle.psu_exec.specs.declared.condition.Condition.TheVariants.{Worn}
-use Rattle.psu_run.specs.Steps.{IsWornOut, disk_in, extent_in, extent_of, failures_in, failures_of, Life, world_of, IsLeftBy, Reached, RunStep, IsAlong, SomeBreak, Walks, Begins}
-use Rattle.psu_run.specs.Lines.{Message}
-use Rattle.psu_run.specs.Output.{OutputState, Says, SaysUntil}
-use Rattle.psu_run.specs.Reasons.{IsByFailure, IsHaltedBy, StopsFor}
-use Rattle.psu_run.specs.Runs.{IsFlush, Runs, RunsUpTo, IsUnit, is_final}
-use Rattle.psu_run.specs.declared.run_cause.RunCause.{RunCause}
-use Rattle.psu_run.specs.declared.run_fault.RunFault.{RunFault}
+use Rattle.psu_items.specs.Image.{IsEither}
+use Rattle.psu_nv.specs.Contents.{Contents}
 use Rattle.psu_tree.specs.declared.command.Request.{Request}
-use Rattle.psu_lex.specs.declared.scpi_error.ScpiError.TheVariants.{TooMuchData}
-use Rattle.psu_messages.specs.Effects.{Effect, Executed, Settled, Sent}
-use Rattle.psu_messages.specs.Units.{Source, Text, Fault}
-use Rattle.psu_run.specs.declared.run_cause.RunCause.TheVariants.{Memory, Write}
+use Rattle.psu_exec.specs.Calls.{Commit, Executed, GaveBack, JobEnd, Nothing, Serves, Took}
+use Rattle.psu_exec.specs.Device.{Flush, Later, Reply, is_broken, target}
+use Rattle.psu_exec.specs.Exec.{Exec}
+use Rattle.psu_exec.specs.Jobs.{idle_disk, job_data, job_disk}
+use Rattle.psu_exec.specs.World.{Event, IsStart, IsTrueOf, PastUnit, Run, Running, World}
+use Rattle.psu_exec.specs.declared.condition.Condition.TheVariants.{Whole, Worn}
+use Rattle.psu_exec.specs.declared.idle_store.IdleStore.{IdleStore}
+use Rattle.psu_exec.specs.declared.idle_store.IdleStore.TheVariants as idle_store
+use Rattle.psu_exec.specs.declared.job.Job.{Job}
+use Rattle.psu_messages.specs.Effects as effect
+use Rattle.psu_messages.specs.Effects.{Effect, needs}
+use Rattle.psu_run.specs.Lines.{Message, messages}
+use Rattle.psu_run.specs.Runs.{Acts, Begins, Called, EndsJob, IsAlong, IsByFailure, IsFlush, IsJob, IsSound, IsUnit, IsWornOut, MemoryRefused, RunStep, Runs, RunsUpTo, SomeBreak, StopsAt, StoreBroken, Walks, WritesShort, fault_of}
+use Rattle.psu_run.specs.declared.jobs.Work.{Work}
+use Rattle.psu_run.specs.declared.jobs.Work.TheVariants as work
+use Rattle.psu_run.specs.declared.run_cause.RunCause.{RunCause}
+use Rattle.psu_run.specs.declared.run_cause.RunCause.TheVariants.{Device, Memory, Open, Read, TooLong, Write}
+use Rattle.psu_run.specs.declared.run_fault.RunFault.{RunFault}
+use Rattle.psu_run.specs.declared.unwritten.Unwritten.{Unwritten}
 
--- ---- possible crash images
+-- ---- the disk of a device at rest
+
+abbrev pub disk_in : {D A : Type 0} {G : Ghosts D} → Option (IdleStore D A G) → Option D
+disk_in None = None
+disk_in (Some idle_store) = Some (idle_disk idle_store)
+
+abbrev pub state_in : {D : Type 0} → Ghosts D → Option D → DiskState
+state_in G None = record { bytes = []; unsynced = [] }
+state_in G (Some disk) = Ghosts.state G disk
+
+abbrev pub failures_in : {D : Type 0} → Ghosts D → Option D → ℕ
+failures_in G None = 0
+failures_in G (Some disk) = Ghosts.failures G disk
+
+abbrev pub extent_in : {D : Type 0} → Ghosts D → Option D → ℕ
+extent_in G None = 0
+extent_in G (Some disk) = Ghosts.extent G disk
+
+abbrev pub disk_at : {D A : Type 0} {G : Ghosts D} → Option (IdleStore D A G) → DiskState
+disk_at {D} {A} {G} there = state_in G (disk_in there)
+
+abbrev pub failures_of : {D A : Type 0} {G : Ghosts D} → Exec D A G → ℕ
+failures_of {D} {A} {G} exec = failures_in G (disk_in exec.idle_store)
+
+abbrev pub extent_of : {D A : Type 0} {G : Ghosts D} → Exec D A G → ℕ
+extent_of {D} {A} {G} exec = extent_in G (disk_in exec.idle_store)
+
+-- What a device at rest does not store: the limit and the contents found at its power-on, and the units executed since.
+pub record Life : Type 0 where
+  pub limit : ℕ
+  pub start : Contents
+  pub history : List PastUnit
+
+-- the world of a device: its life, its state, and the idle store's disk
+abbrev pub world_of : {D A : Type 0} {G : Ghosts D} → Life → Exec D A G → World
+world_of life exec = record { state = exec.device; history = life.history; disk = disk_at exec.idle_store; mode = Running; limit = life.limit; start = life.start }
+
+-- the life of a device that has just been powered on
+abbrev pub born : {D A : Type 0} {G : Ghosts D} → Exec D A G → Life
+born exec = record { limit = exec.device.flush.limit; start = exec.device.flush.contents; history = [] }
+
+-- ---- from a device at rest to a later moment
+
+-- a world that is reached by events from a device that has just been powered on
+pub record Reached (w : World) : Type 0 where
+  pub first : World
+  pub events : List Event
+  pub start : IsStart first
+  pub run : Run first events w
 
 -- Each possible crash image at any moment from one disk to the other satisfies P. Where no store was idle, nothing is
 -- required; a store that was idle is idle again.
@@ -32,8 +87,6 @@ Since G (Some old) (Some new) P = LeavesOnly (Ghosts.moment G) (Ghosts.left_sinc
 -- an image that is possible since the present moment is a possible crash image of the disk as it is
 abbrev pub IsNow : {D : Type 0} → Ghosts D → Type 0
 IsNow {D} G = (d : D) (image : List ℕ) → Ghosts.left_since G d (Ghosts.moment G d) image → IsCrashImage (Ghosts.state G d) image
-
--- ---- from a device to a later moment
 
 -- Steps lead from this world to a last one, of which P is true; a job among them broke the store only where the count of
 -- failures rose or is at its last value; and each possible crash image at any moment from one disk to the other
@@ -67,90 +120,101 @@ pub record Leads {D A : Type 0} {G : Ghosts D} (old new : Exec D A G) (P : List 
   pub ran : Ran old (disk_in new.idle_store) (λ steps last. IsOf new last × P steps)
   pub tied : (before : ℕ) → IsTied before old → IsTied before new
 
+-- A unit or a flush fails to end only where the disk failed after this count, or where changes are left and no number is
+-- left for a commit.
+abbrev pub IsHaltedBy : {D A : Type 0} {G : Ghosts D} → ℕ → Exec D A G → RunCause → Type 0
+IsHaltedBy before exec Device = HasFailed before (failures_of exec) ⊎ ((exec.device.flush.store ≡ Worn) × (1 ≤ exec.device.flush.unflushed))
+IsHaltedBy before exec TooLong = ⊥
+IsHaltedBy before exec Read = ⊥
+IsHaltedBy before exec (Open cause) = ⊥
+IsHaltedBy before exec cause = ⊤
+
 -- these steps lead to a device that stops for this cause
 pub record DeviceStops {D A : Type 0} {G : Ghosts D} (old new : Exec D A G) (P : List RunStep → Type 0) (cause : RunCause) : Type 0 where
   pub leads : Leads old new P
   pub why : (before : ℕ) → IsTied before old → IsHaltedBy before new cause
 
-abbrev pub is_worn : Condition → Bool
-is_worn Worn = true
-is_worn condition = false
-
 -- the early end of a run for this cause: the disk and the condition of the store are those of the device
 pub record FaultOf {D A : Type 0} {G : Ghosts D} (exec : Exec D A G) (cause : RunCause) (fault : RunFault D) : Type 0 where
   pub cause_is : fault.cause ≡ cause
   pub disk : disk_in exec.idle_store ≡ Some fault.disk
-  pub worn_is : fault.is_worn ≡ is_worn exec.device.flush.store
+  pub worn_is : IsTrue fault.is_worn ↔ (exec.device.flush.store ≡ Worn)
   pub worn : Ghosts.honest G → exec.device.flush.store ≡ Worn → IsWornOut (Ghosts.state G fault.disk).bytes
 
--- ---- messages
+-- ---- jobs
 
--- The run stopped for a reason, which arose at the first message of `rest`: `count` is the count of failures before
--- that. The disk is left by the last world.
-pub record StopsAt {D : Type 0} (G : Ghosts D) (by_input : RunCause → Type 0) (before : ℕ) (fault : RunFault D) (due : List Message) (text : List ℕ) (steps : List RunStep) (last : World) : Type 0 where
-  pub rest : List Message
-  pub runs : RunsUpTo rest due text steps
-  pub count : ℕ
-  pub later : before ≤ count
-  pub failed : SomeBreak runs.made → HasFailed before count
-  pub later_then : count ≤ Ghosts.failures G fault.disk
-  pub failed_then : SomeBreak runs.next → HasFailed count (Ghosts.failures G fault.disk)
-  pub why : StopsFor by_input count (Ghosts.failures G fault.disk) rest last (Ghosts.state G fault.disk).bytes fault.cause
-  pub left : IsLeftBy last (Ghosts.state G fault.disk)
+-- The number of the current root of a whole store. (That of a broken one is never used.)
+abbrev pub idle_number : {D A : Type 0} {G : Ghosts D} → IdleStore D A G → ℕ
+idle_number (idle_store.Whole store) = store.number
+idle_number (idle_store.Failed broken) = 2 ^ 64
 
--- a run of these messages ended early, and was to output this text
-pub record RunStops {D A : Type 0} {G : Ghosts D} (by_input : RunCause → Type 0) (old : Exec D A G) (fault : RunFault D) (due : List Message) (text : List ℕ) : Type 0 where
-  pub ran : Ran old (Some fault.disk) (StopsAt G by_input (failures_of old) fault due text)
-  pub counted : (before : ℕ) → IsTied before old → IsByFailure G before fault
+-- an idle store is worn only where its number is the last
+abbrev pub IsWornAtLast : {D A : Type 0} {G : Ghosts D} → Exec D A G → Type 0
+IsWornAtLast exec = ForSome exec.idle_store (λ h. exec.device.flush.store ≡ Worn → 2 ^ 64 ≤ idle_number h + 1)
 
--- The messages due before the piece are those that end in it, and those due after it. The former were executed, and
--- their text was output.
-abbrev pub Fed : {D A : Type 0} {G : Ghosts D} → (List ℕ → List Message) → List ℕ → (List ℕ → List Message) → Exec D A G → Exec D A G → OutputState → OutputState → Type 0
-Fed before piece after old new output now =
-    (done : List Message) × (text : List ℕ) × Says output now text
-    × ((input : List ℕ) → before (piece ++ input) ≡ done ++ after input)
-    × Leads old new (Runs done text)
+-- the job that was out is given back; only a failed disk call breaks a store that was whole
+pub record HasRun {D A : Type 0} {G : Ghosts D} (old : Exec D A G) (job : Job D A G) (new : Exec D A G) (short : Bool) : Type 0 where
+  pub finished : JobEnd
+  pub over : List ℕ
+  pub give : Serves old.device (GaveBack finished (Some over)) new.device
+  pub short_is : IsTrue short ↔ (fault_of finished ≡ Some MemoryRefused)
+  pub own : EndsJob (job_data job).kind finished
+  pub stands : Ghosts.honest G → IsTrueOf (target old.device.flush) finished (disk_at new.idle_store)
+  pub later : Ghosts.failures G (job_disk job) ≤ failures_of new
+  pub extent : extent_of new ≡ Ghosts.extent G (job_disk job)
+  pub worn : IsWornAtLast new
+  pub sound : Ghosts.honest G → IsSound (GaveBack finished (Some over)) (disk_at new.idle_store).bytes
+  pub time : Ghosts.honest G → Ghosts.records G
+      → Since G (Some (job_disk job)) (disk_in new.idle_store) (IsEither (job_data job).limit (job_data job).before (job_data job).target)
+  pub failed : Ghosts.honest G → fault_of finished ≡ Some StoreBroken → HasFailed (Ghosts.failures G (job_disk job)) (failures_of new)
+  pub breaks : (job_data job).kind ≡ Commit → is_broken new.device.flush.store ≡ true → HasFailed (Ghosts.failures G (job_disk job)) (failures_of new)
 
--- a piece with a fault in it, however the input continues
-abbrev pub Stopped : {D A : Type 0} {G : Ghosts D} → (RunCause → Type 0) → (List ℕ → List Message) → List ℕ → Exec D A G → RunFault D → OutputState → OutputState → Type 0
-Stopped by_input before piece old fault output now =
-    (text : List ℕ) × SaysUntil fault.cause output now text × ((input : List ℕ) → RunStops by_input old fault (before (piece ++ input)) text)
+-- After a job that did not end out of memory: a disk call failed, or no number is left for a commit, or the store is
+-- whole, and all changes are flushed where it was whole before.
+abbrev pub LeavesStore : ℕ → ℕ → Flush → Flush → Type 0
+LeavesStore before now old new = HasFailed before now ⊎ (new.store ≡ Worn)
+    ⊎ ((new.store ≡ Whole) × (old.store ≡ Whole → new.unflushed ≡ 0))
 
--- the messages were executed, and their text was output
-abbrev pub Answers : {D A : Type 0} {G : Ghosts D} → List Message → Exec D A G → Exec D A G → OutputState → OutputState → Type 0
-Answers due old new output now = (text : List ℕ) × Says output now text × Leads old new (Runs due text)
+-- a job, or a take that finds none
+abbrev pub IsWork : Work → List RunStep → Type 0
+IsWork work.Job steps = IsJob steps
+IsWork work.Nothing steps = steps ≡ Called (Took Nothing) ∷ []
 
--- a run of these messages ended early
-abbrev pub EndsEarly : {D A : Type 0} {G : Ghosts D} → (RunCause → Type 0) → Exec D A G → RunFault D → List Message → OutputState → OutputState → Type 0
-EndsEarly by_input old fault due output now = (text : List ℕ) × SaysUntil fault.cause output now text × RunStops by_input old fault due text
+-- ---- the output
 
--- the steps of all messages, and those of a flush of all accepted changes
-pub record RunsWhole (due : List Message) (text : List ℕ) (steps : List RunStep) (last : World) : Type 0 where
-  pub made : List RunStep
-  pub runs : Runs due text made
-  pub flush : List RunStep
-  pub flushes : IsFlush flush
-  pub all : steps ≡ made ++ flush
-  pub flushed : last.state.flush.unflushed ≡ 0
+-- The bytes that the writer holds, and the text that is buffered after them.
+pub record OutputState : Type 0 where
+  pub written : Option (List ℕ)
+  pub gathered : List ℕ
 
--- The messages were executed and their text was output; then all accepted changes were flushed.
-abbrev pub RanAll : {D A : Type 0} {G : Ghosts D} → Exec D A G → List Message → D → OutputState → OutputState → Type 0
-RanAll {D} {A} {G} old due disk output now =
-    (text : List ℕ) × Says output now text × Ran old (Some disk) (λ steps last. RunsWhole due text steps last × (last.disk ≡ Ghosts.state G disk))
+abbrev pub held : Option (List ℕ) → List ℕ → OutputState
+held written text = record { written = written; gathered = text }
+
+-- the answers of the line in progress are buffered after the text of the lines before it
+abbrev pub output_state : {A : Type 0} → Option (List ℕ) → Unwritten A → OutputState
+output_state written unwritten = held written (unwritten.output.items ++ unwritten.gathered.rest)
+
+-- the output grew by `more`, whether written or buffered
+abbrev pub Says : OutputState → OutputState → List ℕ → Type 0
+Says old new more = (front : List ℕ) × Appends old.written new.written front × (front ++ new.gathered ≡ old.gathered ++ more)
+
+-- At a fault, `more` was still to be output. It is output, except where the writer failed: then some of it is missing.
+pub record SaysUntil (cause : RunCause) (old new : OutputState) (more : List ℕ) : Type 0 where
+  pub whole : cause ≢ Write → Says old new more
+  pub missing : cause ≡ Write → WritesShort old.written new.written (old.gathered ++ more)
 
 -- ---- the effects of a line on the device and on the output
 
--- what is executed of a line: its bytes, or the error that they are too many
-abbrev pub line_source : Bool → List ℕ → Source
-line_source true line = Fault TooMuchData
-line_source false line = Text line
+-- a unit that was tried once, and may be `Later`
+abbrev pub IsTried : Request → Reply → List RunStep → Type 0
+IsTried request reply steps = ((reply ≡ Later) × (steps ≡ Called (Executed 1 request Later) ∷ [])) ⊎ Acts request reply steps
 
 -- A unit is executed with the flushes that it waits for, so its reply is final and no unit is settled. A text that is
 -- sent is appended to the output.
 abbrev pub IsDone : {D A : Type 0} {G : Ghosts D} → Exec D A G → OutputState → Effect → Exec D A G → OutputState → Type 0
-IsDone old output (Executed request reply) new now = (now ≡ output) × (is_final reply ≡ true) × Leads old new (IsUnit request reply)
-IsDone old output (Settled reply) new now = ⊥
-IsDone old output (Sent text last) new now = (new ≡ old) × Says output now text
+IsDone old output (effect.Executed request reply) new now = (now ≡ output) × (needs reply ≡ None) × Leads old new (IsUnit request reply)
+IsDone old output (effect.Settled reply) new now = ⊥
+IsDone old output (effect.Sent text last) new now = (new ≡ old) × Says output now text
 
 -- the device stops in a unit
 abbrev pub IsFailed : {D A : Type 0} {G : Ghosts D} → Exec D A G → OutputState → Request → RunCause → Exec D A G → OutputState → Type 0
@@ -159,3 +223,27 @@ IsFailed old output request cause new now = (now ≡ output) × DeviceStops old 
 -- a text is not output: memory is refused, or the writer failed
 abbrev pub IsStopped : {D A : Type 0} {G : Ghosts D} → Exec D A G → OutputState → RunCause → Exec D A G → OutputState → Type 0
 IsStopped old output cause new now = (new ≡ old) × SaysUntil cause output now [] × ((cause ≡ Memory) ⊎ (cause ≡ Write))
+
+-- ---- messages, with the text that is output for them
+
+abbrev pub Answers : {D A : Type 0} {G : Ghosts D} → List Message → Exec D A G → Exec D A G → OutputState → OutputState → Type 0
+Answers due old new output now = (text : List ℕ) × Says output now text × Leads old new (Runs due text)
+
+-- However the input continues: the messages due before this piece, of which `line` has begun, are those that end in it,
+-- which were executed, and those due after it, of which `next` has begun.
+abbrev pub Fed : {D A : Type 0} {G : Ghosts D} → List ℕ → List ℕ → List ℕ → Exec D A G → Exec D A G → OutputState → OutputState → Type 0
+Fed line piece next old new output now =
+    (done : List Message) × ((input : List ℕ) → messages (line ++ (piece ++ input)) ≡ done ++ messages (next ++ input)) × Answers done old new output now
+
+-- a run of these messages ended early, and was to output this text
+pub record RunStops {D A : Type 0} {G : Ghosts D} (by_input : RunCause → Type 0) (old : Exec D A G) (fault : RunFault D) (due : List Message) (text : List ℕ) : Type 0 where
+  pub ran : Ran old (Some fault.disk) (StopsAt by_input fault.cause (failures_of old) (Ghosts.failures G fault.disk) (Ghosts.state G fault.disk) due text)
+  pub counted : (before : ℕ) → IsTied before old → IsByFailure G before fault
+
+abbrev pub EndsEarly : {D A : Type 0} {G : Ghosts D} → (RunCause → Type 0) → Exec D A G → RunFault D → List Message → OutputState → OutputState → Type 0
+EndsEarly by_input old fault due output now = (text : List ℕ) × SaysUntil fault.cause output now text × RunStops by_input old fault due text
+
+-- all of them were executed, and then all accepted changes were flushed
+abbrev pub RanAll : {D A : Type 0} {G : Ghosts D} → Exec D A G → List Message → D → OutputState → OutputState → Type 0
+RanAll {D} {A} {G} old due disk output now = (text : List ℕ) × Says output now text
+    × Ran old (Some disk) (λ steps last. (runs : RunsUpTo [] due text steps) × IsFlush runs.next × (last.state.flush.unflushed ≡ 0) × (last.disk ≡ Ghosts.state G disk))

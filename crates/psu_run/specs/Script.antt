@@ -1,5 +1,5 @@
 -- What a run writes where nothing goes wrong, defined by the device's step and the one reading of each message.
-use Rattle.std.specs.Prelude.{◌≡◌, ℕ, ◌==◌, Bool, true, false, Some, None, List, [], ◌∷◌, ◌++◌, Result}
+use Rattle.std.specs.Prelude.{◌≡◌, ℕ, ◌==◌, true, false, Some, None, List, [], ◌∷◌, ◌++◌, Result, if◌then◌else◌}
 use Rattle.psu_lex.specs.Syntax.{Datum}
 use Rattle.psu_lex.specs.declared.scpi_error.ScpiError.{ScpiError}
 use Rattle.psu_nv.specs.Contents.{Contents}
@@ -8,33 +8,26 @@ use Rattle.psu_instrument.specs.Macros.{ExpandsAt, HoldsParameters, written}
 use Rattle.psu_exec.specs.Device.{Reply, Answer, Expand, Parked, Later, State, after_unit, answer_call, answer_meant, called, here, is_later, meant, power_on, wait_of}
 use Rattle.psu_messages.specs.Response.{response}
 use Rattle.psu_exec.specs.Calls.{job_out, with_stored, with_flush, settle_answer, after_settle, opened}
-use Rattle.psu_run.specs.Lines.{Message, Asks, AsksInside, messages}
-
--- the answers of a message so far, and those that this reply gives
-abbrev pub with_answer : List (List ℕ) → Reply → List (List ℕ)
-with_answer answers (Answer answer) = answers ++ answer ∷ []
-with_answer answers reply = answers
-
--- the device after power-on, with its one session, 1, open
-abbrev pub started : ℕ → Contents → State
-started limit contents = opened (power_on limit contents) (Some 1)
+use Rattle.psu_run.specs.Lines.{AreAsked, AskedBy, Message, messages}
 
 -- the device, and the contents that its store holds
 pub record Rest : Type 0 where
   pub state : State
   pub stored : Contents
 
+-- after power-on, with its one session, 1, open
 abbrev pub at_start : ℕ → Contents → Rest
-at_start limit contents = record { state = started limit contents; stored = contents }
+at_start limit contents = record { state = opened (power_on limit contents) (Some 1); stored = contents }
 
--- the device once a job for the changes that are not flushed is given back as stored; without such changes there is no
--- job
-abbrev pub flushed_by : Bool → Rest → Rest
-flushed_by true r = r
-flushed_by false r = record { state = with_stored (with_flush r.state (job_out r.state.flush)); stored = r.state.flush.contents }
+-- once a job for the changes that are not flushed is given back as stored
+abbrev pub committed : Rest → Rest
+committed r = record { state = with_stored (with_flush r.state (job_out r.state.flush)); stored = r.state.flush.contents }
 
+-- after a flush; without changes that are not flushed there is no job
 abbrev pub flushed : Rest → Rest
-flushed r = flushed_by (r.state.flush.unflushed == 0) r
+flushed r = if r.state.flush.unflushed == 0 then r else committed r
+
+-- ---- units
 
 -- the result of a unit: the device after it, and its reply
 pub record UnitOutcome : Type 0 where
@@ -77,10 +70,16 @@ HasOutcomeFrom r request reply went = went ≡ after_reply r request reply
 abbrev pub HasOutcome : Rest → Request → UnitOutcome → Type 0
 HasOutcome r request went = (reply : Reply) × Replies r.state request reply × HasOutcomeFrom r request reply went
 
--- the progress of a message: the device, and the answers so far
+-- ---- lines
+
+-- the progress of a line: the device, and the answers so far
 pub record Spoken : Type 0 where
   pub rest : Rest
   pub answers : List (List ℕ)
+
+abbrev pub with_answer : List (List ℕ) → Reply → List (List ℕ)
+with_answer answers (Answer answer) = answers ++ answer ∷ []
+with_answer answers reply = answers
 
 -- the units of an expansion answer this, after the answers so far
 abbrev pub SpeaksInside : Rest → List (List ℕ) → List Request → Spoken → Type 0
@@ -90,35 +89,22 @@ SpeaksInside r answers (request ∷ more) spoken =
 
 -- a reply adds an answer or none, or is an expansion, which is executed in the unit's place
 abbrev pub SpeaksReply : Rest → List (List ℕ) → Reply → Spoken → Type 0
-SpeaksReply r answers (Expand bytes) spoken = (requests : List Request) × AsksInside bytes requests × SpeaksInside r answers requests spoken
+SpeaksReply r answers (Expand bytes) spoken = (requests : List Request) × AreAsked true bytes requests × SpeaksInside r answers requests spoken
 SpeaksReply r answers reply spoken = spoken ≡ record { rest = r; answers = with_answer answers reply }
 
--- the units of a message answer this, after the answers so far
+-- the units of a line answer this, after the answers so far
 abbrev pub Speaks : Rest → List (List ℕ) → List Request → Spoken → Type 0
 Speaks r answers [] spoken = spoken ≡ record { rest = r; answers = answers }
 Speaks r answers (request ∷ more) spoken =
     (went : UnitOutcome) × (some : Spoken) × HasOutcome r request went × SpeaksReply went.rest answers went.reply some × Speaks some.rest some.answers more spoken
 
--- a power loss at rest, and a restart
-abbrev pub restarted : Rest → Rest
-restarted r = at_start r.state.flush.limit r.stored
-
--- the text of a message, and the device after it
-pub record MessageOutcome : Type 0 where
-  pub rest : Rest
-  pub text : List ℕ
-
--- a message with these requests has this text and leaves this device
-abbrev pub HasMessageOutcome : Rest → Message → List Request → MessageOutcome → Type 0
-HasMessageOutcome r Message.Power requests outcome = outcome ≡ record { rest = restarted r; text = [] }
-HasMessageOutcome r m requests outcome = (all : Spoken) × Speaks r [] requests all × (outcome ≡ record { rest = all.rest; text = response all.answers })
-
--- the text of messages, one after another
+-- the text of messages, one after another; a power loss outputs nothing, and the stored contents are there after it
 abbrev pub Scripted : Rest → List Message → List ℕ → Type 0
 Scripted r [] text = text ≡ []
-Scripted r (m ∷ ms) text =
-    (requests : List Request) × (outcome : MessageOutcome) × (more : List ℕ)
-    × Asks m requests × HasMessageOutcome r m requests outcome × Scripted outcome.rest ms more × (text ≡ outcome.text ++ more)
+Scripted r (Message.Power ∷ ms) text = Scripted (at_start r.state.flush.limit r.stored) ms text
+Scripted r (Message.Line source ∷ ms) text =
+    (requests : List Request) × (all : Spoken) × (more : List ℕ)
+    × AskedBy source requests × Speaks r [] requests all × Scripted all.rest ms more × (text ≡ response all.answers ++ more)
 
 -- what is written for the bytes of an input, on an image of this limit that holds these contents; there is one such
 -- text

@@ -1,11 +1,10 @@
 //! The execution of one unit, with the flushes that it waits for.
-ghost use Rattle.std.specs.Prelude.{◌≡◌, ◌≢◌, ◌<◌, ◌∷◌, [], IfOk, IfErr, true, false};
-ghost use Rattle.psu_exec.specs.Device.{is_open, is_whole, wait_of};
+ghost use Rattle.std.specs.Prelude.{◌≡◌, ◌≢◌, ◌↔◌, ◌<◌, ◌∷◌, [], IfOk, IfErr, IsTrue, None, true, false};
+ghost use Rattle.psu_exec.specs.Device.{Later, Parked, is_open, is_whole, wait_of};
 ghost use Rattle.psu_exec.specs.Shown.{outcome_of};
-ghost use Rattle.psu_run.specs.Jobs.{IsWornAtLast};
-ghost use Rattle.psu_run.specs.Progress.{Leads, DeviceStops};
-ghost use Rattle.psu_run.specs.Runs.{is_final, is_later, is_parked, IsTried, IsUnit, IsWait};
-ghost use Rattle.psu_run.specs.Steps.{Begins};
+ghost use Rattle.psu_messages.specs.Effects.{needs};
+ghost use Rattle.psu_run.specs.Progress.{DeviceStops, IsTried, IsWornAtLast, Leads};
+ghost use Rattle.psu_run.specs.Runs.{Begins, IsUnit, IsWait};
 
 use crate::RunCause;
 use crate::jobs::flush;
@@ -15,19 +14,19 @@ use psu_exec::{Exec, Outcome, Request, Session};
 use std::alloc::Allocator;
 
 fn is_parked<A: Allocator + Copy>(outcome: &Outcome<A>) -> bool
-    ensures { result ≡ is_parked (outcome_of outcome.now) }
+    ensures { IsTrue result ↔ (outcome_of outcome.now ≡ Parked) }
 {
     matches!(outcome, Outcome::Parked)
 }
 
 fn is_later<A: Allocator + Copy>(outcome: &Outcome<A>) -> bool
-    ensures { result ≡ is_later (outcome_of outcome.now) }
+    ensures { IsTrue result ↔ (outcome_of outcome.now ≡ Later) }
 {
     matches!(outcome, Outcome::Later)
 }
 
 fn is_final<A: Allocator + Copy>(outcome: &Outcome<A>) -> bool
-    ensures { result ≡ is_final (outcome_of outcome.now) }
+    ensures { IsTrue result ↔ (needs (outcome_of outcome.now) ≡ None) }
 {
     !matches!(outcome, Outcome::Parked | Outcome::Held | Outcome::Later)
 }
@@ -41,7 +40,7 @@ fn wait<D: Disk, A: Allocator + Copy>(
     requires idle { exec.old.device.flush.out ≡ false }
     requires open { is_open exec.old.device 1 ≡ true }
     ensures ends { IfOk result (λ o. Leads exec.old exec.new (IsWait (outcome_of o))) }
-    ensures ended { IfOk result (λ o. is_final (outcome_of o) ≡ true) }
+    ensures ended { IfOk result (λ o. needs (outcome_of o) ≡ None) }
     ensures free { wait_of exec.new.device.flush 1 ≡ None }
     ensures stops { IfErr result (DeviceStops exec.old exec.new (Begins [])) }
     ensures other { IfErr result (λ cause. cause ≢ RunCause.Write) }
@@ -72,8 +71,8 @@ pub(crate) fn act<D: Disk, A: Allocator + Copy>(
     request: &Request<'_>,
 ) -> Result<Outcome<A>, RunCause>
     ensures tried { IfOk result (λ o. Leads powered.old.exec powered.new.exec (IsTried request.now (outcome_of o))) }
-    ensures ended { IfOk result (λ o. is_later (outcome_of o) ≡ false → is_final (outcome_of o) ≡ true) }
-    ensures room { IfOk result (λ o. is_later (outcome_of o) ≡ true → (is_whole powered.old.exec.device.flush.store ≡ true) × (0 < powered.old.exec.device.flush.unflushed)) }
+    ensures ended { IfOk result (λ o. outcome_of o ≢ Later → needs (outcome_of o) ≡ None) }
+    ensures room { IfOk result (λ o. outcome_of o ≡ Later → (is_whole powered.old.exec.device.flush.store ≡ true) × (0 < powered.old.exec.device.flush.unflushed)) }
     ensures stops { IfErr result (DeviceStops powered.old.exec powered.new.exec (Begins (request.now ∷ []))) }
     ensures other { IfErr result (λ cause. cause ≢ RunCause.Write) }
 {
@@ -92,7 +91,7 @@ pub(crate) fn unit<D: Disk, A: Allocator + Copy>(
     request: &Request<'_>,
 ) -> Result<Outcome<A>, RunCause>
     ensures runs { IfOk result (λ o. Leads powered.old.exec powered.new.exec (IsUnit request.now (outcome_of o))) }
-    ensures ended { IfOk result (λ o. is_final (outcome_of o) ≡ true) }
+    ensures ended { IfOk result (λ o. needs (outcome_of o) ≡ None) }
     ensures stops { IfErr result (DeviceStops powered.old.exec powered.new.exec (Begins (request.now ∷ []))) }
     ensures other { IfErr result (λ cause. cause ≢ RunCause.Write) }
 {

@@ -4,8 +4,8 @@ ghost use Rattle.psu_messages.specs.ResponseBuffer.{nothing};
 ghost use Rattle.psu_messages.specs.Executions.{Advances, IsOver, StopsAt};
 ghost use Rattle.psu_messages.specs.Relations.{IsAwaited};
 ghost use Rattle.psu_messages.specs.Shown.{progress_of};
-ghost use Rattle.psu_run.specs.Progress.{IsDone, IsFailed, IsStopped, line_source, Leads, DeviceStops};
-ghost use Rattle.psu_run.specs.Output.{Says, SaysUntil, held, output_state};
+ghost use Rattle.psu_run.specs.Lines.{source_of};
+ghost use Rattle.psu_run.specs.Progress.{DeviceStops, IsDone, IsFailed, IsStopped, Leads, Says, SaysUntil, held, output_state};
 ghost use Rattle.psu_run.specs.Runs.{LineBegins, LineRuns};
 
 use crate::RunCause;
@@ -14,11 +14,12 @@ use crate::lines::Lines;
 use crate::run_state::RunState;
 use crate::writing::append_output;
 use psu_disk::Disk;
-use psu_exec::{Outcome, Request, ScpiError};
+use psu_exec::{Request, ScpiError};
 use psu_messages::{
-    Executor, MemoryRefused, Need, Progress, ResponseBuffer, execute_fault, execute_text,
+    Executor, MemoryRefused, Need, Progress, ResponseBuffer, Tried, execute_fault, execute_text,
 };
 use std::alloc::Allocator;
+use std::convert::Infallible;
 use std::io::Write;
 use std::mem;
 
@@ -27,18 +28,18 @@ use std::mem;
 fn proceed<A: Allocator + Copy, F: Executor<A>>(
     executor: &mut F,
     lines: &Lines<A>,
-    progress: &mut Progress<A>,
+    progress: &mut Progress<A, F::Wait>,
 ) -> Result<Option<Need>, F::Stop>
     requires { progress.old.units ≡ 0 }
     ensures goes { OnOk result (Advances F.relations.does
-        (line_source lines.now.is_too_long lines.now.line.items) executor.old
+        (source_of lines.now.line.items) executor.old
         (progress_of progress.old) executor.new (progress_of progress.new)) }
-    ensures over { IfOk result (λ need. need ≡ None → IsOver (line_source lines.now.is_too_long lines.now.line.items) (progress_of progress.new)) }
+    ensures over { IfOk result (λ need. need ≡ None → IsOver (source_of lines.now.line.items) (progress_of progress.new)) }
     ensures waits { IfOk result (λ some. IfSome some (IsAwaited F.relations executor.new)) }
-    ensures stops { IfErr result (λ stop. StopsAt F.relations (line_source lines.now.is_too_long lines.now.line.items) executor.old (progress_of progress.old) stop executor.new
+    ensures stops { IfErr result (λ stop. StopsAt F.relations (source_of lines.now.line.items) executor.old (progress_of progress.old) stop executor.new
         progress.new.gathered) }
 {
-    if lines.is_too_long {
+    if lines.is_too_long() {
         let need = execute_fault(executor, ScpiError::TooMuchData, progress)?;
         return Ok(need);
     }
@@ -55,6 +56,9 @@ pub(crate) struct Console<'p, 'w, W: Write, D: Disk, A: Allocator + Copy> {
 
 impl<'p, 'w, W: Write, D: Disk, A: Allocator + Copy> Executor<A> for Console<'p, 'w, W, D, A> {
     type Stop = RunCause;
+
+    // There is none: a unit is executed with the flushes that it waits for.
+    type Wait = Infallible;
 
     ghost relations = { record {
       does = λ x effect y. (y.run_state.ghost_name ≡ x.run_state.ghost_name) × (y.writer.ghost_name ≡ x.writer.ghost_name)
@@ -73,13 +77,13 @@ impl<'p, 'w, W: Write, D: Disk, A: Allocator + Copy> Executor<A> for Console<'p,
     }
 
     #[inline(always)]
-    fn execute(&mut self, request: &Request<'_>) -> Result<Outcome<A>, RunCause> {
-        unit(&mut self.run_state.powered, request)
+    fn execute(&mut self, request: &Request<'_>) -> Result<Tried<A, Infallible>, RunCause> {
+        let outcome = unit(&mut self.run_state.powered, request)?;
+        Ok(Tried::Replied(outcome))
     }
 
-    // Never called: `execute` returns final outcomes alone, so no unit is left to settle.
-    fn settle(&mut self) -> Result<Outcome<A>, RunCause> {
-        Err(RunCause::Memory)
+    fn settle(&mut self, wait: Infallible) -> Result<Tried<A, Infallible>, RunCause> {
+        match wait {}
     }
 
     #[inline(always)]
@@ -97,10 +101,10 @@ impl<'p, 'w, W: Write, D: Disk, A: Allocator + Copy> Console<'p, 'w, W, D, A> {
     pub fn follow(&mut self, alloc: A, lines: &Lines<A>) -> Result<(), RunCause>
         requires fresh { self.old.run_state.now.unwritten.gathered ≡ nothing }
         ensures runs { OnOk result ((text : List ℕ)
-            × Leads self.old.run_state.now.powered.exec self.new.run_state.now.powered.exec (LineRuns (line_source lines.now.is_too_long lines.now.line.items) text)
+            × Leads self.old.run_state.now.powered.exec self.new.run_state.now.powered.exec (LineRuns (source_of lines.now.line.items) text)
             × Says (held (W.contents self.old.writer.now) self.old.run_state.now.unwritten.output.items) (held (W.contents self.new.writer.now) self.new.run_state.now.unwritten.output.items) text) }
         ensures breaks { IfErr result (λ cause. (part : List ℕ)
-            × DeviceStops self.old.run_state.now.powered.exec self.new.run_state.now.powered.exec (LineBegins (line_source lines.now.is_too_long lines.now.line.items) part) cause
+            × DeviceStops self.old.run_state.now.powered.exec self.new.run_state.now.powered.exec (LineBegins (source_of lines.now.line.items) part) cause
             × SaysUntil cause (held (W.contents self.old.writer.now) self.old.run_state.now.unwritten.output.items)
             (output_state (W.contents self.new.writer.now) self.new.run_state.now.unwritten) part) }
         ensures run_state { self.new.run_state.ghost_name ≡ self.old.run_state.ghost_name }
@@ -113,7 +117,7 @@ impl<'p, 'w, W: Write, D: Disk, A: Allocator + Copy> Console<'p, 'w, W, D, A> {
         let mut progress = Progress {
             units: 0,
             expansion: None,
-            parked: false,
+            parked: None,
             gathered,
         };
         let done = proceed(self, lines, &mut progress);

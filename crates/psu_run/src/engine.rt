@@ -1,12 +1,9 @@
 //! The run over a reader and a writer.
-ghost use Rattle.std.specs.Prelude.{◌≡◌, ◌⊎◌, ◌↔◌, ◌+◌, ◌<◌, ◌≤◌, ◌++◌, length, [], ℕ, List, IsTrue, OnOk, IfOk, IfErr, IfSome, true, false};
+ghost use Rattle.std.specs.Prelude.{◌≡◌, ◌⊎◌, ◌↔◌, ◌<◌, ◌≤◌, ◌++◌, length, [], ℕ, List, IsTrue, OnOk, IfOk, IfErr, IfSome};
 ghost use Rattle.psu_disk.specs.Disk.{LeavesOnly};
-ghost use Rattle.psu_run.specs.Input.{IsReadToEnd, ReadsNoFurther};
-ghost use Rattle.psu_run.specs.Lines.{Message, Brings, coming};
-ghost use Rattle.psu_run.specs.Results.{IsOfRun, disk_of, DoesNotStart, WritesRun, WritesFirst};
-ghost use Rattle.psu_run.specs.Output.{held};
-ghost use Rattle.psu_run.specs.Progress.{Answers, EndsEarly, Fed, RanAll, Stopped};
-ghost use Rattle.psu_run.specs.Reasons.{EndsFor, GivenByInput, IsByFailure, never};
+ghost use Rattle.psu_run.specs.Lines.{Brings, IsReadToEnd, Message, ReadsNoFurther, messages};
+ghost use Rattle.psu_run.specs.Progress.{Answers, EndsEarly, Fed, RanAll, held};
+ghost use Rattle.psu_run.specs.Runs.{DoesNotStart, GivenByInput, IsByFailure, IsOfRun, WritesFirst, WritesRun, disk_of, never};
 
 use crate::intake::Intake;
 use crate::jobs::flush;
@@ -37,10 +34,8 @@ pub(crate) fn answer<W: Write, D: Disk, A: Allocator + Copy>(
     piece: &[u8],
     writer: &mut W,
 ) -> Result<PoweredDevice<D, A>, RunFault<D>>
-    ensures whole { IfOk result (λ p. Fed (coming lines.old.is_too_long lines.old.line.items) piece.now
-        (coming lines.new.is_too_long lines.new.line.items) powered.exec p.exec (held (W.contents writer.old) []) (held (W.contents writer.new) [])) }
-    ensures early { IfErr result (λ f. Stopped never (coming lines.old.is_too_long lines.old.line.items) piece.now
-        powered.exec f (held (W.contents writer.old) []) (held (W.contents writer.new) [])) }
+    ensures whole { IfOk result (λ p. Fed lines.old.line.items piece.now lines.new.line.items powered.exec p.exec (held (W.contents writer.old) []) (held (W.contents writer.new) [])) }
+    ensures early { IfErr result (λ f. (input : List ℕ) → EndsEarly never powered.exec f (messages (lines.old.line.items ++ (piece.now ++ input))) (held (W.contents writer.old) []) (held (W.contents writer.new) [])) }
 {
     let run_state = RunState::new(alloc, powered);
     match feed(alloc, run_state, lines, piece, writer) {
@@ -78,9 +73,9 @@ pub(crate) fn last_line<W: Write, D: Disk, A: Allocator + Copy>(
     lines: &mut Lines<A>,
     writer: &mut W,
 ) -> Result<PoweredDevice<D, A>, RunFault<D>>
-    ensures whole { IfOk result (λ p. Answers (coming lines.old.is_too_long lines.old.line.items []) powered.exec
+    ensures whole { IfOk result (λ p. Answers (messages lines.old.line.items) powered.exec
         p.exec (held (W.contents writer.old) []) (held (W.contents writer.new) [])) }
-    ensures early { IfErr result (λ f. EndsEarly never powered.exec f (coming lines.old.is_too_long lines.old.line.items [])
+    ensures early { IfErr result (λ f. EndsEarly never powered.exec f (messages lines.old.line.items)
         (held (W.contents writer.old) []) (held (W.contents writer.new) [])) }
 {
     if lines.is_empty() {
@@ -97,9 +92,9 @@ pub(crate) fn finish<W: Write, D: Disk, A: Allocator + Copy>(
     lines: &mut Lines<A>,
     writer: &mut W,
 ) -> Result<D, RunFault<D>>
-    ensures whole { IfOk result (λ d. RanAll powered.exec (coming lines.old.is_too_long lines.old.line.items []) d
+    ensures whole { IfOk result (λ d. RanAll powered.exec (messages lines.old.line.items) d
         (held (W.contents writer.old) []) (held (W.contents writer.new) [])) }
-    ensures early { IfErr result (λ f. EndsEarly never powered.exec f (coming lines.old.is_too_long lines.old.line.items [])
+    ensures early { IfErr result (λ f. EndsEarly never powered.exec f (messages lines.old.line.items)
         (held (W.contents writer.old) []) (held (W.contents writer.new) [])) }
 {
     let mut powered = last_line(alloc, powered, lines, writer)?;
@@ -213,11 +208,6 @@ pub fn run<R: Source, W: Write, D: Disk, A: Allocator + Copy>(
     // On every disk, honest or not: it ends by a fault of the device, also in a restart, only where a disk call failed,
     // unless the fault says that the store is worn; on an honest disk the root's number shows that.
     ensures failed { IfErr result (IsByFailure D.Disk (D.failures disk)) }
-
-    // It ends early only where it has to: at its start, because of what the image is; after that, because of a failure
-    // or because the input is too long.
-    ensures cause { D.honest → IfErr result (λ f. EndsFor (D.state disk).bytes (D.failures disk) (D.failures f.disk) (D.state f.disk).bytes
-        (GivenByInput (R.remaining reader.old) (R.remaining reader.new) (R.reads reader.old) (R.reads reader.new)) f.cause) }
 {
     script_is_the_only_text();
     let powered = match PoweredDevice::on(alloc, disk) {

@@ -1,14 +1,12 @@
 //! The flush: jobs are run until there is none.
-ghost use Rattle.std.specs.Prelude.{◌≡◌, ◌≢◌, ◌⊎◌, ℕ, [], OnOk, IfOk, IfErr, true, false, None};
+ghost use Rattle.std.specs.Prelude.{◌≡◌, ◌≢◌, ◌⊎◌, ◌↔◌, ℕ, [], OnOk, IfOk, IfErr, IsTrue, true, false, None, Some};
 ghost use Rattle.psu_disk.specs.Disk.{HasFailed};
 ghost use Rattle.psu_exec.specs.Calls.{HasNone, HasWork, job_of};
 ghost use Rattle.psu_exec.specs.Device.{is_broken, is_open, wait_of};
 ghost use Rattle.psu_exec.specs.Jobs.{finished_of, job_data};
 ghost use Rattle.psu_exec.specs.declared.condition.Condition.TheVariants.{Worn};
-ghost use Rattle.psu_run.specs.Steps.{failures_of, Begins};
-ghost use Rattle.psu_run.specs.Jobs.{HasRun, IsWork, IsWornAtLast, LeavesStore};
-ghost use Rattle.psu_run.specs.Progress.{Leads, DeviceStops, IsTied};
-ghost use Rattle.psu_run.specs.Runs.{IsFlush, Reopens, is_short};
+ghost use Rattle.psu_run.specs.Progress.{DeviceStops, HasRun, IsTied, IsWork, IsWornAtLast, Leads, LeavesStore, failures_of};
+ghost use Rattle.psu_run.specs.Runs.{Begins, IsFlush, MemoryRefused, Reopens, fault_of};
 
 use crate::RunCause;
 use psu_disk::Disk;
@@ -28,7 +26,7 @@ pub(crate) enum Work {
 
 // Whether a job ended out of memory.
 fn is_short<D: Disk, A: Allocator + Copy>(end: &End<D, A>) -> bool
-    ensures { result ≡ is_short (finished_of end.now) }
+    ensures { IsTrue result ↔ (fault_of (finished_of end.now) ≡ Some MemoryRefused) }
 {
     match end {
         End::Unstarted(_, _, cause) => matches!(cause, UnstartedCause::Memory),

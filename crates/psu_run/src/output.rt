@@ -1,7 +1,7 @@
 //! Writing whole texts to a writer.
 ghost use Rattle.std.specs.Prelude.{◌≡◌, ◌++◌, OnOk, OnErr, IfErr};
 ghost use Rattle.std.specs.Io.KnownBytes.{Appends};
-ghost use Rattle.psu_run.specs.Output.{WritesShort};
+ghost use Rattle.psu_run.specs.Runs.{WritesShort};
 
 use crate::RunCause;
 use std::io::Write;

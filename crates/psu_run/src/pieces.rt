@@ -1,11 +1,9 @@
 //! The lines that end in a piece of the input.
-ghost use Rattle.std.specs.Prelude.{◌≡◌, ◌≢◌, ◌∷◌, [], List, ℕ, OnOk, IfOk, IfErr, true, false};
+ghost use Rattle.std.specs.Prelude.{◌≡◌, ◌≢◌, ◌∷◌, ◌++◌, [], List, ℕ, OnOk, IfOk, IfErr};
 ghost use Rattle.psu_messages.specs.ResponseBuffer.{nothing};
-ghost use Rattle.psu_run.specs.Progress.{line_source, Fed, Leads, DeviceStops, Stopped, RunStops};
-ghost use Rattle.psu_run.specs.Lines.{Message, coming, is_power, message_now};
-ghost use Rattle.psu_run.specs.Output.{Says, SaysUntil, held, output_state};
-ghost use Rattle.psu_run.specs.Runs.{LineBegins, LineOf, LineRuns, Runs};
-ghost use Rattle.psu_run.specs.Reasons.{never};
+ghost use Rattle.psu_run.specs.Lines.{Message, messages, source_of};
+ghost use Rattle.psu_run.specs.Progress.{Answers, DeviceStops, EndsEarly, Fed, Leads, RunStops, Says, SaysUntil, held, output_state};
+ghost use Rattle.psu_run.specs.Runs.{LineBegins, LineRuns, Runs, never};
 
 use crate::console::Console;
 use crate::halted::Halted;
@@ -65,15 +63,13 @@ pub(crate) fn answer_line<W: Write, D: Disk, A: Allocator + Copy>(
     lines: &mut Lines<A>,
     writer: &mut W,
 ) -> Result<(), RunCause>
-    requires power { is_power (message_now lines.old.is_too_long lines.old.line.items) ≡ false }
     requires fresh { run_state.old.unwritten.gathered ≡ nothing }
-    ensures runs { OnOk result ((text : List ℕ) × Says (output_state (W.contents writer.old) run_state.old.unwritten) (output_state (W.contents writer.new) run_state.new.unwritten) text
-        × Leads run_state.old.powered.exec run_state.new.powered.exec (Runs (message_now lines.old.is_too_long lines.old.line.items ∷ []) text)) }
+    ensures runs { OnOk result (Answers (Message.Line (source_of lines.old.line.items) ∷ []) run_state.old.powered.exec run_state.new.powered.exec
+        (output_state (W.contents writer.old) run_state.old.unwritten) (output_state (W.contents writer.new) run_state.new.unwritten)) }
     ensures fresh { OnOk result (run_state.new.unwritten.gathered ≡ nothing) }
-    ensures over { OnOk result (lines.new.is_too_long ≡ false) }
     ensures empty { OnOk result (lines.new.line.items ≡ []) }
     ensures breaks { IfErr result (λ cause. (part : List ℕ) × SaysUntil cause (output_state (W.contents writer.old) run_state.old.unwritten) (output_state (W.contents writer.new) run_state.new.unwritten) part
-        × DeviceStops run_state.old.powered.exec run_state.new.powered.exec (λ steps. LineOf (λ source. LineBegins source part steps) (message_now lines.old.is_too_long lines.old.line.items)) cause) }
+        × DeviceStops run_state.old.powered.exec run_state.new.powered.exec (LineBegins (source_of lines.old.line.items) part) cause) }
 {
     execute_line(alloc, run_state, lines, writer)?;
     run_state.unwritten.gathered.restart();
@@ -90,10 +86,10 @@ fn execute_line<W: Write, D: Disk, A: Allocator + Copy>(
 ) -> Result<(), RunCause>
     requires fresh { run_state.old.unwritten.gathered ≡ nothing }
     ensures runs { OnOk result ((text : List ℕ)
-        × Leads run_state.old.powered.exec run_state.new.powered.exec (LineRuns (line_source lines.now.is_too_long lines.now.line.items) text)
+        × Leads run_state.old.powered.exec run_state.new.powered.exec (LineRuns (source_of lines.now.line.items) text)
         × Says (held (W.contents writer.old) run_state.old.unwritten.output.items) (held (W.contents writer.new) run_state.new.unwritten.output.items) text) }
     ensures breaks { IfErr result (λ cause. (part : List ℕ)
-        × DeviceStops run_state.old.powered.exec run_state.new.powered.exec (LineBegins (line_source lines.now.is_too_long lines.now.line.items) part) cause
+        × DeviceStops run_state.old.powered.exec run_state.new.powered.exec (LineBegins (source_of lines.now.line.items) part) cause
         × SaysUntil cause (held (W.contents writer.old) run_state.old.unwritten.output.items) (output_state (W.contents writer.new) run_state.new.unwritten) part) }
 {
     let mut console = Console {
@@ -112,11 +108,11 @@ pub(crate) fn feed<W: Write, D: Disk, A: Allocator + Copy>(
     writer: &mut W,
 ) -> Result<RunState<D, A>, Halted<D, A>>
     requires { run_state.unwritten.gathered ≡ nothing }
-    ensures fed { IfOk result (λ d. Fed (coming lines.old.is_too_long lines.old.line.items) piece.now (coming lines.new.is_too_long lines.new.line.items)
+    ensures fed { IfOk result (λ d. Fed lines.old.line.items piece.now lines.new.line.items
         run_state.powered.exec d.powered.exec (output_state (W.contents writer.old) run_state.unwritten) (output_state (W.contents writer.new) d.unwritten)) }
     ensures fresh { IfOk result (λ d. d.unwritten.gathered ≡ nothing) }
-    ensures stopped { IfErr result (λ h. Stopped never (coming lines.old.is_too_long lines.old.line.items) piece.now
-        run_state.powered.exec h.fault (output_state (W.contents writer.old) run_state.unwritten) (output_state (W.contents writer.new) h.unwritten)) }
+    ensures stopped { IfErr result (λ h. (input : List ℕ) → EndsEarly never run_state.powered.exec h.fault (messages (lines.old.line.items ++ (piece.now ++ input)))
+        (output_state (W.contents writer.old) run_state.unwritten) (output_state (W.contents writer.new) h.unwritten)) }
 {
     let mut run_state = run_state;
     let mut rest = piece;

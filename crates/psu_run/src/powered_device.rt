@@ -1,5 +1,5 @@
 //! The powered-on device of a run.
-ghost use Rattle.std.specs.Prelude.{◌≡◌, ◌≢◌, ◌≤◌, ℕ, List, IfOk, IfErr, true, false, None, Some};
+ghost use Rattle.std.specs.Prelude.{◌≡◌, ◌≢◌, ◌↔◌, ◌≤◌, ℕ, List, IfOk, IfErr, IsTrue, true, false, None, Some};
 ghost use Rattle.std.specs.Option.{ForSome};
 ghost use Rattle.psu_disk.specs.Disk.{LeavesOnly};
 ghost use Rattle.psu_items.specs.Finding.{IsOldOrSame};
@@ -8,10 +8,9 @@ ghost use Rattle.psu_map.specs.Map.{Item};
 ghost use Rattle.psu_exec.specs.Device.{is_broken, is_denied, is_open, wait_of};
 ghost use Rattle.psu_exec.specs.Jobs.{idle_disk};
 ghost use Rattle.psu_exec.specs.declared.condition.Condition.TheVariants.{Worn};
-ghost use Rattle.psu_run.specs.Steps.{disk_in, extent_of, failures_of, born, world_of, PowersOn, IsWornOut};
-ghost use Rattle.psu_run.specs.Jobs.{IsWornAtLast};
-ghost use Rattle.psu_run.specs.Reasons.{NotStarted, IsByFailure};
-ghost use Rattle.psu_run.specs.Progress.{FaultOf, is_worn};
+ghost use Rattle.psu_exec.specs.declared.start_cause.StartFault.{StartFault};
+ghost use Rattle.psu_run.specs.Progress.{FaultOf, IsWornAtLast, born, disk_in, extent_of, failures_of, world_of};
+ghost use Rattle.psu_run.specs.Runs.{IsByFailure, IsWornOut, NotStarted, PowersOn, cause_of};
 
 use crate::{RunCause, RunFault};
 use psu_disk::Disk;
@@ -21,7 +20,7 @@ use std::alloc::Allocator;
 
 // Whether no number is left for a commit.
 fn is_worn(condition: Condition) -> bool
-    ensures { result ≡ is_worn condition }
+    ensures { IsTrue result ↔ (condition ≡ Worn) }
 {
     matches!(condition, Condition::Worn)
 }
@@ -50,7 +49,8 @@ impl<D: Disk, A: Allocator + Copy> PoweredDevice<D, A> {
         ensures whole { IfOk result (λ p. is_broken p.exec.device.flush.store ≡ false) }
 
         ensures other { IfErr result (λ f. f.cause ≢ RunCause.Write) }
-        ensures refused { D.honest → IfErr result (λ f. NotStarted (D.state disk).bytes (D.failures disk) (D.failures f.disk) f.cause) }
+        ensures refused { D.honest → IfErr result (λ f. (why : StartFault) × (f.cause ≡ cause_of why)
+            × NotStarted (D.state disk).bytes (D.failures disk) (D.failures f.disk) why) }
         ensures failed { IfErr result (IsByFailure D.Disk (D.failures disk)) }
         ensures later { IfErr result (λ f. D.failures disk ≤ D.failures f.disk) }
         ensures extent { IfErr result (λ f. D.extent f.disk ≡ D.extent disk) }

@@ -7,7 +7,9 @@ ghost use Rattle.psu_items.specs.Image.{EachRepresents};
 ghost use Rattle.psu_exec.specs.Jobs.{idle_disk};
 ghost use Rattle.psu_exec.specs.declared.start_cause.StartCause.TheVariants.{Device};
 ghost use Rattle.psu_exec.specs.declared.start_cause.StartFault.TheVariants.{Memory, Start};
-ghost use Rattle.psu_run.specs.Recover.{IsReported, IsRecoverRefusal, Reports};
+ghost use Rattle.psu_run.specs.Recover.{IsReported, Reports};
+ghost use Rattle.psu_run.specs.Runs.{NotStarted};
+ghost use Rattle.psu_status.specs.Status.{first_request};
 
 mod listing;
 mod report;
@@ -32,7 +34,7 @@ pub struct Recovered<D, A: Allocator + Copy> {
 /// failed, and a map that each possible crash image of the disk represented, each still represents.
 pub fn recover<D: Disk, A: Allocator + Copy>(alloc: A, disk: D) -> Recovered<D, A>
     ensures found { D.honest → IfOk result.found (IsReported (D.state disk).bytes) }
-    ensures refused { D.honest → IfErr result.found (IsRecoverRefusal (D.state disk).bytes) }
+    ensures refused { D.honest → IfErr result.found (NotStarted (D.state disk).bytes (D.failures disk) (D.failures result.disk)) }
     ensures step { DiskStep D.Disk disk result.disk result.found (λ e. e ≡ Start Device) }
     ensures left { D.honest → (limit : ℕ) (map : List Item) → EachRepresents (D.state disk) limit map → EachRepresents (D.state result.disk) limit map }
 {
@@ -82,7 +84,7 @@ fn report_of<D: Disk, A: Allocator + Copy>(
     limit: u16,
     pages: u128,
 ) -> Result<Report<A>, StartFault>
-    ensures reports { IfOk result (Reports exec.now.device version root limit pages) }
+    ensures reports { IfOk result (Reports exec.now.device.flush.contents (first_request exec.now.device.volatile.instrument.status) version root limit pages) }
     ensures wants { IfErr result (λ e. e ≡ Memory) }
 {
     let contents = exec.contents();

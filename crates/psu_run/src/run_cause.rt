@@ -1,6 +1,7 @@
 //! Why a run ends early.
 ghost use Rattle.std.specs.Prelude.{◌≡◌};
-ghost use Rattle.psu_run.specs.Reasons.{cause_of_open, cause_of_power, cause_of_start};
+ghost use Rattle.psu_exec.specs.Starts.{start_of_opening, start_of_power_on};
+ghost use Rattle.psu_run.specs.Runs.{cause_of};
 
 use psu_exec::{PowerCause, StartCause, StartFault};
 use psu_items::OpenCause;
@@ -31,7 +32,7 @@ pub enum RunCause {
 }
 
 impl From<StartFault> for RunCause {
-    ghost from_gives = { λ fault e. e ≡ cause_of_start fault };
+    ghost from_gives = { λ fault e. e ≡ cause_of fault };
 
     fn from(fault: StartFault) -> Self {
         match fault {
@@ -42,7 +43,7 @@ impl From<StartFault> for RunCause {
 }
 
 impl From<OpenCause> for RunCause {
-    ghost from_gives = { λ cause e. e ≡ cause_of_open cause };
+    ghost from_gives = { λ cause e. e ≡ cause_of (start_of_opening cause) };
 
     fn from(cause: OpenCause) -> Self {
         RunCause::from(StartFault::from(cause))
@@ -50,7 +51,7 @@ impl From<OpenCause> for RunCause {
 }
 
 impl From<PowerCause> for RunCause {
-    ghost from_gives = { λ cause e. e ≡ cause_of_power cause };
+    ghost from_gives = { λ cause e. e ≡ cause_of (start_of_power_on cause) };
 
     fn from(cause: PowerCause) -> Self {
         RunCause::from(StartFault::from(cause))

@@ -2,7 +2,7 @@
 ghost use Rattle.std.specs.Prelude.{ℕ, List, Option, None};
 ghost use Rattle.std.specs.Io.{ReadsAtMost};
 ghost use Rattle.std.specs.Io.KnownBytes.{ReadConsumes};
-ghost use Rattle.psu_run.specs.Input.{CountsRead, Reads};
+ghost use Rattle.psu_run.specs.Lines.{CountsRead, Reads};
 
 use std::io::{self, Read};
 

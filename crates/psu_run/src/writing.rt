@@ -1,6 +1,6 @@
 //! The output buffer, which is written when it has grown too long.
 ghost use Rattle.std.specs.Prelude.{◌≡◌, ◌⊎◌, [], OnOk, IfErr};
-ghost use Rattle.psu_run.specs.Output.{Says, SaysUntil, held};
+ghost use Rattle.psu_run.specs.Progress.{Says, SaysUntil, held};
 
 use crate::RunCause;
 use crate::output::put;

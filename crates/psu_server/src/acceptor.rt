@@ -2,7 +2,7 @@
 use crate::connection::Accepted;
 use crate::serve_fault::ServeFault;
 use crate::silent_connections::SilentConnections;
-use psu_bench::{Caller, Gate, ServedDisk, power_on};
+use psu_bench::{Access, Caller, Gate, ServedDisk, power_on};
 use psu_disk::{Disk, FileDisk, OsFiles};
 use psu_session_io::Link;
 use psu_threads::{Flusher, Server, write_lines};
@@ -24,7 +24,7 @@ const ACCEPT_PAUSE: u64 = 20;
 struct Acceptor<D: ServedDisk> {
     server: Arc<Server>,
     silent: Arc<Mutex<SilentConnections>>,
-    caller: Caller<D>,
+    access: Access<D>,
 }
 
 impl<D: ServedDisk + Send + 'static> Acceptor<D>
@@ -51,14 +51,14 @@ where
         let link = Arc::new(self.server.alloc, Link::new(stream))?;
         let server = Arc::try_clone(&self.server)?;
         let silent = Arc::try_clone(&self.silent)?;
-        let caller = self.caller.split()?;
+        let access = self.access.split()?;
         let number = self.silent.lock(rt).add(Arc::try_clone(&link)?);
         Ok(Accepted {
             server,
             silent,
             number,
             link,
-            caller,
+            access,
         })
     }
 
@@ -85,10 +85,11 @@ where
         let server = Arc::try_clone(&self.server)?;
         let _operator = thread::spawn(&rt, move || write_lines(&rt, &server, &errors))?;
         let server = Arc::try_clone(&self.server)?;
-        let caller = self.caller.split()?;
+        let access = self.access.split()?;
         let _flusher = thread::spawn(&rt, move || {
-            let mut flusher = Flusher::new(&server, caller);
-            flusher.flush(&rt)
+            let Access { bench, seat, gate } = access;
+            let caller = Caller::new(&bench, seat, gate);
+            Flusher::new(&server, caller).flush(&rt)
         })?;
         Ok(())
     }
@@ -137,11 +138,11 @@ where
     G: Gate + Drop + Send + Sync + 'static,
     E: Eprint + Drop + Send + 'static,
 {
-    let caller = match power_on(alloc, disk, gate) {
-        Ok(caller) => caller,
+    let access = match power_on(alloc, disk, gate) {
+        Ok(access) => access,
         Err(fault) => return ServeFault::Start(fault),
     };
-    match accept_all(rt, alloc, listener, caller, errors) {
+    match accept_all(rt, alloc, listener, access, errors) {
         Ok(()) => ServeFault::Network,
         Err(error) => ServeFault::from(error),
     }
@@ -151,14 +152,14 @@ where
 fn acceptor_of<R: Clock, D: ServedDisk>(
     rt: &R,
     alloc: Global,
-    caller: Caller<D>,
+    access: Access<D>,
 ) -> io::Result<Acceptor<D>> {
     let server = Arc::new(alloc, Server::new(alloc, Instant::now(rt)?))?;
     let silent = Arc::new(alloc, Mutex::new(SilentConnections::new(alloc)))?;
     Ok(Acceptor {
         server,
         silent,
-        caller,
+        access,
     })
 }
 
@@ -167,7 +168,7 @@ fn accept_all<R, D, E>(
     rt: R,
     alloc: Global,
     listener: TcpListener,
-    caller: Caller<D>,
+    access: Access<D>,
     errors: E,
 ) -> io::Result<()>
 where
@@ -177,7 +178,7 @@ where
     E: Eprint + Drop + Send + 'static,
 {
     let address = listener.local_addr()?;
-    let mut acceptor = acceptor_of(&rt, alloc, caller)?;
+    let mut acceptor = acceptor_of(&rt, alloc, access)?;
     acceptor.start_flusher(rt, errors)?;
     // A server is served to its clients also where no one can read its output.
     let _ = println!(rt; "listening on {address}");

@@ -1,7 +1,7 @@
 //! A connection, from its first byte to its end.
 use crate::opening::{Opening, close, first_message, open};
 use crate::silent_connections::SilentConnections;
-use psu_bench::{Caller, ServedDisk};
+use psu_bench::{Access, Caller, ServedDisk};
 use psu_exec::Session;
 use psu_hislip::{FatalCode, First};
 use psu_session_io::{Connection, FirstReply, Link, ServedSession};
@@ -19,7 +19,7 @@ pub(crate) struct Accepted<D: ServedDisk> {
     pub silent: Arc<Mutex<SilentConnections>>,
     pub number: u64,
     pub link: Arc<Link>,
-    pub caller: Caller<D>,
+    pub access: Access<D>,
 }
 
 impl<D: ServedDisk> Accepted<D> {
@@ -31,8 +31,10 @@ impl<D: ServedDisk> Accepted<D> {
     // Serves a session over its synchronous connection, until it is over.
     fn start<R: Wait + Clock>(&mut self, rt: &R, opening: Opening) -> io::Result<()> {
         let opened = Instant::now(rt)?;
+        let Access { bench, seat, gate } = self.access.split()?;
+        let mut caller = Caller::new(&bench, seat, gate);
         let message = opening.message.as_slice();
-        let open = open(rt, &self.server, &mut self.caller, &self.link, message)?;
+        let open = open(rt, &self.server, &mut caller, &self.link, message)?;
         let Some((response, served)) = open else {
             return self.refuse(FatalCode::TooManyClients);
         };
@@ -42,7 +44,7 @@ impl<D: ServedDisk> Accepted<D> {
         };
         served.abandon(rt);
         served.wait_for_second(rt);
-        close(rt, &self.server, &mut self.caller, served.number);
+        close(rt, &self.server, &mut caller, served.number);
         read
     }
 
@@ -56,7 +58,8 @@ impl<D: ServedDisk> Accepted<D> {
     ) -> io::Result<()> {
         let connection = Connection::new(Arc::try_clone(&self.link)?, after);
         let role = Role::Read(connection, opened);
-        serve_session(rt, &self.server, served, &mut self.caller, role)
+        let access = self.access.split()?;
+        serve_session(rt, &self.server, served, access, role)
     }
 
     // Returns the session of a number.
@@ -75,7 +78,8 @@ impl<D: ServedDisk> Accepted<D> {
         self.link.wait_at_most(None)?;
         let connection = Connection::new(Arc::try_clone(&self.link)?, opening.whole()?);
         let role = Role::Listen(connection);
-        serve_session(rt, &self.server, served, &mut self.caller, role)
+        let access = self.access.split()?;
+        serve_session(rt, &self.server, served, access, role)
     }
 }
 
@@ -95,10 +99,10 @@ where
     {
         let server = Arc::try_clone(&self.server)?;
         let served = Arc::try_clone(served)?;
-        let mut caller = self.caller.split()?;
+        let access = self.access.split()?;
         let started = thread::spawn(&rt, move || {
             // It needs no memory of its own.
-            let _ = serve_session(&rt, &server, &served, &mut caller, role);
+            let _ = serve_session(&rt, &server, &served, access, role);
         })?;
         Ok(started)
     }

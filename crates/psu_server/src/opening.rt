@@ -163,7 +163,7 @@ fn opened(
 pub(crate) fn open<R: Wait, D: ServedDisk>(
     rt: &R,
     server: &Server,
-    caller: &mut Caller<D>,
+    caller: &mut Caller<'_, D>,
     link: &Arc<Link>,
     message: &[u8],
 ) -> io::Result<Option<(FirstReply, Arc<ServedSession>)>>
@@ -174,8 +174,7 @@ pub(crate) fn open<R: Wait, D: ServedDisk>(
 {
     let others = Reporter { rt, server };
     let mut registry = others.lock_registry();
-    let mut visit = server.device.visit();
-    let Ok(number) = caller.call(rt, &mut visit, OpenSession) else {
+    let Ok(number) = caller.call(rt, OpenSession) else {
         return Ok(None);
     };
     match opened(server.alloc, number, link, message) {
@@ -184,9 +183,7 @@ pub(crate) fn open<R: Wait, D: ServedDisk>(
             Ok(Some((response, served)))
         }
         Err(error) => {
-            caller
-                .close_session(rt, &mut visit, number)
-                .pass_on(&mut registry);
+            caller.close_session(rt, number).pass_on(&mut registry);
             Err(error)
         }
     }
@@ -196,7 +193,7 @@ pub(crate) fn open<R: Wait, D: ServedDisk>(
 pub(crate) fn close<R: Wait, D: ServedDisk>(
     rt: &R,
     server: &Server,
-    caller: &mut Caller<D>,
+    caller: &mut Caller<'_, D>,
     number: Session,
 )
     ensures { (granted : List ℕ) × SeatCalls (AllowsOn D.honest) caller.old.seat (Closed number granted) caller.new.seat }
@@ -204,7 +201,5 @@ pub(crate) fn close<R: Wait, D: ServedDisk>(
     let others = Reporter { rt, server };
     let mut registry = others.lock_registry();
     registry.registry.remove(number);
-    caller
-        .close_session(rt, &mut server.device.visit(), number)
-        .pass_on(&mut registry);
+    caller.close_session(rt, number).pass_on(&mut registry);
 }

@@ -11,10 +11,11 @@ ghost use Rattle.psu_session.specs.Stopping.{CallsAdvancing};
 ghost use Rattle.psu_session.specs.declared.phase.EndCause.TheVariants.{Memory};
 
 use crate::limits::{OUTPUT_ROOM, UNITS_AT_ONCE};
+use crate::queue::Accepted;
 use crate::{Device, EndCause, Running};
-use psu_exec::{Outcome, Request};
+use psu_exec::Request;
 use psu_hislip::{Origin, SessionCore};
-use psu_messages::{Executor, MemoryRefused, Need, Transmission};
+use psu_messages::{Executor, MemoryRefused, Need, Transmission, Tried};
 use std::alloc::Global;
 
 /// The executor of a transmission: the device, and the output for its responses.
@@ -34,6 +35,8 @@ pub(crate) struct Execution<'a, 'b, 'c, D: Device> {
 impl<'a, 'b, 'c, D: Device> Executor<Global> for Execution<'a, 'b, 'c, D> {
     type Stop = EndCause;
 
+    type Wait = Accepted;
+
     ghost use Rattle.std.specs.Prelude.{◌≡◌, ◌⊎◌, ◌-◌, ◌≤◌, length};
     ghost use Rattle.psu_session.specs.Phases.{tries_by};
 
@@ -52,14 +55,15 @@ impl<'a, 'b, 'c, D: Device> Executor<Global> for Execution<'a, 'b, 'c, D> {
         self.left > self.until && self.output.len() < OUTPUT_ROOM
     }
 
-    fn execute(&mut self, request: &Request<'_>) -> Result<Outcome<Global>, EndCause> {
+    #[inline(always)]
+    fn execute(&mut self, request: &Request<'_>) -> Result<Tried<Global, Accepted>, EndCause> {
         self.left = self.left.saturating_sub(1);
-        Ok(self.device.execute(request))
+        Ok(Tried::of(self.device.execute(request), Accepted))
     }
 
-    fn settle(&mut self) -> Result<Outcome<Global>, EndCause> {
+    fn settle(&mut self, wait: Accepted) -> Result<Tried<Global, Accepted>, EndCause> {
         self.left = self.left.saturating_sub(1);
-        Ok(self.device.settle())
+        Ok(Tried::of(self.device.settle(), wait))
     }
 
     fn send(&mut self, text: &[u8], is_last: bool) -> Result<(), EndCause> {
@@ -89,7 +93,7 @@ impl<'a, 'b, 'c, D: Device> Execution<'a, 'b, 'c, D> {
     fn advance(
         &mut self,
         alloc: Global,
-        transmission: &mut Transmission<Global>,
+        transmission: &mut Transmission<Global, Accepted>,
     ) -> Result<Option<Need>, EndCause>
         ensures advances { IfOk result (λ _. AdvancesOrder D.does self.old.core.now
             (record { origin = self.old.origin; source = transmission.old.source }) transmission.old.progress

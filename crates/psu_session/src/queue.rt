@@ -29,11 +29,15 @@ pub(crate) struct Release {
     pub requested_at: u64,
 }
 
+/// A unit that the device has accepted, and settles: it has at most one of a session.
+#[derive(Clone, Copy)]
+pub(crate) struct Accepted;
+
 /// The transmission in execution, and its origin.
 #[derive(Drop)]
 pub(crate) struct Running {
     pub origin: Origin,
-    pub transmission: Transmission<Global>,
+    pub transmission: Transmission<Global, Accepted>,
 }
 
 /// What is executed next.

@@ -125,43 +125,44 @@ fn a_new_file_is_of_zeros_and_has_its_room(rt: HostRuntime) {
     remove(&rt, NEW);
 }
 
-// Syncs a disk, which succeeds or fails, and checks the count of its failures.
-fn syncs<D: Disk>(rt: &impl Abort, disk: &mut D, works: bool, faults: u64) {
-    holds(rt, disk.sync().is_ok() == works, &"the sync");
+// Syncs a disk, which succeeds, and has it confirmed, which succeeds or fails; checks the count of its failures.
+fn confirms<D: Disk>(rt: &impl Abort, disk: &mut D, works: bool, faults: u64) {
+    holds(rt, disk.sync().is_ok(), &"the sync");
+    holds(rt, disk.confirm().is_ok() == works, &"the look");
     holds(rt, disk.faults() == faults, &"the failed calls");
 }
 
 const CUT: &str = "a_cut_disk_for_a_test.image";
 
-// Checks that syncs of a disk of 4,096 bytes succeed while its file has its length, and at no other.
+// Checks that a disk of 4,096 bytes is confirmed while its file has its length, and at no other.
 fn needs_its_length<D: Disk + Drop>(rt: &(impl Abort + Files<File = File>), mut disk: D) {
-    syncs(rt, &mut disk, true, 0);
+    confirms(rt, &mut disk, true, 0);
     set_length(rt, CUT, 4_095);
-    syncs(rt, &mut disk, false, 1);
+    confirms(rt, &mut disk, false, 1);
     set_length(rt, CUT, 4_097);
-    syncs(rt, &mut disk, false, 2);
+    confirms(rt, &mut disk, false, 2);
     set_length(rt, CUT, 4_096);
-    syncs(rt, &mut disk, true, 2);
+    confirms(rt, &mut disk, true, 2);
     remove(rt, CUT);
 }
 
-// No sync is confirmed while the length of the file differs from that of the disk.
+// Nothing is confirmed while the length of the file differs from that of the disk.
 #[test]
-fn a_file_that_was_cut_short_is_not_synced(rt: HostRuntime) {
+fn a_file_that_was_cut_short_is_not_confirmed(rt: HostRuntime) {
     needs_its_length(&rt, new_disk(&rt, rt.alloc(), CUT, 4_096));
 }
 
 const LOST: &str = "a_lost_disk_for_a_test.image";
 
-// Checks that syncs of a disk succeed until its file loses its name.
+// Checks that a disk is confirmed until its file loses its name.
 fn needs_a_name<D: Disk + Drop>(rt: &(impl Abort + Files<File = File>), mut disk: D) {
-    syncs(rt, &mut disk, true, 0);
+    confirms(rt, &mut disk, true, 0);
     remove(rt, LOST);
-    syncs(rt, &mut disk, false, 1);
+    confirms(rt, &mut disk, false, 1);
 }
 
 #[test]
-fn a_file_that_lost_its_name_is_not_synced(rt: HostRuntime) {
+fn a_file_that_lost_its_name_is_not_confirmed(rt: HostRuntime) {
     needs_a_name(&rt, new_disk(&rt, rt.alloc(), LOST, 4_096));
 }
 
@@ -174,17 +175,17 @@ fn rename(rt: &(impl Abort + Files<File = File>), from: &str, to: &str) {
     std::fs::rename(rt, from, to).expect(rt, "another name");
 }
 
-// Checks that syncs of a disk succeed until another file has its name.
+// Checks that a disk is confirmed until another file has its name.
 fn needs_its_name<D: Disk + Drop>(rt: &(impl Abort + Files<File = File>), mut disk: D) {
-    syncs(rt, &mut disk, true, 0);
+    confirms(rt, &mut disk, true, 0);
     rename(rt, OTHER, NAMED);
-    syncs(rt, &mut disk, false, 1);
+    confirms(rt, &mut disk, false, 1);
     remove(rt, NAMED);
 }
 
 // Another file of the same length replaces it, and it keeps no name.
 #[test]
-fn a_file_that_was_replaced_is_not_synced(rt: HostRuntime) {
+fn a_file_that_was_replaced_is_not_confirmed(rt: HostRuntime) {
     drop(new_disk(&rt, rt.alloc(), OTHER, 4_096));
     needs_its_name(&rt, new_disk(&rt, rt.alloc(), NAMED, 4_096));
 }
@@ -193,15 +194,15 @@ const BEFORE: &str = "a_renamed_disk_for_a_test.image";
 
 const AFTER: &str = "a_disk_renamed_for_a_test.image";
 
-// Checks that a sync of a disk succeeds after its file has got another name.
+// Checks that a disk is confirmed after its file has got another name.
 fn needs_any_name<D: Disk + Drop>(rt: &(impl Abort + Files<File = File>), mut disk: D) {
     rename(rt, BEFORE, AFTER);
-    syncs(rt, &mut disk, true, 0);
+    confirms(rt, &mut disk, true, 0);
     remove(rt, AFTER);
 }
 
 // A file that was only renamed is intact.
 #[test]
-fn a_file_that_was_renamed_is_synced(rt: HostRuntime) {
+fn a_file_that_was_renamed_is_confirmed(rt: HostRuntime) {
     needs_any_name(&rt, new_disk(&rt, rt.alloc(), BEFORE, 4_096));
 }

@@ -187,6 +187,8 @@ impl<A: Allocator + Copy> Medium for ForgettingMedium<A> {
 
     ghost works = { λ m. (m.first ≡ 0) × (m.second ≡ 0) };
 
+    ghost confirmed = { λ _. Unit {0} };
+
     ghost moment = { λ _. 0 };
 
     ghost left_since = { λ _ _ _. ⊥ };
@@ -223,6 +225,10 @@ impl<A: Allocator + Copy> Medium for ForgettingMedium<A> {
             return Err(DiskFault);
         }
         self.settle();
+        Ok(())
+    }
+
+    fn confirm(&mut self) -> Result<(), DiskFault> {
         Ok(())
     }
 }

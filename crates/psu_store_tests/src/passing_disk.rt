@@ -55,6 +55,8 @@ impl<M: Medium> Disk for PassingDisk<M> {
 
     ghost failures = { λ d. d.faults };
 
+    ghost confirmed = { λ d. M.confirmed d.medium };
+
     ghost sized = { λ honest. absurd honest };
 
     ghost counts_now = { λ records. absurd records };
@@ -81,6 +83,11 @@ impl<M: Medium> Disk for PassingDisk<M> {
 
     fn sync(&mut self) -> Result<(), DiskFault> {
         let answer = self.medium.sync();
+        self.counted(answer)
+    }
+
+    fn confirm(&mut self) -> Result<(), DiskFault> {
+        let answer = self.medium.confirm();
         self.counted(answer)
     }
 }

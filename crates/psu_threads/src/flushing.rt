@@ -1,18 +1,17 @@
 //! The flusher: it puts changes on the disk, and fails lock requests whose time is over.
-ghost use Rattle.std.specs.Prelude.{◌≡◌, ◌<◌, None, Some};
-ghost use Rattle.psu_exec.specs.Calls.{JobEnd, Taken};
-ghost use Rattle.psu_bench.specs.Rounds.{IsEndOf};
-ghost use Rattle.psu_bench.specs.Callers.{GivesBack, MakesRound};
+ghost use Rattle.std.specs.Prelude.{◌≡◌, ◌<◌, Result};
+ghost use Rattle.psu_exec.specs.declared.no_job.NoJob.{NoJob as AnyNoJob};
+ghost use Rattle.psu_bench.specs.Callers.{CausesByRound};
 ghost use Rattle.psu_bench.specs.Reopenings.{after_job};
 ghost use Rattle.psu_bench.specs.Seconds.{left_of_second};
+ghost use Rattle.psu_bench.specs.declared.caused_by_job.CausedByJob.{CausedByJob};
 
 use crate::reporter::Reporter;
 use crate::server::Server;
-use psu_bench::operations::{NextDeadline, Take};
-use psu_bench::{Caller, Others, Reopenings, ReportedCondition, ServedDisk};
+use psu_bench::operations::NextDeadline;
+use psu_bench::{Caller, JobEnding, Others, Reopenings, ReportedCondition, ServedDisk};
 use psu_disk::Disk;
-use psu_exec::{End, Finished, Job, NoJob};
-use std::alloc::Global;
+use psu_exec::NoJob;
 use std::rt::Clock;
 use std::sync::Wait;
 
@@ -20,58 +19,29 @@ use std::sync::Wait;
 /// flushed before.
 const RETRY_PAUSE: u64 = 1000;
 
-/// The result of a round.
-#[derive(Clone, Copy, Debug, PartialEq, Eq)]
-enum Round {
-    /// There was nothing to do.
-    Idle,
-    /// A job went well.
-    Worked,
-    /// The disk failed, or memory was refused.
-    Failed,
-    /// No job was taken, since the store broke within a second of its reopening. One may be taken after so many
-    /// milliseconds.
-    PutOff(u64),
-}
-
-impl Round {
-    // What a job's end makes of its round.
-    fn of<D: Disk>(end: &End<D, Global>) -> Round {
-        match end {
-            End::Stored(_) | End::Reopened(_) => Round::Worked,
-            End::Unstarted(_, _, _) | End::Broken(_) => Round::Failed,
-        }
-    }
-
-    // How long the flusher sleeps at most after the round, in milliseconds; none where it sleeps until there is
-    // something to do.
-    fn limit(self) -> Option<u64> {
-        match self {
-            Round::Idle => None,
-            Round::Worked => Some(0),
-            Round::Failed => Some(RETRY_PAUSE),
-            Round::PutOff(left) => Some(left),
-        }
+// Returns how long the flusher sleeps at most after a job, in milliseconds.
+fn pause_after(ending: JobEnding) -> u64 {
+    match ending {
+        JobEnding::Stored | JobEnding::Reopened => 0,
+        JobEnding::Broken | JobEnding::Worn | JobEnding::OutOfMemory => RETRY_PAUSE,
     }
 }
 
 /// The flusher.
 #[derive(Drop)]
-pub struct Flusher<'a, D: ServedDisk> {
+pub struct Flusher<'a, 'b, D: ServedDisk> {
     server: &'a Server,
-    caller: Caller<D>,
+    caller: Caller<'b, D>,
     // The condition that the store has shown last; that it works where it has shown none.
     condition: ReportedCondition,
     // When a store that broke is opened again.
     reopenings: Reopenings,
 }
 
-impl<'a, D: ServedDisk> Flusher<'a, D> {
-    ghost use Rattle.psu_exec.specs.Jobs.{finished_of};
-
+impl<'a, 'b, D: ServedDisk> Flusher<'a, 'b, D> {
     /// Returns the flusher of a server that has just powered on.
-    pub fn new(server: &'a Server, caller: Caller<D>) -> Flusher<'a, D>
-        ensures { result.caller ≡ caller }
+    pub fn new(server: &'a Server, caller: Caller<'b, D>) -> Flusher<'a, 'b, D>
+        ensures { result.caller ≡ caller.entry }
     {
         Flusher {
             server,
@@ -95,76 +65,71 @@ impl<'a, D: ServedDisk> Flusher<'a, D> {
         self.server.operator.note(rt, condition);
     }
 
-    // Notes what a job's end, at this time, shows of the store.
-    fn note_end<R: Wait>(&mut self, rt: &R, end: &End<D, Global>, now: u64)
+    // Notes what the end of a job, at this time, shows of the store.
+    fn note_end<R: Wait>(&mut self, rt: &R, ending: JobEnding, now: u64)
         ensures caller { self.new.caller ≡ self.old.caller }
-        ensures reopenings { self.new.reopenings ≡ after_job self.old.reopenings end.now now }
+        ensures reopenings { self.new.reopenings ≡ after_job self.old.reopenings ending now }
     {
-        self.reopenings.note(end, now);
-        if let Some(condition) = ReportedCondition::shown_by(end) {
+        self.reopenings.note(ending, now);
+        if let Some(condition) = ReportedCondition::shown_by(ending) {
             self.note(rt, condition);
         }
     }
 
-    // Gives back a finished job, and reports what that has caused.
-    fn give_back<R: Wait>(&mut self, rt: &R, finished: Finished<D, Global>)
-        ensures call { GivesBack D.honest (finished_of finished.end) self.old.caller.seat self.new.caller.seat }
+    // Notes that there is no job, and returns how long the flusher sleeps then at most. Where there is nothing to do after
+    // the store broke, a reopening has found all stored.
+    fn note_none<R: Wait>(&mut self, rt: &R, none: NoJob) -> Option<u64>
+        ensures { self.new.caller ≡ self.old.caller }
     {
-        let mut visit = self.server.device.visit();
-        let caused = self.caller.give_back(rt, &mut visit, finished);
-        caused.report(&mut Reporter {
-            rt,
-            server: self.server,
-        });
-    }
-
-    // Runs a job outside the device's turn, and gives its result back.
-    fn run<R: Wait + Clock>(&mut self, rt: &R, job: Job<D, Global>) -> Round
-        ensures call { (end : JobEnd) × IsEndOf job end × GivesBack D.honest end self.old.caller.seat self.new.caller.seat }
-    {
-        self.caller.before_run();
-        let finished = job.run();
-        let round = Round::of(finished.end());
-        let now = self.server.now(rt);
-        self.note_end(rt, finished.end(), now);
-        self.give_back(rt, finished);
-        round
-    }
-
-    // One round: a job is taken and run. Where there is none after the store broke, a reopening has found all stored.
-    fn round<R: Wait + Clock>(&mut self, rt: &R) -> Round
-        ensures calls { (taken : Taken) × MakesRound D.Disk taken self.old.caller.seat self.new.caller.seat }
-    {
-        match self.caller.call(rt, &mut self.server.device.visit(), Take) {
-            Ok(job) => self.run(rt, job),
-            Err(NoJob::Memory) => Round::Failed,
-            Err(NoJob::Out) => Round::Idle,
-            Err(NoJob::Nothing) => {
+        match none {
+            NoJob::Memory => return Some(RETRY_PAUSE),
+            NoJob::Out => {}
+            NoJob::Nothing => {
                 if self.condition == ReportedCondition::Broken {
                     self.note(rt, ReportedCondition::Works);
                 }
-                Round::Idle
             }
+        }
+        None
+    }
+
+    // Makes a round, and reports what it has caused. Returns how long the flusher sleeps after it at most, in milliseconds;
+    // none where it sleeps until there is something to do.
+    fn round<R: Wait + Clock>(&mut self, rt: &R) -> Option<u64>
+        ensures calls { (made : Result CausedByJob AnyNoJob) × CausesByRound D.Disk made self.old.caller.seat self.new.caller.seat }
+    {
+        match self.caller.round(rt) {
+            Ok(caused) => {
+                let ending = caused.ending();
+                let now = self.server.now(rt);
+                self.note_end(rt, ending, now);
+                caused.report(&mut Reporter {
+                    rt,
+                    server: self.server,
+                });
+                Some(pause_after(ending))
+            }
+            Err(none) => self.note_none(rt, none),
         }
     }
 
-    // Makes a round, unless at this time the store broke less than a second ago, within a second of its reopening.
-    fn round_at<R: Wait + Clock>(&mut self, rt: &R, now: u64) -> Round
+    // Makes a round, unless at this time the store broke less than a second ago, within a second of its reopening. Returns
+    // as `round` does, or how long it is until one may be made.
+    fn round_at<R: Wait + Clock>(&mut self, rt: &R, now: u64) -> Option<u64>
         ensures put_off { 0 < left_of_second self.old.reopenings.broken now → self.new.caller ≡ self.old.caller }
         ensures calls { left_of_second self.old.reopenings.broken now ≡ 0
-            → (taken : Taken) × MakesRound D.Disk taken self.old.caller.seat self.new.caller.seat }
+            → (made : Result CausedByJob AnyNoJob) × CausesByRound D.Disk made self.old.caller.seat self.new.caller.seat }
     {
         let left = self.reopenings.time_left(now);
         if left > 0 {
-            return Round::PutOff(left);
+            return Some(left);
         }
         self.round(rt)
     }
 
     // Milliseconds to the next deadline of a lock request.
     fn left<R: Wait + Clock>(&mut self, rt: &R) -> Option<u64> {
-        let mut visit = self.server.device.visit();
-        let deadline = self.caller.call(rt, &mut visit, NextDeadline)?;
+        let deadline = self.caller.call(rt, NextDeadline)?;
         let now = u128::from(self.server.now(rt));
         Some(u64::try_from(deadline.saturating_sub(now)).unwrap_or(u64::MAX))
     }
@@ -181,8 +146,7 @@ impl<'a, D: ServedDisk> Flusher<'a, D> {
         };
         let mut registry = others.lock_registry();
         let now = self.server.now(rt);
-        let mut visit = self.server.device.visit();
-        self.caller.tick(rt, &mut visit, now).pass_on(&mut registry);
+        self.caller.tick(rt, now).pass_on(&mut registry);
         drop(registry);
         self.left(rt)
     }
@@ -210,7 +174,7 @@ impl<'a, D: ServedDisk> Flusher<'a, D> {
             let now = self.server.now(rt);
             let round = self.round_at(rt, now);
             let lock = self.tick(rt);
-            self.sleep(rt, round.limit(), lock);
+            self.sleep(rt, round, lock);
         }
     }
 }

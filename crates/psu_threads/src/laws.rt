@@ -15,12 +15,12 @@ use std::sync::Wait;
 /// The calls that lead from one state of the shared device to another, as the contracts of a session name them, are in
 /// the one legal history: under the number of the thread's seat it has exactly these calls of the session after those
 /// that the seat had made, in their order and with their replies.
-pub fn calls_are_in_the_history<'s, 'c, 'r, R: Wait + Clock, D: ServedDisk>(
-    old: &Snapshot<SharedDevice<'s, 'c, 'r, R, D>>,
-    new: &SharedDevice<'s, 'c, 'r, R, D>,
+pub fn calls_are_in_the_history<'s, 'b, 'r, R: Wait + Clock, D: ServedDisk>(
+    old: &Snapshot<SharedDevice<'s, 'b, 'r, R, D>>,
+    new: &SharedDevice<'s, 'b, 'r, R, D>,
 )
-    ensures { (calls : List Call) → Runs ⟦<SharedDevice<'s, 'c, 'r, R, D> as Device>⟧.does old.now.value calls new.now
-        → AreCalls D.honest old.now.value.session old.now.value.caller.now.seat calls new.now.caller.now.seat }
+    ensures { (calls : List Call) → Runs ⟦<SharedDevice<'s, 'b, 'r, R, D> as Device>⟧.does old.now.value calls new.now
+        → AreCalls D.honest old.now.value.session old.now.value.caller.seat calls new.now.caller.seat }
 {
     let _ = old;
     let _ = new;
@@ -40,8 +40,8 @@ pub fn calls_are_in_the_history<'s, 'c, 'r, R: Wait + Clock, D: ServedDisk>(
 ///
 /// Each seat has seen a history of its own, as far as the thread has called. Any two seats of a bench may be joined
 /// (`Bench::join`): they have then seen one legal history, which has the calls of both.
-pub fn each_response_is_of_the_history<'s, 'c, 'r, R: Wait + Clock + 'r, D: ServedDisk + 'c>()
-    ensures each { EachResponseIsOfTheHistory D.honest ⟦<SharedDevice<'s, 'c, 'r, R, D> as Device>⟧.does (λ x. x.session) (λ x. x.caller.now.seat) }
+pub fn each_response_is_of_the_history<'s, 'b, 'r, R: Wait + Clock + 'r, D: ServedDisk + 'b>()
+    ensures each { EachResponseIsOfTheHistory D.honest ⟦<SharedDevice<'s, 'b, 'r, R, D> as Device>⟧.does (λ x. x.session) (λ x. x.caller.seat) }
     ensures one { OneResponseIsSent }
 {
     histories_are_exchanges();

@@ -1,20 +1,18 @@
-//! What all threads of a server share.
+//! What all threads of a server share beside the device.
 use crate::flusher_signal::FlusherSignal;
 use crate::operator::Operator;
 use crate::registry::Registry;
-use psu_bench::DeviceLock;
 use std::alloc::Global;
 use std::rt::Clock;
 use std::sync::{Mutex, Wait};
 use std::time::Instant;
 
-/// What all threads of a server share: the open sessions, the lock of the device, what the flusher waits on,
-/// and what an operator is to read.
+/// What all threads of a server share beside the device: the open sessions, what the flusher waits on, and what an
+/// operator is to read.
 #[derive(Drop)]
 pub struct Server {
     pub alloc: Global,
     pub registry: Mutex<Registry>,
-    pub device: DeviceLock,
     pub flusher_signal: FlusherSignal,
     pub operator: Operator,
     started: Instant,
@@ -26,7 +24,6 @@ impl Server {
         Server {
             alloc,
             registry: Mutex::new(Registry::new()),
-            device: DeviceLock::new(),
             flusher_signal: FlusherSignal::new(),
             operator: Operator::new(),
             started,

@@ -6,7 +6,7 @@ use crate::responding::{AsyncReader, Notifier};
 use crate::server::Server;
 use crate::serving::Serving;
 use crate::shared_device::{OfSession, SharedDevice};
-use psu_bench::{Caller, ServedDisk};
+use psu_bench::{Access, Caller, ServedDisk};
 use psu_messages::READ_SIZE;
 use psu_session_io::{Asynchronous, Connection, Link, ServedSession, StepDevice, Synchronous, run};
 use std::alloc::Global;
@@ -65,69 +65,53 @@ impl<'s, 'v, D: StepDevice + OfSession + Drop> SessionThread<'s, 'v, D> {
         }
     }
 
-    // Reads the synchronous connection.
-    fn read<R: Wait + Clock>(
-        self,
-        rt: &R,
-        connection: Connection<Synchronous>,
-        opened: Instant,
-    ) -> io::Result<()> {
-        let space = space(self.server.alloc, READ_SIZE)?;
-        let serving = self.on(connection);
-        let mut reader = SyncReader {
-            serving,
-            opened,
-            limited: true,
-            space,
-        };
-        run(rt, &mut reader);
-        Ok(())
-    }
-
-    // Works on the synchronous connection.
-    fn work<R: Wait + Clock>(self, rt: &R, link: Arc<Link>) {
+    // Returns what the thread works with on a connection over this link, of which nothing is read yet.
+    fn over<S>(self, link: Arc<Link>) -> Serving<'s, 'v, S, D>
+        ensures { D.session result.device ≡ result.served.now.number }
+    {
         let connection = Connection::new(link, Vec::new(self.server.alloc));
-        let serving = self.on(connection);
-        run(rt, &mut Worker { serving });
-    }
-
-    // Reads the asynchronous connection.
-    fn listen<R: Wait + Clock>(
-        self,
-        rt: &R,
-        connection: Connection<Asynchronous>,
-    ) -> io::Result<()> {
-        let space = space(self.server.alloc, READ_SIZE)?;
-        let serving = self.on(connection);
-        run(rt, &mut AsyncReader { serving, space });
-        Ok(())
-    }
-
-    // Notifies on the asynchronous connection.
-    fn notify<R: Wait + Clock>(self, rt: &R, link: Arc<Link>) {
-        let connection = Connection::new(link, Vec::new(self.server.alloc));
-        let serving = self.on(connection);
-        run(rt, &mut Notifier { serving });
+        self.on(connection)
     }
 
     // Does what its role is, until the session is over.
     fn run_as<R: Wait + Clock>(self, rt: &R, role: Role) -> io::Result<()> {
+        let alloc = self.server.alloc;
         match role {
-            Role::Read(connection, opened) => self.read(rt, connection, opened)?,
-            Role::Work(link) => self.work(rt, link),
-            Role::Listen(connection) => self.listen(rt, connection)?,
-            Role::Notify(link) => self.notify(rt, link),
+            Role::Read(connection, opened) => {
+                let space = space(alloc, READ_SIZE)?;
+                let serving = self.on(connection);
+                let mut reader = SyncReader {
+                    serving,
+                    opened,
+                    limited: true,
+                    space,
+                };
+                run(rt, &mut reader);
+            }
+            Role::Work(link) => {
+                let serving = self.over(link);
+                run(rt, &mut Worker { serving });
+            }
+            Role::Listen(connection) => {
+                let space = space(alloc, READ_SIZE)?;
+                let serving = self.on(connection);
+                run(rt, &mut AsyncReader { serving, space });
+            }
+            Role::Notify(link) => {
+                let serving = self.over(link);
+                run(rt, &mut Notifier { serving });
+            }
         }
         Ok(())
     }
 }
 
-/// Serves a session in this thread until the session is over. An error where memory for it is refused.
-pub fn serve_session<R: Wait + Clock, D: ServedDisk>(
+// Serves a session by this caller.
+fn serve_by<R: Wait + Clock, D: ServedDisk>(
     rt: &R,
     server: &Server,
     served: &ServedSession,
-    caller: &mut Caller<D>,
+    caller: Caller<'_, D>,
     role: Role,
 ) -> io::Result<()> {
     let device = SharedDevice::new(rt, server, served.number, caller);
@@ -137,4 +121,16 @@ pub fn serve_session<R: Wait + Clock, D: ServedDisk>(
         device,
     };
     thread.run_as(rt, role)
+}
+
+/// Serves a session in this thread until the session is over. An error where memory for it is refused.
+pub fn serve_session<R: Wait + Clock, D: ServedDisk>(
+    rt: &R,
+    server: &Server,
+    served: &ServedSession,
+    access: Access<D>,
+    role: Role,
+) -> io::Result<()> {
+    let Access { bench, seat, gate } = access;
+    serve_by(rt, server, served, Caller::new(&bench, seat, gate), role)
 }

@@ -1,11 +1,14 @@
 //! The shared device as the device of a session.
 ghost use Rattle.std.specs.Prelude.{◌≡◌};
+ghost use Rattle.psu_exec.specs.Shown.{outcome_of};
+ghost use Rattle.psu_bench.specs.Callers.{MakesCall};
+ghost use Rattle.psu_bench.specs.Tries.{tried};
 ghost use Rattle.psu_threads.specs.Called.{IsCalled};
 
 use crate::reporter::Reporter;
 use crate::server::Server;
-use psu_bench::operations::{Clear, Fetch, Inform, MarkDelivered, Query};
-use psu_bench::{Caller, Caused, Others, ServedDisk, Visit};
+use psu_bench::operations::{Clear, Fetch, Inform, MarkDelivered, Query, Try};
+use psu_bench::{Caller, Others, ServedDisk};
 use psu_exec::{Freed, Grant, Info, Kind, LockRefusal, Outcome, Request, Session};
 use psu_session::Device;
 use psu_session_io::StepDevice;
@@ -16,22 +19,21 @@ use std::sync::Wait;
 /// The shared device as the device of a session, in a thread that executes it. Each call of the session is a call of
 /// the device under the seat of the thread's caller, and what it causes is reported to the other threads.
 #[derive(Drop)]
-pub struct SharedDevice<'s, 'c, 'r, R: Wait, D: ServedDisk> {
+pub struct SharedDevice<'s, 'b, 'r, R: Wait, D: ServedDisk> {
     pub rt: &'r R,
     pub server: &'s Server,
     pub session: Session,
-    pub caller: &'c mut Caller<D>,
-    visit: Visit<'s>,
+    pub caller: Caller<'b, D>,
 }
 
-impl<'s, 'c, 'r, R: Wait, D: ServedDisk> SharedDevice<'s, 'c, 'r, R, D> {
+impl<'s, 'b, 'r, R: Wait, D: ServedDisk> SharedDevice<'s, 'b, 'r, R, D> {
     /// Returns the device of a session for a thread of it.
     pub fn new(
         rt: &'r R,
         server: &'s Server,
         session: Session,
-        caller: &'c mut Caller<D>,
-    ) -> SharedDevice<'s, 'c, 'r, R, D>
+        caller: Caller<'b, D>,
+    ) -> SharedDevice<'s, 'b, 'r, R, D>
         ensures session { result.session ≡ session }
         ensures caller { result.caller ≡ caller.entry }
     {
@@ -40,70 +42,61 @@ impl<'s, 'c, 'r, R: Wait, D: ServedDisk> SharedDevice<'s, 'c, 'r, R, D> {
             server,
             session,
             caller,
-            visit: server.device.visit(),
         }
     }
 
-    // Returns what reports to the other threads. The lock of the device is released before, since the registry is locked
+    // Returns what reports to the other threads. The mutex of the device is released before, since the registry is locked
     // first where both are.
     fn others(&mut self) -> Reporter<'s, 'r, R>
         ensures { self.new ≡ self.old }
     {
-        self.visit.leave();
+        self.caller.leave();
         Reporter {
             rt: self.rt,
             server: self.server,
         }
     }
 
-    // Reports to the other threads what a call may have caused.
-    fn report(&mut self, caused: Option<Caused>)
-        ensures { self.new ≡ self.old }
+    // Tries a unit, and reports to the other threads what that may have caused.
+    fn try_unit(&mut self, how: Try<'_, '_>) -> Outcome<Global>
+        ensures session { self.new.session ≡ self.old.session }
+        ensures call { MakesCall D.honest self.old.caller.seat (tried self.old.session how.entry (outcome_of result)) self.new.caller.seat }
     {
+        let (outcome, caused) = self.caller.try_unit(self.rt, self.session, how);
         if let Some(caused) = caused {
             caused.report(&mut self.others());
         }
+        outcome
     }
 }
 
-impl<'s, 'c, 'r, R: Wait + Clock, D: ServedDisk> Device for SharedDevice<'s, 'c, 'r, R, D> {
-    ghost does = { λ x call y. (y.caller.ghost_name ≡ x.caller.ghost_name) × (y.session ≡ x.session)
-        × IsCalled D.honest x.session x.caller.now.seat call y.caller.now.seat };
+impl<'s, 'b, 'r, R: Wait + Clock, D: ServedDisk> Device for SharedDevice<'s, 'b, 'r, R, D> {
+    ghost does = { λ x call y. (y.session ≡ x.session)
+        × IsCalled D.honest x.session x.caller.seat call y.caller.seat };
 
     fn execute(&mut self, request: &Request<'_>) -> Outcome<Global> {
-        let (outcome, caused) = self
-            .caller
-            .execute(self.rt, &mut self.visit, self.session, request);
-        self.report(caused);
-        outcome
+        self.try_unit(Try::Execute(request))
     }
 
     fn settle(&mut self) -> Outcome<Global> {
-        let (outcome, caused) = self.caller.settle(self.rt, &mut self.visit, self.session);
-        self.report(caused);
-        outcome
+        self.try_unit(Try::Settle)
     }
 
     fn mark_sent(&mut self) {
-        let caused = self
-            .caller
-            .mark_sent(self.rt, &mut self.visit, self.session);
+        let caused = self.caller.mark_sent(self.rt, self.session);
         caused.report(&mut self.others());
     }
 
     fn mark_delivered(&mut self) {
-        self.caller
-            .call(self.rt, &mut self.visit, MarkDelivered(self.session));
+        self.caller.call(self.rt, MarkDelivered(self.session));
     }
 
     fn query(&mut self) -> u8 {
-        self.caller
-            .call(self.rt, &mut self.visit, Query(self.session))
+        self.caller.call(self.rt, Query(self.session))
     }
 
     fn fetch(&mut self) -> Option<u8> {
-        self.caller
-            .call(self.rt, &mut self.visit, Fetch(self.session))
+        self.caller.call(self.rt, Fetch(self.session))
     }
 
     // The registry is locked meanwhile, as it is at a release: the results of other requests have been passed on then.
@@ -111,9 +104,7 @@ impl<'s, 'c, 'r, R: Wait + Clock, D: ServedDisk> Device for SharedDevice<'s, 'c,
         let others = self.others();
         let registry = others.lock_registry();
         let now = self.server.now(self.rt);
-        let (reply, caused) = self
-            .caller
-            .lock(self.rt, &mut self.visit, self.session, kind, now, timeout);
+        let (reply, caused) = self.caller.lock(self.rt, self.session, kind, now, timeout);
         drop(registry);
         caused.report(&mut self.others());
         if let Ok(Grant::Granted) = reply {
@@ -126,18 +117,17 @@ impl<'s, 'c, 'r, R: Wait + Clock, D: ServedDisk> Device for SharedDevice<'s, 'c,
     fn release(&mut self) -> Result<Freed, LockRefusal> {
         let others = self.others();
         let mut registry = others.lock_registry();
-        let (freed, granted) = self.caller.release(self.rt, &mut self.visit, self.session)?;
+        let (freed, granted) = self.caller.release(self.rt, self.session)?;
         granted.pass_on(&mut registry);
         Ok(freed)
     }
 
     fn inform(&mut self) -> Info {
-        self.caller.call(self.rt, &mut self.visit, Inform)
+        self.caller.call(self.rt, Inform)
     }
 
     fn clear(&mut self) {
-        self.caller
-            .call(self.rt, &mut self.visit, Clear(self.session));
+        self.caller.call(self.rt, Clear(self.session));
         self.others().wake(self.session);
     }
 }
@@ -150,12 +140,12 @@ pub trait OfSession {
     ghost session: { Self → ℕ };
 }
 
-impl<'s, 'c, 'r, R: Wait, D: ServedDisk> OfSession for SharedDevice<'s, 'c, 'r, R, D> {
+impl<'s, 'b, 'r, R: Wait, D: ServedDisk> OfSession for SharedDevice<'s, 'b, 'r, R, D> {
     ghost session = { λ d. d.session };
 }
 
-impl<'s, 'c, 'r, R: Wait + Clock, D: ServedDisk> StepDevice for SharedDevice<'s, 'c, 'r, R, D> {
+impl<'s, 'b, 'r, R: Wait + Clock, D: ServedDisk> StepDevice for SharedDevice<'s, 'b, 'r, R, D> {
     fn end_step(&mut self) {
-        self.visit.leave();
+        self.caller.leave();
     }
 }

@@ -1,5 +1,5 @@
 //! The command of a unit.
-ghost use Rattle.std.specs.Prelude.{◌≡◌, List, [], OnOk, map};
+ghost use Rattle.std.specs.Prelude.{◌≡◌, List, [], None, Err, OnOk, map};
 ghost use Rattle.psu_lex.specs.Message.{part};
 ghost use Rattle.psu_lex.specs.Names.{is_label};
 ghost use Rattle.psu_lex.specs.Shown.{HoldsData, ShowsHeader, ShowsSyntax};
@@ -95,18 +95,30 @@ fn is_call(header: &UnitHeader<'_>) -> bool
     !header.asks && is_label(header.text)
 }
 
-// Returns the macro call that a unit may be.
-fn call_of<'a>(parts: &Syntax<'a>) -> Option<MacroCall<'a>>
-    ensures { (given : Parts) → ShowsSyntax parts.now given → SyntaxCalls (Ok given) result }
+// Puts the macro call that a unit may be in the place of an earlier one, where it is written once.
+fn put_call<'a>(call: &mut Option<MacroCall<'a>>, parts: &Syntax<'a>)
+    ensures { (given : Parts) → ShowsSyntax parts.now given → SyntaxCalls (Ok given) call.new }
 {
     if is_call(&parts.header) {
-        Some(MacroCall {
+        *call = Some(MacroCall {
             label: parts.header.text,
             args: parts.parameters,
-        })
+        });
     } else {
-        None
+        *call = None;
     }
+}
+
+// Puts the error of a unit's syntax in the place of an earlier request. It is not inlined, so that a unit without such an
+// error does not pay for its variables.
+#[inline(never)]
+fn put_error(request: &mut Request<'_>, error: ScpiError)
+    ensures call { request.new.call ≡ None }
+    ensures reading { request.new.reading ≡ Err error }
+    ensures inside { request.new.inside ≡ request.old.inside }
+{
+    request.call = None;
+    request.reading = Err(error);
 }
 
 // Moves the path to a header's nodes without the last, taking the last out of the words; a common header leaves the
@@ -160,8 +172,7 @@ pub fn request_into<'a>(
     let parts = match given {
         Ok(parts) => parts,
         Err(error) => {
-            request.call = None;
-            request.reading = Err(*error);
+            put_error(request, *error);
             return;
         }
     };
@@ -170,6 +181,6 @@ pub fn request_into<'a>(
     if reading.is_ok() {
         move_path(path, &mut words, parts.header.mark);
     }
-    request.call = call_of(parts);
+    put_call(&mut request.call, parts);
     request.reading = reading;
 }

@@ -1,5 +1,5 @@
 use Rattle.std.proofs.Common.{ℕ, List, Some, subst}
-use Rattle.psu_run.specs.Results.{WritesRun}
+use Rattle.psu_run.specs.Runs.{WritesRun}
 use Rattle.psu_guide.proofs.play.written.Goals as goal
 
 -- the writer held nothing
@@ -11,4 +11,4 @@ returns-in-Ok-clause-whole g c = λ h. (
 )
 
 pub returns-in-Err-clause-early : goal.returns-in-Err-clause-early
-returns-in-Err-clause-early g c = λ h. (c.in-Err.fault.disk, c.run.new.reader.now, c.in-Err.ensures.cause h)
+returns-in-Err-clause-early g c = λ h. (c.in-Err.fault.disk, c.run.new.reader.now, c.run.new.writer.items, rw c.new-text.ensures.items at (c.in-Err.ensures.early h))

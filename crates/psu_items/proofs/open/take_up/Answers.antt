@@ -10,6 +10,7 @@ invariant_of-result g c = record {
     holds = λ h. shown_back c.args.pages c.read_back.new.pages c.in-Ok.items c.requires.sure h (c.in-Ok.ensures.shown h) (c.in-Ok.ensures.found h);
   };
   spare = c.in-Ok.ensures.spare;
+  confirmed = c.in-Ok.ensures.confirmed;
 }
 
 pub returns-in-Ok-clause-represents : goal.returns-in-Ok-clause-represents

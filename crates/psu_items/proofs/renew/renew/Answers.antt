@@ -26,7 +26,7 @@ returns-in_default-clause-left g c = record {
 
 pub returns-in_default-lay_out-clause-same : goal.returns-in_default-lay_out-clause-same
 returns-in_default-lay_out-clause-same g c = λ memory.
-    (c.lay_out.ensures.roots, record { shows = still_shows c.args.pages.now c.lay_out.new.pages c.lay_out.ensures.roots c.args.before.now c.requires.keeps.shows; spare = c.in_default-lay_out.ensures.spare })
+    (c.lay_out.ensures.roots, record { shows = still_shows c.args.pages.now c.lay_out.new.pages c.lay_out.ensures.roots c.args.before.now c.requires.keeps.shows; spare = c.in_default-lay_out.ensures.spare; confirmed = rw c.lay_out.ensures.roots.disk c.requires.keeps.confirmed })
 
 pub returns-in_default-lay_out-clause-left : goal.returns-in_default-lay_out-clause-left
 returns-in_default-lay_out-clause-left g c = record {
@@ -63,7 +63,7 @@ put-requires-clause-kept g c =
     (subst (ShowsMap c.lay_out.new.pages) (sym c.in-Ok.ensures.before) (still_shows c.args.pages.now c.lay_out.new.pages c.lay_out.ensures.roots c.args.before.now c.requires.keeps.shows))
 
 pub returns-in-Ok-put-clause-keeps : goal.returns-in-Ok-put-clause-keeps
-returns-in-Ok-put-clause-keeps g c = record { shows = subst (ShowsMap c.put.new.pages) c.in-Ok.ensures.aimed c.in-Ok-put.ensures.shows; spare = c.in-Ok-put.ensures.spare }
+returns-in-Ok-put-clause-keeps g c = record { shows = subst (ShowsMap c.put.new.pages) c.in-Ok.ensures.aimed c.in-Ok-put.ensures.shows; spare = c.in-Ok-put.ensures.spare; confirmed = c.in-Ok-put.ensures.confirmed }
 
 pub returns-in-Ok-put-clause-left : goal.returns-in-Ok-put-clause-left
 returns-in-Ok-put-clause-left g c = record {

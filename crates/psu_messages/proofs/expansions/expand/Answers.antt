@@ -1,9 +1,17 @@
-use Rattle.std.proofs.Common.{◌∙◌, true, arith, ap}
+use Rattle.std.proofs.Common.{◌∙◌, is_some, true, arith, ap, refl}
 use Rattle.psu_messages.proofs.Cursors.{continues, none_behind, unit_is}
-use Rattle.psu_messages.proofs.Going.{behind, passed_on, stops_on}
+use Rattle.psu_messages.proofs.Going.{behind, passed_on, stay, stops_on}
 use Rattle.psu_messages.proofs.Inside.{inside_at, leaves_all}
 use Rattle.psu_messages.proofs.Outside.{behind_out}
 use Rattle.psu_messages.proofs.expansions.expand.Goals as goal
+
+pub units-init : goal.units-init
+units-init g c = record {
+  place = c.pass_to.ensures.place (c.of-cursor.ensures.place true);
+  text = ap (λ t. t.now) c.pass_to.ensures.text ∙ c.of-cursor.ensures.text;
+  read = c.pass_to.ensures.count (omega (arith, c.of-cursor.ensures.read));
+  advances = λ source units. stay g.F.Executor.relations.does source c.args.executor.now c.args.executor.now _ refl;
+}
 
 pub returns-in_err-step-clause-stops : goal.returns-in_err-step-clause-stops
 returns-in_err-step-clause-stops g c =
@@ -37,5 +45,5 @@ units-preserved g c =
 pub returns-clause-advances : goal.returns-clause-advances
 returns-clause-advances g c = λ source units.
     behind g.F.Executor.relations.does source c.args.executor.now c.units.executor c.units.executor _ _ _ (c.units.invariant.advances source units)
-    (leaves_all g.F.Executor.relations.does source c.units.executor units c.args.body.now c.units.done c.units.parked c.units.gathered
+    (leaves_all g.F.Executor.relations.does source c.units.executor units c.args.body.now c.units.done (is_some c.units.parked) c.units.gathered
     (behind_out c.args.body.now c.units.done c.units.cursor c.units.invariant.text c.units.invariant.read (none_behind true c.units.cursor c.units.invariant.place c.in_default.ensures.none)))

@@ -1,9 +1,8 @@
 use Rattle.std.proofs.Common.{◌≡◌, List, [], ◌∷◌, ◌++◌, ap, arith, inr, refl}
-use Rattle.psu_run.proofs.Common.{Called, Executed, Executes, Parked, RunStep, Serves, outcome_of}
+use Rattle.psu_run.proofs.Common.{Called, Executed, Parked, RunStep, Serves, outcome_of}
 use Rattle.psu_run.proofs.Fronts.{passed}
 use Rattle.psu_run.proofs.Going.{steps_call, steps_then, device_stops_then}
 use Rattle.psu_run.proofs.UnitEnds.{late_full}
-use Rattle.psu_run.proofs.Walking.{begins_then}
 use Rattle.psu_run.proofs.acting.act.Goals as goal
 
 pub returns-then-not-is_parked-clause-tried : goal.returns-then-not-is_parked-clause-tried
@@ -13,9 +12,9 @@ pub returns-in_err-outcome-clause-stops : goal.returns-in_err-outcome-clause-sto
 returns-in_err-outcome-clause-stops g c =
     let request = c.args.request.now in
     passed c.from_residual.result c.in_err-outcome.field-0.0 _ c.from_residual.ensures.1
-    (device_stops_then _ _ _ (Executes (request ∷ [])) _ _ _
-    (steps_call _ _ (Executed 1 request (outcome_of c.execute-outcome.result)) _ (grind arith) c.execute-outcome.ensures.idle_store (grind arith) (λ life d e. e) (λ image. tt) (λ e. e) ([], refl, grind arith))
-    c.in_err-outcome.ensures.stops (λ xs ys e b. begins_then xs ys (request ∷ []) [] e b))
+    (device_stops_then _ _ _ (λ xs. xs ≡ Called (Executed 1 request Parked) ∷ []) _ _ _
+    (steps_call _ _ (Executed 1 request (outcome_of c.execute-outcome.result)) _ (grind arith) c.execute-outcome.ensures.idle_store (grind arith) (λ life d e. e) (λ image. tt) (λ e. e) (grind arith))
+    c.in_err-outcome.ensures.stops (λ xs ys e b. rw e ([], refl, b)))
 
 pub returns-clause-tried : goal.returns-clause-tried
 returns-clause-tried g c =

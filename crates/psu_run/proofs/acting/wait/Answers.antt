@@ -1,9 +1,9 @@
-use Rattle.std.proofs.Common.{[], arith}
+use Rattle.std.proofs.Common.{arith}
 use Rattle.psu_run.proofs.Common.{Serves, Settled, outcome_of}
 use Rattle.psu_run.proofs.SessionOne.{no_wait}
 use Rattle.psu_run.proofs.Going.{steps_as}
 use Rattle.psu_run.proofs.UnitEnds.{steps_wait, device_stops_cleared}
-use Rattle.psu_run.proofs.Walking.{begins_all, wait_executes}
+use Rattle.psu_run.proofs.Walking.{wait_begins}
 use Rattle.psu_run.proofs.acting.wait.Goals as goal
 
 pub returns-in-Err-clause-stops : goal.returns-in-Err-clause-stops
@@ -18,7 +18,7 @@ returns-clause-stops g c =
     let serves : Serves c.flush.new.exec.device (Settled 1 reply) c.settle-outcome.new.self.device = grind arith in
     let waits = steps_wait _ _ _ reply c.in-Ok.ensures.flushes serves c.settle-outcome.ensures.idle_store in
     device_stops_cleared _ c.settle-outcome.new.self _ _ (record {
-      leads = steps_as _ _ _ _ waits (λ steps w. begins_all [] steps (wait_executes reply steps w));
+      leads = steps_as _ _ _ _ waits (λ steps w. wait_begins reply steps w);
       why = λ before t. let left = c.in-Ok.ensures.clean before t in grind arith;
     }) (grind arith) c.clear-2.ensures.idle_store
 

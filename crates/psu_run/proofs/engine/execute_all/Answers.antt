@@ -1,6 +1,6 @@
-use Rattle.std.proofs.Common.{[], inr}
+use Rattle.std.proofs.Common.{[]}
 use Rattle.std.proofs.KnownBytes.{Consumes-nil}
-use Rattle.psu_run.proofs.Common.{Memory, held, messages}
+use Rattle.psu_run.proofs.Common.{Memory, held}
 use Rattle.psu_run.proofs.Feeding.{fed_none}
 use Rattle.psu_run.proofs.Fronts.{passed}
 use Rattle.psu_run.proofs.Input.{no_reads}
@@ -10,7 +10,7 @@ use Rattle.psu_run.proofs.engine.execute_all.Goals as goal
 pub returns-in_default-clause-early : goal.returns-in_default-clause-early
 returns-in_default-clause-early g c =
     let u = g.W.Write.contents c.args.writer.now in
-    read_front [] _ _ u u (Consumes-nil (g.R.Source.remaining c.args.reader.now)) (fed_none messages c.args.powered.exec (held u [])) _ Memory c.fault.result c.fault.ensures tt (λ e. cc) (λ rest last. inr tt)
+    read_front [] [] _ _ u u (Consumes-nil (g.R.Source.remaining c.args.reader.now)) (fed_none [] c.args.powered.exec (held u [])) _ Memory c.fault.result c.fault.ensures tt (λ e. cc)
 
 pub returns-in_default-clause-reads : goal.returns-in_default-clause-reads
 returns-in_default-clause-reads g c = no_reads 65536 (g.R.Source.remaining c.args.reader.now) (g.R.Source.reads c.args.reader.now)

@@ -1,9 +1,9 @@
 use Rattle.std.proofs.Common.{◌≤◌, ◌∙◌, ◌+◌, ◌++◌, [], take, inl, inr, refl, sym, arith}
-use Rattle.psu_run.proofs.Common.{coming, held, messages}
+use Rattle.psu_run.proofs.Common.{held}
 use Rattle.psu_run.specs.declared.run_cause.RunCause.TheVariants.{Read, TooLong}
 use Rattle.psu_run.proofs.Feeding.{fed_none, fed_then}
 use Rattle.psu_run.proofs.Fronts.{passed}
-use Rattle.psu_run.proofs.Reading.{cut_after, cut_front, end_stop, read_all, read_end, read_front, read_stop, stopped_by, taken_more}
+use Rattle.psu_run.proofs.Reading.{cut_after, cut_front, end_stop, read_all, read_end, read_fault, read_front, taken_more}
 use Rattle.psu_run.proofs.Input.{further_more, further_none, read_failed, read_more, read_none, read_start}
 use Rattle.psu_run.proofs.engine.execute_pieces.Goals as goal
 
@@ -12,48 +12,48 @@ reading-init g c = record {
   seen = [];
   has = read_start _ (g.R.Source.remaining c.args.reader.now) (g.R.Source.reads c.args.reader.now) c.new-intake.ensures.reads;
   taken = sym c.new-intake.ensures.bytes;
-  fed = rw (c.new-lines.ensures.over, c.new-lines.ensures.empty) (fed_none messages c.args.powered.exec (held (g.W.Write.contents c.args.writer.now) []));
+  fed = rw c.new-lines.ensures (fed_none [] c.args.powered.exec (held (g.W.Write.contents c.args.writer.now) []));
 }
 
 pub returns-in_default-clause-early : goal.returns-in_default-clause-early
-returns-in_default-clause-early g c = read_front c.reading.invariant.seen _ _ _ _ c.reading.invariant.has.taken c.reading.invariant.fed _ Read c.fault.result c.fault.ensures tt (λ w. cc) (λ rest last. inl tt)
+returns-in_default-clause-early g c = read_front c.reading.lines.line.items c.reading.invariant.seen _ _ _ _ c.reading.invariant.has.taken c.reading.invariant.fed _ Read c.fault.result c.fault.ensures tt (λ w. cc)
 
 pub returns-then-count-eq0-clause-whole : goal.returns-then-count-eq0-clause-whole
 returns-then-count-eq0-clause-whole g c =
-    read_end c.reading.invariant.seen _ _ _ _ c.reading.invariant.has.taken c.reading.invariant.fed c.in_ok-disk.disk _ _ (rw c.if-count-eq0.true at c.in-Ok.ensures.bytes.0)
+    read_end c.reading.lines.line.items c.reading.invariant.seen _ _ _ _ c.reading.invariant.has.taken c.reading.invariant.fed c.in_ok-disk.disk _ _ (rw c.if-count-eq0.true at c.in-Ok.ensures.bytes.0)
     (c.in-Ok.ensures.bytes.1 c.if-count-eq0.true (omega (arith, c.requires.room, c.reading.auto.piece, c.read_into.auto.piece))) c.in_ok-disk.ensures.whole
 
 pub returns-in_err-disk-clause-early : goal.returns-in_err-disk-clause-early
 returns-in_err-disk-clause-early g c =
     passed c.from_residual.result c.in_err-disk.field-0.0 _ c.from_residual.ensures.1
-    (end_stop c.reading.invariant.seen _ _ _ _ c.reading.invariant.has.taken c.reading.invariant.fed _ c.in_err-disk.field-0.0 _ _ (rw c.if-count-eq0.true at c.in-Ok.ensures.bytes.0)
+    (end_stop c.reading.lines.line.items c.reading.invariant.seen _ _ _ _ c.reading.invariant.has.taken c.reading.invariant.fed _ c.in_err-disk.field-0.0 _ _ (rw c.if-count-eq0.true at c.in-Ok.ensures.bytes.0)
     (c.in-Ok.ensures.bytes.1 c.if-count-eq0.true (omega (arith, c.requires.room, c.reading.auto.piece, c.read_into.auto.piece))) c.in_err-disk.ensures.early)
 
 pub returns-in_err-powered-clause-early : goal.returns-in_err-powered-clause-early
 returns-in_err-powered-clause-early g c =
     passed c.from_residual-in_err-powered.result c.in_err-powered.field-0.0 _ c.from_residual-in_err-powered.ensures.1
-    (cut_front c.reading.invariant.seen _ _ _ _ c.reading.invariant.has.taken c.reading.invariant.fed _ c.room-room.result c.in-Ok.count c.read_into.new.piece c.in_err-powered.field-0.0 _ _ (omega (arith, c.if-count-room.true)) c.in-Ok.ensures.bytes.0 c.in_err-powered.ensures.early)
+    (cut_front c.reading.lines.line.items c.reading.invariant.seen _ _ _ _ c.reading.invariant.has.taken c.reading.invariant.fed _ c.room-room.result c.in-Ok.count c.read_into.new.piece c.in_err-powered.field-0.0 _ _ (omega (arith, c.if-count-room.true)) c.in-Ok.ensures.bytes.0 c.in_err-powered.ensures.early)
 
 pub returns-then-count-room-clause-early : goal.returns-then-count-room-clause-early
 returns-then-count-room-clause-early g c =
     let has = read_more c.in-Ok.count c.read_into.new.piece c.reading.invariant.has c.in-Ok.ensures.bytes.0 c.in-Ok.ensures.counted.1 c.if-count-eq0.false c.in-Ok.ensures.bound.0 c.count_read.ensures.reads in
     let all = taken_more c.reading.invariant.seen c.read_into.new.piece c.in-Ok.count _ _ _ c.reading.invariant.taken c.in-Ok.ensures.bound.0 c.count_read.ensures.bytes refl in
-    cut_after c.reading.invariant.seen _ _ _ _ c.reading.invariant.has.taken c.reading.invariant.fed _ (coming c.answer.new.lines.is_too_long c.answer.new.lines.line.items) c.room-room.result c.in-Ok.count c.read_into.new.piece
-    c.in_ok-powered.powered.exec TooLong c.fault-then-count-room.result _ _ (omega (arith, c.if-count-room.true)) c.in-Ok.ensures.bytes.0 c.in_ok-powered.ensures.whole c.fault-then-count-room.ensures tt (λ w. cc)
-    (λ rest last. inl (_, _, has, inl (omega (arith, all, c.room-room.ensures, c.if-count-room.true, c.count_read.ensures.bytes))))
+    cut_after c.reading.lines.line.items c.reading.invariant.seen _ _ _ _ c.reading.invariant.has.taken c.reading.invariant.fed _ c.answer.new.lines.line.items c.room-room.result c.in-Ok.count c.read_into.new.piece
+    c.in_ok-powered.powered.exec TooLong c.fault-then-count-room.result _ _ (omega (arith, c.if-count-room.true)) c.in-Ok.ensures.bytes.0 c.in_ok-powered.ensures.whole c.fault-then-count-room.ensures
+    (_, _, has, inl (omega (arith, all, c.room-room.ensures, c.if-count-room.true, c.count_read.ensures.bytes))) (λ w. cc)
 
 pub returns-in_err-powered-2-clause-early : goal.returns-in_err-powered-2-clause-early
 returns-in_err-powered-2-clause-early g c =
     let fault = c.in_err-powered-2.field-0.0 in let piece = take c.in-Ok.count c.read_into.new.piece in
     passed c.from_residual-in_err-powered-2.result fault _ c.from_residual-in_err-powered-2.ensures.1
-    (read_stop c.reading.invariant.seen _ _ _ _ c.reading.invariant.has.taken c.reading.invariant.fed _ piece fault _ _ c.in-Ok.ensures.bytes.0 (stopped_by _ (coming c.reading.lines.is_too_long c.reading.lines.line.items) piece c.reading.powered.exec fault _ _ c.in_err-powered-2.ensures.early))
+    (read_fault c.reading.lines.line.items c.reading.invariant.seen _ _ _ _ c.reading.invariant.has.taken c.reading.invariant.fed _ piece fault _ _ c.in-Ok.ensures.bytes.0 c.in_err-powered-2.ensures.early)
 
 pub reading-preserved : goal.reading-preserved
 reading-preserved g c = record {
   seen = c.reading.invariant.seen ++ take c.in-Ok.count c.read_into.new.piece;
   has = read_more c.in-Ok.count c.read_into.new.piece c.reading.invariant.has c.in-Ok.ensures.bytes.0 c.in-Ok.ensures.counted.1 c.if-count-eq0.false c.in-Ok.ensures.bound.0 (c.count_bytes.ensures.reads ∙ c.count_read.ensures.reads);
   taken = taken_more c.reading.invariant.seen c.read_into.new.piece c.in-Ok.count _ _ _ c.reading.invariant.taken c.in-Ok.ensures.bound.0 c.count_read.ensures.bytes c.count_bytes.ensures.bytes;
-  fed = fed_then messages c.reading.invariant.seen (take c.in-Ok.count c.read_into.new.piece) (held (g.W.Write.contents c.args.writer.now) []) _ _ c.reading.invariant.fed c.in_ok-powered-2.ensures.whole;
+  fed = fed_then [] c.reading.lines.line.items c.answer-in-reading.new.lines.line.items c.reading.invariant.seen (take c.in-Ok.count c.read_into.new.piece) _ _ _ (held (g.W.Write.contents c.args.writer.now) []) _ _ c.reading.invariant.fed c.in_ok-powered-2.ensures.whole;
 }
 
 pub returns-then-count-eq0-clause-short : goal.returns-then-count-eq0-clause-short
@@ -63,9 +63,9 @@ returns-then-count-eq0-clause-short g c =
 
 pub returns-clause-early : goal.returns-clause-early
 returns-clause-early g c =
-    read_front c.reading.invariant.seen _ _ _ _ c.reading.invariant.has.taken c.reading.invariant.fed _ TooLong c.fault-2.result c.fault-2.ensures tt (λ w. cc) (λ rest last.
     let full : c.reading.intake.reads + 1 ≤ 1048576 → ⊥ = λ room. let left = c.reading-test.ensures.1 room in absurd cc in
-    inl (_, _, c.reading.invariant.has, inr (omega (arith, full, c.reading.intake.few))))
+    read_front c.reading.lines.line.items c.reading.invariant.seen _ _ _ _ c.reading.invariant.has.taken c.reading.invariant.fed _ TooLong c.fault-2.result c.fault-2.ensures
+    (_, _, c.reading.invariant.has, inr (omega (arith, full, c.reading.intake.few))) (λ w. cc)
 
 -- ---- how far it reads
 

@@ -1,5 +1,5 @@
 use Rattle.std.proofs.Common.{◌≡◌, List, [], ℕ, length, ◌-◌}
-use Rattle.psu_run.proofs.Common.{Fed, HasRead, coming, held, messages}
+use Rattle.psu_run.proofs.Common.{Fed, HasRead, held}
 use Rattle.psu_run.proofs.engine.execute_pieces.Given as goal
 
 -- Each read so far returned bytes, and the lines that end in them were answered.
@@ -8,7 +8,7 @@ invariant-reading g l = record {
   seen : List ℕ;
   has : HasRead l.intake.reads l.intake.reads seen (g.R.Source.remaining l.initial.reader) (g.R.Source.remaining l.reader) (g.R.Source.reads l.initial.reader) (g.R.Source.reads l.reader);
   taken : length seen ≡ l.intake.bytes;
-  fed : Fed messages seen (coming l.lines.is_too_long l.lines.line.items) l.initial.powered.exec l.powered.exec (held (g.W.Write.contents l.initial.writer) []) (held (g.W.Write.contents l.writer) []);
+  fed : Fed [] seen l.lines.line.items l.initial.powered.exec l.powered.exec (held (g.W.Write.contents l.initial.writer) []) (held (g.W.Write.contents l.writer) []);
 }
 
 abbrev pub decreases-reading : goal.decreases-reading

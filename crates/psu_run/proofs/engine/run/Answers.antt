@@ -4,14 +4,16 @@ use Rattle.psu_run.proofs.Common.{IsOfRun, IsOldOrSame, LeavesOnly, weaken}
 use Rattle.psu_exec.proofs.Moments.{keeps_map}
 use Rattle.psu_run.proofs.Fronts.{passed}
 use Rattle.psu_run.proofs.Input.{no_reads}
-use Rattle.psu_run.proofs.Reading.{early_moments, passed_disk, run_cause, run_early, run_whole, whole_moments}
+use Rattle.psu_run.proofs.Reading.{early_moments, passed_disk, run_early, run_whole, whole_moments}
 use Rattle.psu_run.proofs.engine.run.Goals as goal
 
 -- ---- it does not power on
 
 pub returns-in-Err-clause-early : goal.returns-in-Err-clause-early
-returns-in-Err-clause-early g c = λ h. inl (record {
-  reason = c.in-Err.ensures.refused h;
+returns-in-Err-clause-early g c = λ h. let refused = c.in-Err.ensures.refused h in inl (record {
+  why = refused.0;
+  is = refused.1;
+  reason = refused.2;
   unread = refl;
   unwritten = Appends-nil (g.W.Write.contents c.args.writer.now);
   kept = c.in-Err.ensures.left h;
@@ -28,31 +30,25 @@ pub returns-in_err-disk-clause-early : goal.returns-in_err-disk-clause-early
 returns-in_err-disk-clause-early g c = λ h.
     let on = c.in-Ok.ensures in
     passed c.from_residual.result c.in_err-disk.field-0.0 _ c.from_residual.ensures.1
-    (inr (run_early c.in-Ok.powered.exec _ _ h (on.starts h) on.works (g.R.Source.remaining c.args.reader.now) _ _ _ c.in_err-disk.field-0.0 c.in_err-disk.ensures.early))
-
-pub returns-in_err-disk-clause-cause : goal.returns-in_err-disk-clause-cause
-returns-in_err-disk-clause-cause g c = λ h.
-    let on = c.in-Ok.ensures in
-    passed c.from_residual.result c.in_err-disk.field-0.0 _ c.from_residual.ensures.1
-    (run_cause c.in-Ok.powered.exec _ _ h (on.starts h) on.works (g.R.Source.remaining c.args.reader.now) _ _ _ c.in_err-disk.field-0.0 c.in_err-disk.ensures.early)
+    (inr (run_early c.in-Ok.powered.exec _ _ (on.starts h) on.works (g.R.Source.remaining c.args.reader.now) _ c.in_err-disk.field-0.0 _ _ h c.in_err-disk.ensures.early))
 
 pub returns-in_err-disk-clause-time : goal.returns-in_err-disk-clause-time
 returns-in_err-disk-clause-time g c = λ h t.
     let on = c.in-Ok.ensures in let from = g.R.Source.remaining c.args.reader.now in
     passed_disk c.from_residual.result c.in_err-disk.field-0.0 (λ d. LeavesOnly g.D.Disk.moment g.D.Disk.left_since c.args.disk d (IsOfRun (g.D.Disk.state c.args.disk) from)) c.from_residual.ensures.1
-    (early_moments c.in-Ok.powered.exec c.args.disk h t (g.met.D.Disk.only_now t) (on.starts h) on.stored (on.time h t) from _ _ _ c.in_err-disk.field-0.0 c.in_err-disk.ensures.early)
+    (early_moments c.in-Ok.powered.exec _ _ (on.starts h) on.works from c.args.disk h t (g.met.D.Disk.only_now t) refl on.stored (on.time h t) _ c.in_err-disk.field-0.0 _ _ c.in_err-disk.ensures.early)
 
 -- ---- it succeeds
 
 pub returns-clause-whole : goal.returns-clause-whole
 returns-clause-whole g c = λ h.
     let on = c.in-Ok.ensures in
-    run_whole c.in-Ok.powered.exec _ _ h (on.starts h) on.works (g.R.Source.remaining c.args.reader.now) _ _ c.script_is_the_only_text.ensures c.in_ok-disk.disk c.in_ok-disk.ensures.whole
+    run_whole c.in-Ok.powered.exec _ _ (on.starts h) on.works (g.R.Source.remaining c.args.reader.now) c.script_is_the_only_text.ensures c.in_ok-disk.disk _ _ h c.in_ok-disk.ensures.whole
 
 pub returns-clause-time : goal.returns-clause-time
 returns-clause-time g c = λ h t.
     let on = c.in-Ok.ensures in
-    whole_moments c.in-Ok.powered.exec c.args.disk h t (g.met.D.Disk.only_now t) (on.starts h) on.stored (on.time h t) (g.R.Source.remaining c.args.reader.now) _ _ c.in_ok-disk.disk c.in_ok-disk.ensures.whole
+    whole_moments c.in-Ok.powered.exec _ _ (on.starts h) on.works (g.R.Source.remaining c.args.reader.now) c.args.disk h t (g.met.D.Disk.only_now t) refl on.stored (on.time h t) c.in_ok-disk.disk _ _ c.in_ok-disk.ensures.whole
 
 pub returns-in-Err-clause-reads : goal.returns-in-Err-clause-reads
 returns-in-Err-clause-reads g c = no_reads 65536 (g.R.Source.remaining c.args.reader.now) (g.R.Source.reads c.args.reader.now)

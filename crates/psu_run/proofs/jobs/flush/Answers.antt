@@ -3,17 +3,17 @@ use Rattle.psu_run.proofs.Common.{IsFlush, IsTied, Jobs, failures_of}
 use Rattle.psu_run.proofs.UnitEnds.{IsFlushAfter, IsFlushed, one_more}
 use Rattle.psu_run.proofs.Fronts.{passed}
 use Rattle.psu_run.proofs.Going.{steps_as, steps_none, steps_then, device_stops_then}
-use Rattle.psu_run.proofs.Walking.{begins_then}
+use Rattle.psu_run.proofs.Walking.{begins_behind}
 use Rattle.psu_run.proofs.jobs.flush.Goals as goal
 
 pub loop-init : goal.loop-init
 loop-init g c =
-    let jobs = steps_none c.args.exec.now (IsFlushAfter 4) (refl, λ more jobs. jobs) in let idle = c.requires.idle in search rules
+    let jobs = steps_none c.args.exec.now (IsFlushAfter 4) (tt, λ more jobs. jobs) in let idle = c.requires.idle in search rules
 
 pub returns-in_err-run_next-clause-stops : goal.returns-in_err-run_next-clause-stops
 returns-in_err-run_next-clause-stops g c =
     passed c.from_residual.result c.in_err-run_next.field-0.0 _ c.from_residual.ensures.1
-    (device_stops_then _ _ _ _ _ _ _ c.loop.invariant.jobs c.in_err-run_next.ensures.stops (λ xs ys p b. begins_then xs ys [] [] p.0 b))
+    (device_stops_then _ _ _ _ _ _ _ c.loop.invariant.jobs c.in_err-run_next.ensures.stops (λ xs ys p b. begins_behind xs ys [] p.0 b))
 
 pub returns-in-Nothing-clause-flushes : goal.returns-in-Nothing-clause-flushes
 returns-in-Nothing-clause-flushes g c =

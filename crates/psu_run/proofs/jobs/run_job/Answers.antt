@@ -1,8 +1,7 @@
-use Rattle.std.proofs.Common.{Some, ap, arith, ◌∙◌}
+use Rattle.std.proofs.Common.{Some, arith}
 use Rattle.psu_run.proofs.Common.{reads_left}
 use Rattle.psu_exec.proofs.Ignored.{serves_gave_back}
 use Rattle.psu_exec.specs.Jobs.{finished_disk, finished_of}
-use Rattle.psu_run.specs.Runs.{is_short}
 use Rattle.psu_run.proofs.jobs.run_job.Goals as goal
 
 pub returns : goal.returns
@@ -13,13 +12,13 @@ returns g c =
         finished = finished_of end;
         over = c.in-Ok.field-0;
         give = serves_gave_back c.args.exec.now.device c.give_back.new.self.device (finished_of end) (Some c.in-Ok.field-0) c.in-Ok.ensures.step;
-        short_is = c.is_short-short.ensures ∙ ap (λ end. is_short (finished_of end)) c.end.ensures;
+        short_is = rw (← c.end.ensures) c.is_short-short.ensures;
         own = grind arith;
         stands = λ h. let at = c.in-Ok.ensures.stands h in grind arith;
         later = grind arith;
         extent = grind arith;
         worn = grind arith;
-        refused = λ h. let at = run.stands h in let read = reads_left (g.D.Disk.state (finished_disk end)) in grind arith;
+        sound = λ h. let at = run.stands h in let read = reads_left (g.D.Disk.state (finished_disk end)) in grind arith;
         time = λ h t. let at = run.time h t in grind arith;
         failed = λ h broke. grind arith;
         breaks = λ kind broke. grind arith;

@@ -9,4 +9,4 @@ use Rattle.psu_tree.proofs.readings.request_into.Goals as goal
 pub returns-clause-call : goal.returns-clause-call
 returns-clause-call c =
     let s = c.syntax.ensures in
-    called (part c.args.unit.now) c.in-Ok.parts s.0 c.call_of-request.result s.1 (subst (λ (z : Result rust.Syntax ScpiError). Shows z s.0) c.in-Ok.is s.2) c.call_of-request.ensures
+    called (part c.args.unit.now) c.in-Ok.parts s.0 c.put_call.new.call s.1 (subst (λ (z : Result rust.Syntax ScpiError). Shows z s.0) c.in-Ok.is s.2) c.put_call.ensures

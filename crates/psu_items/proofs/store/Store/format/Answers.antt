@@ -18,6 +18,7 @@ invariant_of-result g c =
         holds = λ h. subst (λ (m : List Item). IsMapOf m (shown_in p.root (g.D.Disk.state p.disk).bytes)) (sym c.new.ensures) (none_shown p.root (g.D.Disk.state p.disk).bytes (c.in-Ok.ensures.empty h));
       };
       spare = λ page pool none. fresh.free page (subst (λ (n : ℕ). IsInPool n page) fresh.limit_is pool);
+      confirmed = c.in-Ok.ensures.confirmed;
     }
 
 pub returns-in-Ok-clause-represents : goal.returns-in-Ok-clause-represents

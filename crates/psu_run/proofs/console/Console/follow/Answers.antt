@@ -2,14 +2,14 @@ use Rattle.psu_messages.proofs.Going.{kept_advances, kept_interrupted}
 use Rattle.std.proofs.Common.{None, ap, ◌∙◌}
 use Rattle.psu_messages.specs.Shown.{progress, progress_of}
 use Rattle.psu_messages.specs.Standing.{start}
-use Rattle.psu_run.proofs.Common.{held, line_source}
+use Rattle.psu_run.proofs.Common.{held, source_of}
 use Rattle.psu_run.proofs.Feeding.{broken, whole}
 use Rattle.psu_run.proofs.console.Console.follow.Goals as goal
 
 pub returns-clause-breaks : goal.returns-clause-breaks
 returns-clause-breaks g c =
     let lines = c.args.lines.now in
-    broken (λ x. x.run_state.now.powered.exec) (λ x. held (g.W.Write.contents x.writer.now) x.run_state.now.unwritten.output.items) _ (line_source lines.is_too_long lines.line.items)
+    broken (λ x. x.run_state.now.powered.exec) (λ x. held (g.W.Write.contents x.writer.now) x.run_state.now.unwritten.output.items) _ (source_of lines.line.items)
     (λ x y effect d. d.2) (λ x y request cause f. f.2) (λ x y cause s. s.2) _ c.proceed-done.new.executor c.in-Err.cause c.proceed-done.new.progress.gathered _ (ap (progress start None) (c.replace-gathered.ensures.value ∙ c.requires.fresh)) c.in-Err.ensures.stops
 
 pub returns-clause-run_state : goal.returns-clause-run_state
@@ -22,7 +22,7 @@ pub returns-in-None-clause-runs : goal.returns-in-None-clause-runs
 returns-in-None-clause-runs g c =
     let lines = c.args.lines.now in
     whole (λ x. x.run_state.now.powered.exec) (λ x. held (g.W.Write.contents x.writer.now) x.run_state.now.unwritten.output.items) _ (λ x y effect d. d.2)
-    (line_source lines.is_too_long lines.line.items) _ c.proceed-done.new.executor _ (progress_of c.proceed-done.new.progress)
+    (source_of lines.line.items) _ c.proceed-done.new.executor _ (progress_of c.proceed-done.new.progress)
     (ap (progress start None) (c.replace-gathered.ensures.value ∙ c.requires.fresh)) c.in-Ok.ensures.goes (c.in-Ok.ensures.over c.in-None.is)
 
 pub returns-in-None-clause-run_state : goal.returns-in-None-clause-run_state

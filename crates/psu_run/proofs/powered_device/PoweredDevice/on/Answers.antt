@@ -3,6 +3,7 @@ use Rattle.std.proofs.lemmas.Option.{same_Some}
 use Rattle.psu_run.proofs.Common.{IsOldOrSame, LeavesOnly, Life, Opened, PowersOn, Serves, born, idle_disk, power_on, world_of}
 use Rattle.psu_exec.specs.Calls.{least_free}
 use Rattle.psu_exec.specs.declared.idle_store.IdleStore.TheVariants as idle_store
+use Rattle.psu_exec.specs.Starts.{start_of_opening, start_of_power_on}
 use Rattle.psu_exec.proofs.Ignored.{serves_opened}
 use Rattle.psu_items.proofs.Fitting.{represents_readable}
 use Rattle.psu_run.proofs.Going.{called}
@@ -11,7 +12,10 @@ use Rattle.psu_run.proofs.powered_device.PoweredDevice.on.Goals as goal
 pub returns-in-Err-power_on-clause-refused : goal.returns-in-Err-power_on-clause-refused
 returns-in-Err-power_on-clause-refused g c = λ h.
     let stands = c.in-Ok.ensures.represented h in
-    let readable = represents_readable (g.D.Disk.state c.args.disk).bytes c.in-Ok.store.limit c.in-Ok.store.items stands in grind arith
+    let readable = represents_readable (g.D.Disk.state c.args.disk).bytes c.in-Ok.store.limit c.in-Ok.store.items stands in (start_of_power_on c.in-Err-power_on.fault.cause, grind arith, grind arith)
+
+pub returns-in-Err-clause-refused : goal.returns-in-Err-clause-refused
+returns-in-Err-clause-refused g c = λ h. let refused = c.in-Err.ensures in (start_of_opening c.in-Err.refused.cause, grind arith, grind arith)
 
 pub returns-clause-starts : goal.returns-clause-starts
 returns-clause-starts g c = λ h.

@@ -7,9 +7,9 @@ use Rattle.psu_pages.specs.Shown.{items_in, EachEncodes}
 use Rattle.psu_pages.specs.Spelling.{filled, root_contents, names}
 use Rattle.psu_pages.proofs.Publishing.{contents_filled}
 use Rattle.psu_pages.specs.declared.standing.Standing.TheVariants.{One, Both}
-use Rattle.psu_pages.proofs.pages.Pages.format.Given.{Over}
-use Rattle.psu_pages.proofs.pages.Pages.format.Goals.{In-Ok-lay_out}
-use Rattle.psu_pages.proofs.pages.Pages.format.Goals as goal
+use Rattle.psu_pages.proofs.pages.Pages.laid_out.Given.{Over}
+use Rattle.psu_pages.proofs.pages.Pages.laid_out.Goals.{In-Ok-lay_out}
+use Rattle.psu_pages.proofs.pages.Pages.laid_out.Goals as goal
 
 contents : (g : Over) (c : In-Ok-lay_out g) → c.after_gate.result.now ≡ filled 511 (root_contents c.args.limit 1 [])
 contents g c =

@@ -10,9 +10,9 @@ use Rattle.psu_pages.proofs.Marking.{claimed_beside}
 use Rattle.psu_pages.proofs.Planning.{none_root, pool_within}
 use Rattle.psu_pages.proofs.Publishing.{Keeps, closing, shut_zero, still_left, still_run, still_shown, still_encodes}
 use Rattle.psu_pages.specs.declared.standing.Standing.TheVariants.{One, Both}
-use Rattle.psu_pages.proofs.pages.Pages.close_old.Given.{Over}
-use Rattle.psu_pages.proofs.pages.Pages.close_old.Goals.{After-set_gate}
-use Rattle.psu_pages.proofs.pages.Pages.close_old.Goals as goal
+use Rattle.psu_pages.proofs.pages.Pages.close_gate.Given.{Over}
+use Rattle.psu_pages.proofs.pages.Pages.close_gate.Goals.{After-set_gate}
+use Rattle.psu_pages.proofs.pages.Pages.close_gate.Goals as goal
 
 keeps : (g : Over) (c : After-set_gate g) → g.D.Disk.honest
     → let p = c.args.self.now in Keeps g.D.Disk.state p.root p.version p.limit p.number p.heads.items (SameBut (gate_at (other p.root)) 1) p.disk c.set_gate.new.disk

@@ -1,0 +1,17 @@
+use Rattle.std.proofs.Common.{ap, ◌∙◌}
+use Rattle.psu_exec.specs.Shown.{over_of}
+use Rattle.psu_bench.specs.Rounds.{ending_of}
+use Rattle.psu_bench.proofs.bench.Bench.round.Goals as goal
+
+pub returns-clause-calls : goal.returns-clause-calls
+returns-clause-calls g c = record {
+  job = c.in_ok-job.job;
+  finished = c.run-finished.result.end;
+  ran = c.run-finished.ensures.end;
+  given = over_of c.give_back-given.result;
+  mid = c.take.new.seat;
+  took = c.in_ok-job.ensures.call;
+  gave = c.give_back-given.ensures.call;
+  ended = c.of-ending.ensures ∙ ap ending_of c.end.ensures;
+  are_over = c.sessions_over.ensures;
+}
