@@ -30,23 +30,18 @@ impl<'a> Executor<Global> for Probe<'a> {
         true
     }
 
-    fn execute(&mut self, request: &Request<'_>) -> Result<Tried<Global, Session>, Stopped> {
-        let outcome = match self.log.turn() {
-            Turn::Continues => self.executed(request)?,
-            Turn::Ends => return Err(Stopped),
-            Turn::Held => self.put_off(Need::Lock, Outcome::Held),
-            Turn::Later => self.put_off(Need::Room, Outcome::Later),
+    fn try_unit(
+        &mut self,
+        request: &Request<'_>,
+        parked: Option<Session>,
+    ) -> Result<Tried<Global, Session>, Stopped>
+        ensures { IfOk result HasItsWait }
+    {
+        let outcome = match parked {
+            None => self.first_try(request)?,
+            Some(session) => self.next_try(session)?,
         };
         Ok(Tried::of(outcome, self.session))
-    }
-
-    fn settle(&mut self, wait: Session) -> Result<Tried<Global, Session>, Stopped> {
-        let outcome = match self.log.turn() {
-            Turn::Continues => self.settled(wait)?,
-            Turn::Ends => return Err(Stopped),
-            Turn::Held | Turn::Later => self.put_off(Need::Flush, Outcome::Parked),
-        };
-        Ok(Tried::of(outcome, wait))
     }
 
     fn send(&mut self, text: &[u8], is_last: bool) -> Result<(), Stopped> {
@@ -62,6 +57,25 @@ impl<'a> Executor<Global> for Probe<'a> {
 }
 
 impl<'a> Probe<'a> {
+    // Executes a unit, as the log's turn says.
+    fn first_try(&mut self, request: &Request<'_>) -> Result<Outcome<Global>, Stopped> {
+        match self.log.turn() {
+            Turn::Continues => self.executed(request),
+            Turn::Ends => Err(Stopped),
+            Turn::Held => Ok(self.put_off(Need::Lock, Outcome::Held)),
+            Turn::Later => Ok(self.put_off(Need::Room, Outcome::Later)),
+        }
+    }
+
+    // Settles the wait of a unit that was accepted, as the log's turn says.
+    fn next_try(&mut self, session: Session) -> Result<Outcome<Global>, Stopped> {
+        match self.log.turn() {
+            Turn::Continues => self.settled(session),
+            Turn::Ends => Err(Stopped),
+            Turn::Held | Turn::Later => Ok(self.put_off(Need::Flush, Outcome::Parked)),
+        }
+    }
+
     // Puts the unit off, which has to wait for this.
     fn put_off(&mut self, need: Need, outcome: Outcome<Global>) -> Outcome<Global> {
         self.log.need = need;

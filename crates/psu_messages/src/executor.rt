@@ -1,8 +1,10 @@
 //! The executor of a session's units.
-ghost use Rattle.std.specs.Prelude.{◌≡◌, false, IfOk, IfErr, OnOk};
-ghost use Rattle.psu_messages.specs.Effects.{Executed, Settled, Sent};
+ghost use Rattle.std.specs.Prelude.{◌≡◌, false, is_some, IfOk, IfErr, OnOk};
+ghost use Rattle.psu_messages.specs.Effects.{Sent};
+ghost use Rattle.psu_messages.specs.Executions.{Trial};
 ghost use Rattle.psu_messages.specs.Relations.{Relations};
 ghost use Rattle.psu_messages.specs.Shown.{HasItsWait, reply_of};
+ghost use Rattle.psu_messages.specs.Stepping.{IsBrokenOff};
 
 use crate::{MemoryRefused, Tried};
 use psu_exec::Request;
@@ -24,17 +26,15 @@ pub trait Executor<A: Allocator + Copy> {
     fn may_continue(&self) -> bool
         ensures { result ≡ false → relations.yields self.now };
 
-    /// Tries a unit.
-    fn execute(&mut self, request: &Request<'_>) -> Result<Tried<A, Self::Wait>, Self::Stop>
-        ensures done { IfOk result (λ t. relations.does self.old (Executed request.now (reply_of t)) self.new) }
+    /// Tries a unit: executes it or, where it was accepted and waits, returns the result of its wait.
+    fn try_unit(
+        &mut self,
+        request: &Request<'_>,
+        parked: Option<Self::Wait>,
+    ) -> Result<Tried<A, Self::Wait>, Self::Stop>
+        ensures tried { IfOk result (λ t. Trial relations.does self.old (is_some parked) request.now self.new (reply_of t)) }
         ensures wait { IfOk result HasItsWait }
-        ensures failed { IfErr result (λ stop. relations.fails self.old request.now stop self.new) };
-
-    /// Returns the result of the wait of a unit that was accepted.
-    fn settle(&mut self, wait: Self::Wait) -> Result<Tried<A, Self::Wait>, Self::Stop>
-        ensures done { IfOk result (λ t. relations.does self.old (Settled (reply_of t)) self.new) }
-        ensures wait { IfOk result HasItsWait }
-        ensures stopped { IfErr result (λ stop. relations.stops self.old stop self.new) };
+        ensures stopped { IfErr result (λ stop. IsBrokenOff relations self.old (is_some parked) request.now stop self.new) };
 
     /// Sends a piece of a response message, the last or an earlier one.
     fn send(&mut self, text: &[u8], is_last: bool) -> Result<(), Self::Stop>

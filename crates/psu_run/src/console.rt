@@ -77,13 +77,22 @@ impl<'p, 'w, W: Write, D: Disk, A: Allocator + Copy> Executor<A> for Console<'p,
     }
 
     #[inline(always)]
-    fn execute(&mut self, request: &Request<'_>) -> Result<Tried<A, Infallible>, RunCause> {
-        let outcome = unit(&mut self.run_state.powered, request)?;
-        Ok(Tried::Replied(outcome))
-    }
-
-    fn settle(&mut self, wait: Infallible) -> Result<Tried<A, Infallible>, RunCause> {
-        match wait {}
+    fn try_unit(
+        &mut self,
+        request: &Request<'_>,
+        parked: Option<Infallible>,
+    ) -> Result<Tried<A, Infallible>, RunCause>
+        ensures tried { IfOk result (λ t. Trial relations.does self.old (is_some parked) request.now self.new (reply_of t)) }
+        ensures wait { IfOk result HasItsWait }
+        ensures stopped { IfErr result (λ stop. IsBrokenOff relations self.old (is_some parked) request.now stop self.new) }
+    {
+        match parked {
+            None => {
+                let outcome = unit(&mut self.run_state.powered, request)?;
+                Ok(Tried::Replied(outcome))
+            }
+            Some(never) => match never {},
+        }
     }
 
     #[inline(always)]

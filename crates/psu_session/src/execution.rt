@@ -37,7 +37,10 @@ impl<'a, 'b, 'c, D: Device> Executor<Global> for Execution<'a, 'b, 'c, D> {
 
     type Wait = Accepted;
 
-    ghost use Rattle.std.specs.Prelude.{◌≡◌, ◌⊎◌, ◌-◌, ◌≤◌, length};
+    ghost use Rattle.std.specs.Prelude.{◌≡◌, ◌⊎◌, ◌-◌, ◌≤◌, is_some, length};
+    ghost use Rattle.psu_messages.specs.Executions.{Trial};
+    ghost use Rattle.psu_messages.specs.Shown.{HasItsWait, reply_of};
+    ghost use Rattle.psu_messages.specs.Stepping.{IsBrokenOff};
     ghost use Rattle.psu_session.specs.Phases.{tries_by};
 
     ghost relations = { record {
@@ -56,14 +59,21 @@ impl<'a, 'b, 'c, D: Device> Executor<Global> for Execution<'a, 'b, 'c, D> {
     }
 
     #[inline(always)]
-    fn execute(&mut self, request: &Request<'_>) -> Result<Tried<Global, Accepted>, EndCause> {
+    fn try_unit(
+        &mut self,
+        request: &Request<'_>,
+        parked: Option<Accepted>,
+    ) -> Result<Tried<Global, Accepted>, EndCause>
+        ensures tried { IfOk result (λ t. Trial relations.does self.old (is_some parked) request.now self.new (reply_of t)) }
+        ensures wait { IfOk result HasItsWait }
+        ensures stopped { IfErr result (λ stop. IsBrokenOff relations self.old (is_some parked) request.now stop self.new) }
+    {
         self.left = self.left.saturating_sub(1);
-        Ok(Tried::of(self.device.execute(request), Accepted))
-    }
-
-    fn settle(&mut self, wait: Accepted) -> Result<Tried<Global, Accepted>, EndCause> {
-        self.left = self.left.saturating_sub(1);
-        Ok(Tried::of(self.device.settle(), wait))
+        let outcome = match parked {
+            None => self.device.execute(request),
+            Some(Accepted) => self.device.settle(),
+        };
+        Ok(Tried::of(outcome, Accepted))
     }
 
     fn send(&mut self, text: &[u8], is_last: bool) -> Result<(), EndCause> {
