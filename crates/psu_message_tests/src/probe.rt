@@ -33,13 +33,11 @@ impl<'a> Executor<Global> for Probe<'a> {
     fn try_unit(
         &mut self,
         request: &Request<'_>,
-        parked: Option<Session>,
-    ) -> Result<Tried<Global, Session>, Stopped>
-        ensures { IfOk result HasItsWait }
-    {
+        parked: &Option<Session>,
+    ) -> Result<Tried<Global, Session>, Stopped> {
         let outcome = match parked {
             None => self.first_try(request)?,
-            Some(session) => self.next_try(session)?,
+            Some(session) => self.next_try(*session)?,
         };
         Ok(Tried::of(outcome, self.session))
     }

@@ -30,11 +30,11 @@ pub trait Executor<A: Allocator + Copy> {
     fn try_unit(
         &mut self,
         request: &Request<'_>,
-        parked: Option<Self::Wait>,
+        parked: &Option<Self::Wait>,
     ) -> Result<Tried<A, Self::Wait>, Self::Stop>
-        ensures tried { IfOk result (λ t. Trial relations.does self.old (is_some parked) request.now self.new (reply_of t)) }
+        ensures tried { IfOk result (λ t. Trial relations.does self.old (is_some parked.now) request.now self.new (reply_of t)) }
         ensures wait { IfOk result HasItsWait }
-        ensures stopped { IfErr result (λ stop. IsBrokenOff relations self.old (is_some parked) request.now stop self.new) };
+        ensures stopped { IfErr result (λ stop. IsBrokenOff relations self.old (is_some parked.now) request.now stop self.new) };
 
     /// Sends a piece of a response message, the last or an earlier one.
     fn send(&mut self, text: &[u8], is_last: bool) -> Result<(), Self::Stop>

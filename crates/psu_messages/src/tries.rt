@@ -42,7 +42,7 @@ pub(crate) fn take_try<A: Allocator + Copy, F: Executor<A>>(
     ensures tried { IfOk result (IsTried F.relations.does executor.old (is_some parked.old) request.now executor.new (is_some parked.new)) }
     ensures stopped { IfErr result (λ stop. IsBrokenOff F.relations executor.old (is_some parked.old) request.now stop executor.new) }
 {
-    match executor.try_unit(request, *parked)? {
+    match executor.try_unit(request, parked)? {
         Tried::Parked(wait) => {
             *parked = Some(wait);
             Ok(Attempt::Waits(Need::Flush))

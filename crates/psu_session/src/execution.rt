@@ -37,10 +37,7 @@ impl<'a, 'b, 'c, D: Device> Executor<Global> for Execution<'a, 'b, 'c, D> {
 
     type Wait = Accepted;
 
-    ghost use Rattle.std.specs.Prelude.{◌≡◌, ◌⊎◌, ◌-◌, ◌≤◌, is_some, length};
-    ghost use Rattle.psu_messages.specs.Executions.{Trial};
-    ghost use Rattle.psu_messages.specs.Shown.{HasItsWait, reply_of};
-    ghost use Rattle.psu_messages.specs.Stepping.{IsBrokenOff};
+    ghost use Rattle.std.specs.Prelude.{◌≡◌, ◌⊎◌, ◌-◌, ◌≤◌, length};
     ghost use Rattle.psu_session.specs.Phases.{tries_by};
 
     ghost relations = { record {
@@ -62,12 +59,8 @@ impl<'a, 'b, 'c, D: Device> Executor<Global> for Execution<'a, 'b, 'c, D> {
     fn try_unit(
         &mut self,
         request: &Request<'_>,
-        parked: Option<Accepted>,
-    ) -> Result<Tried<Global, Accepted>, EndCause>
-        ensures tried { IfOk result (λ t. Trial relations.does self.old (is_some parked) request.now self.new (reply_of t)) }
-        ensures wait { IfOk result HasItsWait }
-        ensures stopped { IfErr result (λ stop. IsBrokenOff relations self.old (is_some parked) request.now stop self.new) }
-    {
+        parked: &Option<Accepted>,
+    ) -> Result<Tried<Global, Accepted>, EndCause> {
         self.left = self.left.saturating_sub(1);
         let outcome = match parked {
             None => self.device.execute(request),
