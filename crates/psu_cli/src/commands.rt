@@ -3,7 +3,7 @@ use crate::fault::Fault;
 use crate::image::new_image;
 use psu_disk::{Disk, FileDisk, MemDisk, OsFiles};
 use psu_items::{IMAGE_LIMIT, IMAGE_SIZE, Store};
-use psu_run::{Recovered, recover, report_text, run};
+use psu_run::{Recovered, RunStart, recover, report_text, run};
 use std::alloc::Global;
 use std::fs::File;
 use std::io::{self, Input, Print, Write};
@@ -21,7 +21,7 @@ pub fn run_in_memory<R: Input + Print>(rt: &R, alloc: Global) -> Result<(), Faul
         return Err(Fault::Memory);
     };
     match Store::format(alloc, disk, IMAGE_LIMIT) {
-        Ok(store) => run_on(rt, alloc, store.into_disk()),
+        Ok(store) => run_on(rt, alloc, RunStart::Store(store)),
         Err(fault) => Err(Fault::Format(fault.cause)),
     }
 }
@@ -33,14 +33,18 @@ pub fn run_image<R: Files<File = File> + Input + Print>(
     path: &str,
 ) -> Result<(), Fault> {
     match FileDisk::of(&mut OsFiles { files: rt }, alloc, path) {
-        Ok(disk) => run_on(rt, alloc, disk),
+        Ok(disk) => run_on(rt, alloc, RunStart::Image(disk)),
         Err(fault) => Err(Fault::File(fault)),
     }
 }
 
-fn run_on<R: Input + Print, D: Disk + Drop>(rt: &R, alloc: Global, disk: D) -> Result<(), Fault> {
+fn run_on<R: Input + Print, D: Disk + Drop>(
+    rt: &R,
+    alloc: Global,
+    start: RunStart<D, Global>,
+) -> Result<(), Fault> {
     let mut writer = io::writer(rt);
-    match run(alloc, &mut rt.reader(), &mut writer, disk) {
+    match run(alloc, &mut rt.reader(), &mut writer, start) {
         Ok(_) => Ok(()),
         Err(fault) => Err(Fault::Run(fault.cause)),
     }

@@ -2,7 +2,7 @@
 use psu_client::Missed;
 use psu_disk::{Disk, FileDisk, MemDisk, OsFiles};
 use psu_items::Store;
-use psu_run::{Recovered, recover, report_text, run};
+use psu_run::{Recovered, RunStart, recover, report_text, run};
 use std::alloc::Global;
 use std::fs::{self, File};
 use std::rt::Files;
@@ -19,7 +19,7 @@ pub(crate) fn executed<R: Files<File = File>>(
     };
     let mut reader = lines;
     let mut output = Vec::new(alloc);
-    match run(alloc, &mut reader, &mut output, disk) {
+    match run(alloc, &mut reader, &mut output, RunStart::Image(disk)) {
         Ok(_) => Ok(()),
         Err(_) => Err(Missed::Ground("a run")),
     }

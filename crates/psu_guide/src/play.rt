@@ -7,7 +7,7 @@ use crate::play_fault::PlayFault;
 use psu_disk::{Disk, MemDisk};
 use psu_examples::Player;
 use psu_items::{IMAGE_LIMIT, IMAGE_SIZE, Store};
-use psu_run::{RunCause, run};
+use psu_run::{RunCause, RunStart, run};
 use std::alloc::Allocator;
 
 // Returns a new image in memory; `None` where memory is refused.
@@ -39,7 +39,7 @@ fn written<D: Disk + Drop, A: Allocator + Copy>(
 {
     let mut reader = sent;
     let mut text = Vec::new(alloc);
-    match run(alloc, &mut reader, &mut text, disk) {
+    match run(alloc, &mut reader, &mut text, RunStart::Image(disk)) {
         Ok(_over) => Ok(text),
         Err(fault) => Err(fault.cause),
     }

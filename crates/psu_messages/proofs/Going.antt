@@ -1,11 +1,11 @@
 -- Effects, one after another.
-use Rattle.std.proofs.Common.{◌≡◌, ℕ, ◌+◌, Bool, false, Option, Some, None, List, [], ◌∷◌, ◌++◌, refl, sym, ap, ◌∙◌, subst, append_assoc, ◌⊎◌, inl, inr, Result, Ok, Err, OnErr, IfErr, IsErrAnd}
+use Rattle.std.proofs.Common.{◌≡◌, ℕ, ◌+◌, Bool, false, true, is_some, Option, Some, None, List, [], ◌∷◌, ◌++◌, refl, sym, ap, ◌∙◌, subst, append_assoc, ◌⊎◌, inl, inr, Result, Ok, Err, OnErr, IfErr, IsErrAnd}
 use Rattle.std.proofs.lemmas.List.{append-nil}
 use Rattle.psu_tree.specs.declared.command.Request.{Request}
 use Rattle.psu_exec.specs.Device.{Reply, Done, Answer, Error, Expand, Parked, Held, Later}
 use Rattle.psu_messages.specs.ResponseBuffer.{Text}
 use Rattle.psu_messages.specs.Standing.{Standing}
-use Rattle.psu_messages.specs.Effects.{Effect, IsTry, Runs, Sent, needs}
+use Rattle.psu_messages.specs.Effects.{Effect, Executed, IsTry, Runs, Sent, Settled, needs}
 use Rattle.psu_messages.specs.Stepping.{IsBrokenOff, IsLeft, parked_by, plain, within}
 use Rattle.psu_messages.specs.declared.need.Need.{Need}
 use Rattle.psu_messages.specs.declared.need.Need.TheVariants.{Flush, Lock, Room}
@@ -226,3 +226,15 @@ kept_interrupted {X} {Y} {S} {r} {source} {was} {now} {c} {stop} {left} halts pa
     let r = reached halts in
     let before = kept_advances r.2 part done in
     elim (r.3) [ inl f ↦ failed r.0 now f.0 stop f.1 ∙ before | inr s ↦ stopped r.0 now stop s ∙ before ]
+
+-- ---- a try
+
+-- a try of a unit, by what it does where the unit was accepted and where it was not
+pub one_trial : {X W : Type 0} (does : X → Effect → X → Type 0) (at now : X) (parked : Option W) (request : Request) (reply : Reply) → (parked ≡ None → does at (Executed request reply) now) → (is_some parked ≡ true → does at (Settled reply) now)
+    → Trial does at (is_some parked) request now reply
+one_trial does at now None request reply new again = record { effect = Executed request reply; done = new refl; is = (refl, refl) }
+one_trial does at now (Some wait) request reply new again = record { effect = Settled reply; done = again refl; is = refl }
+
+pub one_break : {X S W : Type 0} (r : Relations X S) (at now : X) (parked : Option W) (request : Request) (stop : S) → (parked ≡ None → r.fails at request stop now) → (is_some parked ≡ true → r.stops at stop now) → IsBrokenOff r at (is_some parked) request stop now
+one_break r at now None request stop new again = inl (refl, new refl)
+one_break r at now (Some wait) request stop new again = inr (refl, again refl)

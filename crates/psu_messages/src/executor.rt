@@ -1,10 +1,8 @@
 //! The executor of a session's units.
-ghost use Rattle.std.specs.Prelude.{◌≡◌, false, is_some, IfOk, IfErr, OnOk};
-ghost use Rattle.psu_messages.specs.Effects.{Sent};
-ghost use Rattle.psu_messages.specs.Executions.{Trial};
+ghost use Rattle.std.specs.Prelude.{◌≡◌, false, true, is_some, None, IfOk, IfErr, OnOk};
+ghost use Rattle.psu_messages.specs.Effects.{Executed, Sent, Settled};
 ghost use Rattle.psu_messages.specs.Relations.{Relations};
 ghost use Rattle.psu_messages.specs.Shown.{HasItsWait, reply_of};
-ghost use Rattle.psu_messages.specs.Stepping.{IsBrokenOff};
 
 use crate::{MemoryRefused, Tried};
 use psu_exec::Request;
@@ -32,9 +30,11 @@ pub trait Executor<A: Allocator + Copy> {
         request: &Request<'_>,
         parked: &Option<Self::Wait>,
     ) -> Result<Tried<A, Self::Wait>, Self::Stop>
-        ensures tried { IfOk result (λ t. Trial relations.does self.old (is_some parked.now) request.now self.new (reply_of t)) }
+        ensures executed { IfOk result (λ t. parked.now ≡ None → relations.does self.old (Executed request.now (reply_of t)) self.new) }
+        ensures settled { IfOk result (λ t. is_some parked.now ≡ true → relations.does self.old (Settled (reply_of t)) self.new) }
         ensures wait { IfOk result HasItsWait }
-        ensures stopped { IfErr result (λ stop. IsBrokenOff relations self.old (is_some parked.now) request.now stop self.new) };
+        ensures failed { IfErr result (λ stop. parked.now ≡ None → relations.fails self.old request.now stop self.new) }
+        ensures stopped { IfErr result (λ stop. is_some parked.now ≡ true → relations.stops self.old stop self.new) };
 
     /// Sends a piece of a response message, the last or an earlier one.
     fn send(&mut self, text: &[u8], is_last: bool) -> Result<(), Self::Stop>

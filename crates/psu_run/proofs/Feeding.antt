@@ -96,17 +96,14 @@ feed_refused line mid piece rest s s1 fault t0 t1 f at =
     feed_stops line mid piece rest s s1 fault t0 t1 t1 f (λ input. ([], until_none fault.cause t1 (λ e. grind arith), stops_now never s1 Memory fault (messages (mid ++ (rest ++ input))) at tt))
 
 -- a fault in the line that has ended, which comes first in the rest
-pub line_stops : {D A : Type 0} {G : Ghosts D} (mid rest : List ℕ) (at : ℕ) (begun part : List ℕ) (s1 : Exec D A G) (fault : RunFault D) (t1 t2 : OutputState) → IsFirstByte (is_byte 10) rest (Some at)
-    → ((more : List ℕ) → messages (mid ++ (take at rest ++ more)) ≡ messages (begun ++ more)) → has 10 begun ≡ false → SaysUntil fault.cause t1 t2 part
-    → ((later : List Message) → RunStops never s1 fault (message_of begun ∷ later) part) → Ends never mid rest s1 fault t1 t2
-line_stops mid rest at begun part s1 fault t1 t2 found shifted free until stops = λ input. (
-  part,
-  until,
-  let tail = drop (at + 1) rest ++ input in
-      let first : messages (mid ++ (rest ++ input)) ≡ message_of begun ∷ messages tail
-      = ap (λ (z : List ℕ). messages (mid ++ (z ++ input))) (found_parts 10 rest at found) ∙ ap (λ (z : List ℕ). messages (mid ++ z)) (append_assoc (take at rest) (10 ∷ drop (at + 1) rest) input) ∙ shifted (10 ∷ tail) ∙ line_end begun tail free in
-      subst (λ (due : List Message). RunStops never s1 fault due part) (sym first) (stops (messages tail)),
-)
+pub line_stops : {D A : Type 0} {G : Ghosts D} (mid rest : List ℕ) (at : ℕ) (begun : List ℕ) (s1 : Exec D A G) (fault : RunFault D) (t1 t2 : OutputState) → IsFirstByte (is_byte 10) rest (Some at)
+    → ((more : List ℕ) → messages (mid ++ (take at rest ++ more)) ≡ messages (begun ++ more)) → has 10 begun ≡ false
+    → ((later : List Message) → EndsEarly never s1 fault (message_of begun ∷ later) t1 t2) → Ends never mid rest s1 fault t1 t2
+line_stops mid rest at begun s1 fault t1 t2 found shifted free stops = λ input.
+    let tail = drop (at + 1) rest ++ input in
+    let first : messages (mid ++ (rest ++ input)) ≡ message_of begun ∷ messages tail
+    = ap (λ (z : List ℕ). messages (mid ++ (z ++ input))) (found_parts 10 rest at found) ∙ ap (λ (z : List ℕ). messages (mid ++ z)) (append_assoc (take at rest) (10 ∷ drop (at + 1) rest) input) ∙ shifted (10 ∷ tail) ∙ line_end begun tail free in
+    subst (λ (due : List Message). EndsEarly never s1 fault due t1 t2) (sym first) (stops (messages tail))
 
 -- the device stopped in it
 pub broken_stop : {D A : Type 0} {G : Ghosts D} (old new : Exec D A G) (cause : RunCause) (fault : RunFault D) (source : Source) (rest : List Message) (part : List ℕ) → DeviceStops old new (LineBegins source part) cause

@@ -9,6 +9,7 @@ use Rattle.std.specs.Io.{StartsWith}
 use Rattle.std.specs.Option.{ForSome}
 use Rattle.psu_exec.proofs.Moments.{keeps_map}
 use Rattle.psu_run.proofs.Common.{Answers, AreCalm, Brings, DiskState, EachRepresents, EndsEarly, Exec, FaultOf, Fed, Ghosts, HasFailed, IsAlong, IsFlush, IsNow, IsOf, IsOfRun, IsOldOrSame, IsScript, Leads, LeavesOnly, Message, OutputState, PowersOn, Ran, RanAll, RunCause, RunFault, RunStep, RunStops, Runs, RunsUpTo, Says, SaysUntil, ScriptAlone, Since, StopsFor, Walks, World, Write, WritesShort, born, disk_in, failures_of, has, held, idle_disk, items_of, message_of, messages, state_in, world_of}
+use Rattle.psu_run.specs.Progress.{IsWrittenBefore}
 use Rattle.psu_run.specs.Runs.{never, RunTo, WritesFirst, WritesRun, WritesUntil, disk_of}
 use Rattle.psu_run.proofs.Cuts.{line_end, line_last}
 use Rattle.psu_run.proofs.Feeding.{Ends, ends_then, stopped_then}
@@ -22,56 +23,51 @@ use Rattle.psu_run.proofs.Walking.{calm_split, flush_begins, walk_running, walks
 
 -- ---- the output of a piece is written
 
--- a text that is output to an empty buffer is written once the buffer is
-said : (a b : OutputState) (text : List ℕ) (v : Option (List ℕ)) → a.gathered ≡ [] → Says a b text → Appends b.written v b.gathered → Says (held a.written []) (held v []) text
-said a b text v none says w =
-    (text, subst (λ (z : List ℕ). Appends a.written v z) (says.2 ∙ ap (λ (z : List ℕ). z ++ text) none) (Appends-trans a.written b.written v says.0 b.gathered says.1 w), append-nil text)
+-- a text that is buffered is written
+said : (a b : OutputState) (text : List ℕ) (v : Option (List ℕ)) → Says a b text → Appends b.written v b.gathered → Says a (held v []) text
+said a b text v says w = (says.0 ++ b.gathered, Appends-trans a.written b.written v says.0 b.gathered says.1 w, append-nil (says.0 ++ b.gathered) ∙ says.2)
 
 -- a proper prefix of the text is written where the writer fails
-said_short : (a b : OutputState) (text : List ℕ) (v : Option (List ℕ)) → a.gathered ≡ [] → Says a b text → WritesShort b.written v b.gathered → WritesShort a.written v text
-said_short a b text v none says w =
-    let all : says.0 ++ b.gathered ≡ text = says.2 ∙ ap (λ (z : List ℕ). z ++ text) none in (
-      says.0 ++ w.0,
-      Appends-trans a.written b.written v says.0 w.0 says.1 w.1,
-      subst (λ (z : List ℕ). StartsWith z (says.0 ++ w.0)) all (starts_after says.0 w.0 b.gathered w.2),
-      subst (λ (z : List ℕ). length (says.0 ++ w.0) < length z) all (longer says.0 w.0 b.gathered w.3),
-    )
+said_short : (a b : OutputState) (text : List ℕ) (v : Option (List ℕ)) → Says a b text → WritesShort b.written v b.gathered → WritesShort a.written v (a.gathered ++ text)
+said_short a b text v says w = (
+  says.0 ++ w.0,
+  Appends-trans a.written b.written v says.0 w.0 says.1 w.1,
+  subst (λ (z : List ℕ). StartsWith z (says.0 ++ w.0)) says.2 (starts_after says.0 w.0 b.gathered w.2),
+  subst (λ (z : List ℕ). length (says.0 ++ w.0) < length z) says.2 (longer says.0 w.0 b.gathered w.3),
+)
 
 fails : (cause : RunCause) (a b : OutputState) (text : List ℕ) → cause ≡ Write → WritesShort a.written b.written (a.gathered ++ text) → SaysUntil cause a b text
 fails cause a b text is w = grind arith
 
-module _ {D A : Type 0} {G : Ghosts D} (line piece : List ℕ) (s : Exec D A G) (a b : OutputState) (shown : List ℕ) (v : Option (List ℕ)) (none : a.gathered ≡ []) (is : shown ≡ b.gathered) where
-  pub fed_written : (next : List ℕ) (s1 : Exec D A G) → Fed line piece next s s1 a b → Appends b.written v shown → Fed line piece next s s1 (held a.written []) (held v [])
-  fed_written next s1 p w = (p.0, p.1, (p.2.0, said a b p.2.0 v none p.2.1 (subst (Appends b.written v) is w), p.2.2))
+module _ {D A : Type 0} {G : Ghosts D} (line piece next : List ℕ) (s s1 : Exec D A G) (a b : OutputState) (v : Option (List ℕ)) (fed : Fed line piece next s s1 a b) where
+  pub fed_written : Appends b.written v b.gathered → Fed line piece next s s1 a (held v [])
+  fed_written w = (fed.0, fed.1, (fed.2.0, said a b fed.2.0 v fed.2.1 w, fed.2.2))
 
-  pub fed_short : (next : List ℕ) (s1 : Exec D A G) (fault : RunFault D) → Fed line piece next s s1 a b → WritesShort b.written v shown → FaultOf s1 Write fault → Ends never line piece s fault (held a.written []) (held v [])
-  fed_short next s1 fault p w at = λ input.
-      let text = p.2.0 in (
+  pub fed_short : (fault : RunFault D) → WritesShort b.written v b.gathered → FaultOf s1 Write fault → Ends never line piece s fault a (held v [])
+  fed_short fault w at = λ input.
+      let text = fed.2.0 in (
         text,
-        fails fault.cause (held a.written []) (held v []) text at.cause_is (said_short a b text v none p.2.1 (subst (WritesShort b.written v) is w)),
-        subst (λ (due : List Message). RunStops never s fault due text) (sym (p.1 input)) (subst (RunStops never s fault (p.0 ++ messages (next ++ input))) (append-nil text)
-            (stops_then never s s1 fault p.0 (messages (next ++ input)) text [] p.2.2 (stops_now never s1 Write fault (messages (next ++ input)) at tt))),
+        fails fault.cause a (held v []) text at.cause_is (said_short a b text v fed.2.1 w),
+        subst (λ (due : List Message). RunStops never s fault due text) (sym (fed.1 input)) (subst (RunStops never s fault (fed.0 ++ messages (next ++ input))) (append-nil text)
+            (stops_then never s s1 fault fed.0 (messages (next ++ input)) text [] fed.2.2 (stops_now never s1 Write fault (messages (next ++ input)) at tt))),
       )
 
-  -- a fault in a piece: the output before it is written
-  pub stopped_written : (fault : RunFault D) → Ends never line piece s fault a b → fault.cause ≢ Write → Appends b.written v shown → Ends never line piece s fault (held a.written []) (held v [])
-  stopped_written fault p own w = λ input. let q = p input in (q.0, record { whole = λ e. said a b q.0 v none (q.1.whole own) (subst (Appends b.written v) is w); missing = λ e. absurd (own e) }, q.2)
+-- A run that ended by this fault, with its output up to it.
+module _ {D : Type 0} (A : Type 0) (G : Ghosts D) (fault : RunFault D) (b : OutputState) (v : Option (List ℕ)) where
+  -- the writer failed
+  pub none_before : fault.cause ≡ Write → b.written ≡ v → IsWrittenBefore A G fault fault b (held v [])
+  none_before is same old due a q = (q.0, fails fault.cause a (held v []) q.0 is (subst (λ (w : Option (List ℕ)). WritesShort a.written w (a.gathered ++ q.0)) same (q.1.missing is)), q.2)
 
-  -- a fault in a piece, after which the writer failed
-  pub stopped_short : (fault : RunFault D) → Ends never line piece s fault a b → fault.cause ≢ Write → WritesShort b.written v shown → Ends never line piece s (record fault { cause = Write }) (held a.written []) (held v [])
-  stopped_short fault p own w = λ input.
-      let q = p input in (
-        q.0,
-        fails Write (held a.written []) (held v []) q.0 refl (said_short a b q.0 v none (q.1.whole own) (subst (WritesShort b.written v) is w)),
-        stops_for never never s fault Write (messages (line ++ (piece ++ input))) q.0 q.2 (λ before rest last why. tt) (λ before by. record { opening = λ e. cc; device = λ e whole. cc; worn = by.worn }),
-      )
+  pub written_before : fault.cause ≢ Write → Appends b.written v b.gathered → IsWrittenBefore A G fault fault b (held v [])
+  written_before own w old due a q = (q.0, record { whole = λ e. said a b q.0 v (q.1.whole own) w; missing = λ e. absurd (own e) }, q.2)
 
--- a fault of the writer in a piece
-pub stopped_writing : {D A : Type 0} {G : Ghosts D} (line piece : List ℕ) (s : Exec D A G) (fault : RunFault D) (a b : OutputState) → Ends never line piece s fault a b → a.gathered ≡ [] → fault.cause ≡ Write
-    → Ends never line piece s fault (held a.written []) (held b.written [])
-stopped_writing line piece s fault a b p none is = λ input.
-    let q = p input in
-    (q.0, fails fault.cause (held a.written []) (held b.written []) q.0 is (subst (λ (z : List ℕ). WritesShort a.written b.written (z ++ q.0)) none (q.1.missing is)), q.2)
+  -- the writer fails
+  pub short_before : fault.cause ≢ Write → WritesShort b.written v b.gathered → IsWrittenBefore A G fault (record fault { cause = Write }) b (held v [])
+  short_before own w old due a q = (
+    q.0,
+    fails Write a (held v []) q.0 refl (said_short a b q.0 v (q.1.whole own) w),
+    stops_for never never old fault Write due q.0 q.2 (λ before rest last why. tt) (λ before by. record { opening = λ e. cc; device = λ e whole. cc; worn = by.worn }),
+  )
 
 -- ---- the last line of the input
 

@@ -18,14 +18,14 @@ use Rattle.psu_exec.specs.declared.idle_store.IdleStore.TheVariants as idle_stor
 use Rattle.psu_exec.specs.declared.job.Job.{Job}
 use Rattle.psu_messages.specs.Effects as effect
 use Rattle.psu_messages.specs.Effects.{Effect, needs}
+use Rattle.psu_messages.specs.ResponseBuffer.{Text}
 use Rattle.psu_run.specs.Lines.{Message, messages}
-use Rattle.psu_run.specs.Runs.{Acts, Begins, Called, EndsJob, IsAlong, IsByFailure, IsFlush, IsJob, IsSound, IsUnit, IsWornOut, MemoryRefused, RunStep, Runs, RunsUpTo, SomeBreak, StopsAt, StoreBroken, Walks, WritesShort, fault_of}
+use Rattle.psu_run.specs.Runs.{Acts, Begins, Called, EndsJob, IsAlong, IsByFailure, IsFlush, IsJob, IsSound, IsUnit, IsWornOut, MemoryRefused, RunStep, Runs, RunsUpTo, SomeBreak, StopsAt, StoreBroken, Walks, WritesShort, fault_of, never}
 use Rattle.psu_run.specs.declared.jobs.Work.{Work}
 use Rattle.psu_run.specs.declared.jobs.Work.TheVariants as work
 use Rattle.psu_run.specs.declared.run_cause.RunCause.{RunCause}
 use Rattle.psu_run.specs.declared.run_cause.RunCause.TheVariants.{Device, Memory, Open, Read, TooLong, Write}
 use Rattle.psu_run.specs.declared.run_fault.RunFault.{RunFault}
-use Rattle.psu_run.specs.declared.unwritten.Unwritten.{Unwritten}
 
 -- ---- the disk of a device at rest
 
@@ -191,8 +191,8 @@ abbrev pub held : Option (List ℕ) → List ℕ → OutputState
 held written text = record { written = written; gathered = text }
 
 -- the answers of the line in progress are buffered after the text of the lines before it
-abbrev pub output_state : {A : Type 0} → Option (List ℕ) → Unwritten A → OutputState
-output_state written unwritten = held written (unwritten.output.items ++ unwritten.gathered.rest)
+abbrev pub output_state : Option (List ℕ) → List ℕ → Text → OutputState
+output_state written output answers = held written (output ++ answers.rest)
 
 -- the output grew by `more`, whether written or buffered
 abbrev pub Says : OutputState → OutputState → List ℕ → Type 0
@@ -242,6 +242,10 @@ pub record RunStops {D A : Type 0} {G : Ghosts D} (by_input : RunCause → Type 
 
 abbrev pub EndsEarly : {D A : Type 0} {G : Ghosts D} → (RunCause → Type 0) → Exec D A G → RunFault D → List Message → OutputState → OutputState → Type 0
 EndsEarly by_input old fault due output now = (text : List ℕ) × SaysUntil fault.cause output now text × RunStops by_input old fault due text
+
+-- A run that ends by this fault ends so, once the output before it is written. Where the writer fails, that is the fault.
+abbrev pub IsWrittenBefore : {D : Type 0} (A : Type 0) (G : Ghosts D) → RunFault D → RunFault D → OutputState → OutputState → Type 0
+IsWrittenBefore {D} A G fault result output now = (old : Exec D A G) (due : List Message) (before : OutputState) → EndsEarly never old fault due before output → EndsEarly never old result due before now
 
 -- all of them were executed, and then all accepted changes were flushed
 abbrev pub RanAll : {D A : Type 0} {G : Ghosts D} → Exec D A G → List Message → D → OutputState → OutputState → Type 0

@@ -29,6 +29,8 @@ use Rattle.psu_run.specs.Script.{IsScript}
 use Rattle.psu_run.specs.declared.run_cause.RunCause.{RunCause}
 use Rattle.psu_run.specs.declared.run_cause.RunCause.TheVariants.{Device, Memory, Open, Read, TooLong, Write}
 use Rattle.psu_run.specs.declared.run_fault.RunFault.{RunFault}
+use Rattle.psu_run.specs.declared.run_start.RunStart.{RunStart}
+use Rattle.psu_run.specs.declared.run_start.RunStart.TheVariants as run_start
 
 -- ---- steps
 
@@ -384,6 +386,11 @@ abbrev pub IsOfRun : DiskState → Option (List ℕ) → List ℕ → Type 0
 IsOfRun disk input image =
     ((before : List ℕ) × IsCrashImage disk before × ((limit : ℕ) (map : List Item) → Represents before limit map → Represents image limit map))
     ⊎ ((run : RunTo disk.bytes input) × (rest : List Message) × RunsUpTo rest run.due run.text run.steps × IsAlong run.first run.steps image)
+
+-- the disk that a run begins on
+abbrev pub disk_from : {D A : Type 0} → RunStart D A → D
+disk_from (run_start.Image disk) = disk
+disk_from (run_start.Store store) = store.disk
 
 -- the disk that a run returns
 abbrev pub disk_of : {D : Type 0} → Result D (RunFault D) → D

@@ -1,7 +1,6 @@
 //! The executor of a run: it executes units on the device and outputs their answers.
 ghost use Rattle.std.specs.Prelude.{◌≡◌, [], List, ℕ, IfErr, IfOk, IfSome, OnOk, None, false};
-ghost use Rattle.psu_messages.specs.ResponseBuffer.{nothing};
-ghost use Rattle.psu_messages.specs.Executions.{Advances, IsOver, StopsAt};
+ghost use Rattle.psu_messages.specs.Executions.{Advances, IsOver, StopsAt, beginning};
 ghost use Rattle.psu_messages.specs.Relations.{IsAwaited};
 ghost use Rattle.psu_messages.specs.Shown.{progress_of};
 ghost use Rattle.psu_run.specs.Lines.{source_of};
@@ -11,17 +10,14 @@ ghost use Rattle.psu_run.specs.Runs.{LineBegins, LineRuns};
 use crate::RunCause;
 use crate::acting::unit;
 use crate::lines::Lines;
-use crate::run_state::RunState;
+use crate::run_state::Responder;
 use crate::writing::append_output;
 use psu_disk::Disk;
 use psu_exec::{Request, ScpiError};
-use psu_messages::{
-    Executor, MemoryRefused, Need, Progress, ResponseBuffer, Tried, execute_fault, execute_text,
-};
+use psu_messages::{Executor, MemoryRefused, Need, Progress, Tried, execute_fault, execute_text};
 use std::alloc::Allocator;
 use std::convert::Infallible;
 use std::io::Write;
-use std::mem;
 
 // Executes the message of a line: its bytes, or the error that the line is too long.
 #[inline(always)]
@@ -47,26 +43,26 @@ fn proceed<A: Allocator + Copy, F: Executor<A>>(
     Ok(need)
 }
 
-/// The executor of a run: a powered-on device with its answers that are not yet written, and the writer.
+// The executor of a run: a powered-on device with its output, and the writer.
 #[derive(Drop)]
-pub(crate) struct Console<'p, 'w, W: Write, D: Disk, A: Allocator + Copy> {
-    pub run_state: &'p mut RunState<D, A>,
-    pub writer: &'w mut W,
+struct Console<'r, 'w, W: Write, D: Disk, A: Allocator + Copy> {
+    responder: &'r mut Responder<D, A>,
+    writer: &'w mut W,
 }
 
-impl<'p, 'w, W: Write, D: Disk, A: Allocator + Copy> Executor<A> for Console<'p, 'w, W, D, A> {
+impl<'r, 'w, W: Write, D: Disk, A: Allocator + Copy> Executor<A> for Console<'r, 'w, W, D, A> {
     type Stop = RunCause;
 
     // There is none: a unit is executed with the flushes that it waits for.
     type Wait = Infallible;
 
     ghost relations = { record {
-      does = λ x effect y. (y.run_state.ghost_name ≡ x.run_state.ghost_name) × (y.writer.ghost_name ≡ x.writer.ghost_name)
-          × IsDone x.run_state.now.powered.exec (held (W.contents x.writer.now) x.run_state.now.unwritten.output.items) effect y.run_state.now.powered.exec (held (W.contents y.writer.now) y.run_state.now.unwritten.output.items);
-      fails = λ x request cause y. (y.run_state.ghost_name ≡ x.run_state.ghost_name) × (y.writer.ghost_name ≡ x.writer.ghost_name)
-          × IsFailed x.run_state.now.powered.exec (held (W.contents x.writer.now) x.run_state.now.unwritten.output.items) request cause y.run_state.now.powered.exec (held (W.contents y.writer.now) y.run_state.now.unwritten.output.items);
-      stops = λ x cause y. (y.run_state.ghost_name ≡ x.run_state.ghost_name) × (y.writer.ghost_name ≡ x.writer.ghost_name)
-          × IsStopped x.run_state.now.powered.exec (held (W.contents x.writer.now) x.run_state.now.unwritten.output.items) cause y.run_state.now.powered.exec (held (W.contents y.writer.now) y.run_state.now.unwritten.output.items);
+      does = λ x effect y. (y.responder.ghost_name ≡ x.responder.ghost_name) × (y.writer.ghost_name ≡ x.writer.ghost_name)
+          × IsDone x.responder.now.powered.exec (held (W.contents x.writer.now) x.responder.now.output.items) effect y.responder.now.powered.exec (held (W.contents y.writer.now) y.responder.now.output.items);
+      fails = λ x request cause y. (y.responder.ghost_name ≡ x.responder.ghost_name) × (y.writer.ghost_name ≡ x.writer.ghost_name)
+          × IsFailed x.responder.now.powered.exec (held (W.contents x.writer.now) x.responder.now.output.items) request cause y.responder.now.powered.exec (held (W.contents y.writer.now) y.responder.now.output.items);
+      stops = λ x cause y. (y.responder.ghost_name ≡ x.responder.ghost_name) × (y.writer.ghost_name ≡ x.writer.ghost_name)
+          × IsStopped x.responder.now.powered.exec (held (W.contents x.writer.now) x.responder.now.output.items) cause y.responder.now.powered.exec (held (W.contents y.writer.now) y.responder.now.output.items);
       yields = λ _. ⊥;
     } };
 
@@ -80,24 +76,20 @@ impl<'p, 'w, W: Write, D: Disk, A: Allocator + Copy> Executor<A> for Console<'p,
     fn try_unit(
         &mut self,
         request: &Request<'_>,
-        parked: Option<Infallible>,
-    ) -> Result<Tried<A, Infallible>, RunCause>
-        ensures tried { IfOk result (λ t. Trial relations.does self.old (is_some parked) request.now self.new (reply_of t)) }
-        ensures wait { IfOk result HasItsWait }
-        ensures stopped { IfErr result (λ stop. IsBrokenOff relations self.old (is_some parked) request.now stop self.new) }
-    {
+        parked: &Option<Infallible>,
+    ) -> Result<Tried<A, Infallible>, RunCause> {
         match parked {
             None => {
-                let outcome = unit(&mut self.run_state.powered, request)?;
+                let outcome = unit(&mut self.responder.powered, request)?;
                 Ok(Tried::Replied(outcome))
             }
-            Some(never) => match never {},
+            Some(never) => match *never {},
         }
     }
 
     #[inline(always)]
     fn send(&mut self, text: &[u8], _: bool) -> Result<(), RunCause> {
-        append_output(&mut self.run_state.unwritten.output, text, self.writer)
+        append_output(&mut self.responder.output, text, self.writer)
     }
 
     fn out_of_memory(&self, _: MemoryRefused) -> RunCause {
@@ -105,33 +97,25 @@ impl<'p, 'w, W: Write, D: Disk, A: Allocator + Copy> Executor<A> for Console<'p,
     }
 }
 
-impl<'p, 'w, W: Write, D: Disk, A: Allocator + Copy> Console<'p, 'w, W, D, A> {
-    /// Executes the message of a complete line, and outputs its response. Where it stops early, the answers that were not output are left in the response buffer.
-    pub fn follow(&mut self, alloc: A, lines: &Lines<A>) -> Result<(), RunCause>
-        requires fresh { self.old.run_state.now.unwritten.gathered ≡ nothing }
+impl<'r, 'w, W: Write, D: Disk, A: Allocator + Copy> Console<'r, 'w, W, D, A> {
+    // Executes the message of a complete line, and outputs its response.
+    fn follow(
+        &mut self,
+        lines: &Lines<A>,
+        progress: &mut Progress<A, Infallible>,
+    ) -> Result<(), RunCause>
+        requires fresh { progress_of progress.old ≡ beginning }
         ensures runs { OnOk result ((text : List ℕ)
-            × Leads self.old.run_state.now.powered.exec self.new.run_state.now.powered.exec (LineRuns (source_of lines.now.line.items) text)
-            × Says (held (W.contents self.old.writer.now) self.old.run_state.now.unwritten.output.items) (held (W.contents self.new.writer.now) self.new.run_state.now.unwritten.output.items) text) }
+            × Leads self.old.responder.now.powered.exec self.new.responder.now.powered.exec (LineRuns (source_of lines.now.line.items) text)
+            × Says (held (W.contents self.old.writer.now) self.old.responder.now.output.items) (held (W.contents self.new.writer.now) self.new.responder.now.output.items) text) }
         ensures breaks { IfErr result (λ cause. (part : List ℕ)
-            × DeviceStops self.old.run_state.now.powered.exec self.new.run_state.now.powered.exec (LineBegins (source_of lines.now.line.items) part) cause
-            × SaysUntil cause (held (W.contents self.old.writer.now) self.old.run_state.now.unwritten.output.items)
-            (output_state (W.contents self.new.writer.now) self.new.run_state.now.unwritten) part) }
-        ensures run_state { self.new.run_state.ghost_name ≡ self.old.run_state.ghost_name }
+            × DeviceStops self.old.responder.now.powered.exec self.new.responder.now.powered.exec (LineBegins (source_of lines.now.line.items) part) cause
+            × SaysUntil cause (held (W.contents self.old.writer.now) self.old.responder.now.output.items)
+            (output_state (W.contents self.new.writer.now) self.new.responder.now.output.items progress.new.gathered) part) }
+        ensures responder { self.new.responder.ghost_name ≡ self.old.responder.ghost_name }
         ensures writer { self.new.writer.ghost_name ≡ self.old.writer.ghost_name }
     {
-        let gathered = mem::replace(
-            &mut self.run_state.unwritten.gathered,
-            ResponseBuffer::new(alloc),
-        );
-        let mut progress = Progress {
-            units: 0,
-            expansion: None,
-            parked: None,
-            gathered,
-        };
-        let done = proceed(self, lines, &mut progress);
-        self.run_state.unwritten.gathered = progress.gathered;
-        match done {
+        match proceed(self, lines, progress) {
             Ok(need) => match need {
                 None => Ok(()),
                 Some(_) => unreachable!(),
@@ -139,4 +123,27 @@ impl<'p, 'w, W: Write, D: Disk, A: Allocator + Copy> Console<'p, 'w, W, D, A> {
             Err(cause) => Err(cause),
         }
     }
+}
+
+/// Executes the message of a complete line, and outputs its response. Where it stops early, the answers that were not
+/// output are left in the progress.
+pub(crate) fn execute_line<W: Write, D: Disk, A: Allocator + Copy>(
+    responder: &mut Responder<D, A>,
+    lines: &Lines<A>,
+    progress: &mut Progress<A, Infallible>,
+    writer: &mut W,
+) -> Result<(), RunCause>
+    requires fresh { progress_of progress.old ≡ beginning }
+    ensures runs { OnOk result ((text : List ℕ)
+        × Leads responder.old.powered.exec responder.new.powered.exec (LineRuns (source_of lines.now.line.items) text)
+        × Says (held (W.contents writer.old) responder.old.output.items) (held (W.contents writer.new) responder.new.output.items) text) }
+    ensures breaks { IfErr result (λ cause. (part : List ℕ)
+        × DeviceStops responder.old.powered.exec responder.new.powered.exec (LineBegins (source_of lines.now.line.items) part) cause
+        × SaysUntil cause (held (W.contents writer.old) responder.old.output.items) (output_state (W.contents writer.new) responder.new.output.items progress.new.gathered) part) }
+{
+    let mut console = Console {
+        responder: &mut *responder,
+        writer: &mut *writer,
+    };
+    console.follow(lines, progress)
 }

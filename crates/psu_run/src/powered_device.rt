@@ -1,18 +1,19 @@
 //! The powered-on device of a run.
-ghost use Rattle.std.specs.Prelude.{◌≡◌, ◌≢◌, ◌↔◌, ◌≤◌, ℕ, List, IfOk, IfErr, IsTrue, true, false, None, Some};
+ghost use Rattle.std.specs.Prelude.{◌≡◌, ◌≢◌, ◌↔◌, ◌≤◌, ℕ, List, IfOk, IfErr, IsTrue, length, true, false, None, Some};
 ghost use Rattle.std.specs.Option.{ForSome};
 ghost use Rattle.psu_disk.specs.Disk.{LeavesOnly};
 ghost use Rattle.psu_items.specs.Finding.{IsOldOrSame};
-ghost use Rattle.psu_items.specs.Image.{EachRepresents};
+ghost use Rattle.psu_items.specs.Image.{EachRepresents, Represents};
 ghost use Rattle.psu_map.specs.Map.{Item};
 ghost use Rattle.psu_exec.specs.Device.{is_broken, is_denied, is_open, wait_of};
 ghost use Rattle.psu_exec.specs.Jobs.{idle_disk};
 ghost use Rattle.psu_exec.specs.declared.condition.Condition.TheVariants.{Worn};
+ghost use Rattle.psu_exec.specs.declared.idle_store.IdleStore.TheVariants as when_idle;
 ghost use Rattle.psu_exec.specs.declared.start_cause.StartFault.{StartFault};
 ghost use Rattle.psu_run.specs.Progress.{FaultOf, IsWornAtLast, born, disk_in, extent_of, failures_of, world_of};
-ghost use Rattle.psu_run.specs.Runs.{IsByFailure, IsWornOut, NotStarted, PowersOn, cause_of};
+ghost use Rattle.psu_run.specs.Runs.{IsByFailure, IsWornOut, NotStarted, PowersOn, cause_of, disk_from};
 
-use crate::{RunCause, RunFault};
+use crate::{RunCause, RunFault, RunStart};
 use psu_disk::Disk;
 use psu_exec::{Condition, Crowded, Ended, Exec, Session};
 use psu_items::Store;
@@ -40,41 +41,22 @@ pub(crate) struct PoweredDevice<D: Disk, A: Allocator + Copy> {
 }
 
 impl<D: Disk, A: Allocator + Copy> PoweredDevice<D, A> {
-    /// Opens a disk, powers on with its contents, and opens the session.
-    pub fn on(alloc: A, disk: D) -> Result<PoweredDevice<D, A>, RunFault<D>>
-        ensures starts { D.honest → IfOk result (λ p. PowersOn (D.state disk).bytes (world_of (born p.exec) p.exec)) }
-        ensures works { IfOk result (λ p. failures_of p.exec ≡ D.failures disk) }
-        ensures size { IfOk result (λ p. extent_of p.exec ≡ D.extent disk) }
-        ensures stored { IfOk result (λ p. p.exec.idle_store ≢ None) }
+    /// Powers on with the contents of a store, and opens the session. The image is any that represents the store's map.
+    pub fn of_store(alloc: A, store: Store<D, A>) -> Result<PoweredDevice<D, A>, RunFault<D>>
+        ensures starts { D.honest → (image : List ℕ) → Represents image store.limit store.items → length (D.state store.disk).bytes ≡ length image
+            → IfOk result (λ p. PowersOn image (world_of (born p.exec) p.exec)) }
+        ensures own { D.honest → Represents (D.state store.disk).bytes store.limit store.items }
+        ensures store { IfOk result (λ p. p.exec.idle_store ≡ Some (when_idle.Whole store)) }
         ensures whole { IfOk result (λ p. is_broken p.exec.device.flush.store ≡ false) }
 
         ensures other { IfErr result (λ f. f.cause ≢ RunCause.Write) }
-        ensures refused { D.honest → IfErr result (λ f. (why : StartFault) × (f.cause ≡ cause_of why)
-            × NotStarted (D.state disk).bytes (D.failures disk) (D.failures f.disk) why) }
-        ensures failed { IfErr result (IsByFailure D.Disk (D.failures disk)) }
-        ensures later { IfErr result (λ f. D.failures disk ≤ D.failures f.disk) }
-        ensures extent { IfErr result (λ f. D.extent f.disk ≡ D.extent disk) }
-        // At each moment since the call began, each possible crash image is one from before, or has the root that was
-        // current when the disk was read.
-        ensures time { D.honest → D.records → IfOk result (λ p.
-            ForSome p.exec.idle_store (λ h. LeavesOnly D.moment D.left_since disk (idle_disk h)
-            (IsOldOrSame (D.state disk)))) }
-        ensures time_refused { D.honest → D.records → IfErr result (λ f. LeavesOnly D.moment D.left_since disk f.disk (IsOldOrSame (D.state disk))) }
-
-        // A disk that does not power on also keeps the map that each of its possible crash images represented.
-        ensures left { D.honest → IfErr result (λ f. (limit : ℕ) (map : List Item)
-            → EachRepresents (D.state disk) limit map → EachRepresents (D.state f.disk) limit map) }
+        ensures refused { IfErr result (λ f. (image : List ℕ) → Represents image store.limit store.items
+            → (why : StartFault) × (f.cause ≡ cause_of why) × NotStarted image (D.failures store.disk) (D.failures store.disk) why) }
+        ensures failed { IfErr result (IsByFailure D.Disk (D.failures store.disk)) }
+        ensures disk { IfErr result (λ f. f.disk ≡ store.disk) }
     {
-        let store = match Store::open(alloc, disk) {
-            Ok(store) => store,
-            Err(refused) => {
-                return Err(RunFault {
-                    cause: RunCause::from(refused.cause),
-                    disk: refused.disk,
-                    is_worn: false,
-                });
-            }
-        };
+        // (for what it says of the disk)
+        store.items();
         let mut exec = match Exec::power_on(alloc, store) {
             Ok(exec) => exec,
             Err(fault) => {
@@ -89,6 +71,48 @@ impl<D: Disk, A: Allocator + Copy> PoweredDevice<D, A> {
             Ok(session) => Ok(PoweredDevice { exec, session }),
             Err(Crowded) => unreachable!(),
         }
+    }
+
+    /// Opens the disk that the run begins on, unless its store is open, powers on with its contents, and opens the session.
+    pub fn on(alloc: A, start: RunStart<D, A>) -> Result<PoweredDevice<D, A>, RunFault<D>>
+        ensures starts { D.honest → IfOk result (λ p. PowersOn (D.state (disk_from start)).bytes (world_of (born p.exec) p.exec)) }
+        ensures works { IfOk result (λ p. failures_of p.exec ≡ D.failures (disk_from start)) }
+        ensures size { IfOk result (λ p. extent_of p.exec ≡ D.extent (disk_from start)) }
+        ensures stored { IfOk result (λ p. p.exec.idle_store ≢ None) }
+        ensures whole { IfOk result (λ p. is_broken p.exec.device.flush.store ≡ false) }
+
+        ensures other { IfErr result (λ f. f.cause ≢ RunCause.Write) }
+        ensures refused { D.honest → IfErr result (λ f. (why : StartFault) × (f.cause ≡ cause_of why)
+            × NotStarted (D.state (disk_from start)).bytes (D.failures (disk_from start)) (D.failures f.disk) why) }
+        ensures failed { IfErr result (IsByFailure D.Disk (D.failures (disk_from start))) }
+        ensures later { IfErr result (λ f. D.failures (disk_from start) ≤ D.failures f.disk) }
+        ensures extent { IfErr result (λ f. D.extent f.disk ≡ D.extent (disk_from start)) }
+        // At each moment since the call began, each possible crash image is one from before, or has the root that was
+        // current when the disk was read.
+        ensures time { D.honest → D.records → IfOk result (λ p.
+            ForSome p.exec.idle_store (λ h. LeavesOnly D.moment D.left_since (disk_from start) (idle_disk h)
+            (IsOldOrSame (D.state (disk_from start))))) }
+        ensures time_refused { D.honest → D.records → IfErr result (λ f. LeavesOnly D.moment D.left_since (disk_from start) f.disk (IsOldOrSame (D.state (disk_from start)))) }
+
+        // A disk that does not power on also keeps the map that each of its possible crash images represented.
+        ensures left { D.honest → IfErr result (λ f. (limit : ℕ) (map : List Item)
+            → EachRepresents (D.state (disk_from start)) limit map → EachRepresents (D.state f.disk) limit map) }
+    {
+        let store = match start {
+            RunStart::Store(store) => store,
+            RunStart::Image(disk) => match Store::open(alloc, disk) {
+                Ok(store) => store,
+                Err(refused) => {
+                    return Err(RunFault {
+                        cause: RunCause::from(refused.cause),
+                        disk: refused.disk,
+                        is_worn: false,
+                    });
+                }
+            },
+        };
+        let powered = PoweredDevice::of_store(alloc, store)?;
+        Ok(powered)
     }
 
     /// Ends the device and returns its disk.

@@ -1,43 +1,101 @@
-//! A powered-on device with its output that is not yet written.
-ghost use Rattle.std.specs.Prelude.{◌≡◌, []};
-ghost use Rattle.psu_messages.specs.ResponseBuffer.{nothing};
-ghost use Rattle.psu_run.specs.Progress.{FaultOf};
+//! What a run has in hand.
+ghost use Rattle.std.specs.Prelude.{◌≡◌, ◌↔◌, ◌++◌, [], IsTrue};
+ghost use Rattle.psu_messages.specs.Executions.{beginning};
+ghost use Rattle.psu_messages.specs.Shown.{progress_of};
+ghost use Rattle.psu_run.specs.Progress.{FaultOf, IsWrittenBefore, held, output_state};
+ghost use Rattle.psu_run.specs.declared.run_fault.RunFault.{RunFault as AnyFault};
 
-use crate::RunCause;
-use crate::halted::Halted;
+use crate::lines::Lines;
+use crate::output::put_both;
 use crate::powered_device::PoweredDevice;
-use crate::unwritten::Unwritten;
+use crate::{RunCause, RunFault};
 use psu_disk::Disk;
+use psu_messages::{Progress, ResponseBuffer};
 use std::alloc::Allocator;
+use std::convert::Infallible;
+use std::io::Write;
 
-/// A powered-on device, with its answers that are not yet written.
+/// The powered-on device, and its responses that are not yet written.
+#[derive(Drop)]
+pub(crate) struct Responder<D: Disk, A: Allocator + Copy> {
+    pub powered: PoweredDevice<D, A>,
+    pub output: Vec<u8, A>,
+}
+
+/// What a run has in hand: the line that is being read, the progress of the line that is executed, with its answers
+/// that are not yet responses, and the device with its output.
 #[derive(Drop)]
 pub(crate) struct RunState<D: Disk, A: Allocator + Copy> {
-    pub powered: PoweredDevice<D, A>,
-    pub unwritten: Unwritten<A>,
+    pub alloc: A,
+    pub lines: Lines<A>,
+    pub progress: Progress<A, Infallible>,
+    pub responder: Responder<D, A>,
+}
+
+fn is_write(cause: RunCause) -> bool
+    ensures { IsTrue result ↔ (cause ≡ RunCause.Write) }
+{
+    matches!(cause, RunCause::Write)
+}
+
+/// Writes the output before a fault by which the run then ends, unless the writer has failed. Where it fails now, that
+/// is the fault.
+pub(crate) fn write_before<W: Write, D: Disk, A: Allocator + Copy>(
+    fault: RunFault<D>,
+    output: &[u8],
+    progress: &Progress<A, Infallible>,
+    writer: &mut W,
+) -> RunFault<D>
+    ensures { IsWrittenBefore A D.Disk fault result (held (W.contents writer.old) (output.now ++ progress.now.gathered.rest)) (held (W.contents writer.new) []) }
+{
+    if is_write(fault.cause) {
+        return fault;
+    }
+    match put_both(writer, output, progress.gathered.text()) {
+        Ok(()) => fault,
+        Err(cause) => RunFault { cause, ..fault },
+    }
 }
 
 impl<D: Disk, A: Allocator + Copy> RunState<D, A> {
-    /// Returns a device before the first line of a piece: nothing is buffered.
+    /// Returns the state before the input: nothing is read, and there is no output.
     pub fn new(alloc: A, powered: PoweredDevice<D, A>) -> RunState<D, A>
-        ensures powered { result.powered ≡ powered }
-        ensures none { result.unwritten.output.items ≡ [] }
-        ensures fresh { result.unwritten.gathered ≡ nothing }
+        ensures powered { result.responder.powered ≡ powered }
+        ensures line { result.lines.line.items ≡ [] }
+        ensures none { result.responder.output.items ≡ [] }
+        ensures fresh { progress_of result.progress ≡ beginning }
     {
         RunState {
-            powered,
-            unwritten: Unwritten::new(alloc),
+            alloc,
+            lines: Lines::new(alloc),
+            progress: Progress::new(ResponseBuffer::new(alloc)),
+            responder: Responder {
+                powered,
+                output: Vec::new(alloc),
+            },
         }
     }
 
-    /// Ends the run early, for this cause.
-    pub fn fault(self, cause: RunCause) -> Halted<D, A>
-        ensures unwritten { result.unwritten ≡ self.unwritten }
-        ensures fault { FaultOf self.powered.exec cause result.fault }
+    /// Ends it, and returns the device.
+    pub fn into_device(self) -> PoweredDevice<D, A>
+        ensures { result ≡ self.responder.powered }
     {
-        Halted {
-            fault: self.powered.fault(cause),
-            unwritten: self.unwritten,
-        }
+        let RunState { responder, .. } = self;
+        let Responder { powered, .. } = responder;
+        powered
+    }
+
+    /// Ends the run early, for this cause, once the output before it is written.
+    pub fn end_early<W: Write>(self, cause: RunCause, writer: &mut W) -> RunFault<D>
+        ensures { (fault : AnyFault D) × FaultOf self.responder.powered.exec cause fault
+            × IsWrittenBefore A D.Disk fault result (output_state (W.contents writer.old) self.responder.output.items self.progress.gathered) (held (W.contents writer.new) []) }
+    {
+        let Responder { powered, output } = self.responder;
+        write_before(
+            powered.fault(cause),
+            output.as_slice(),
+            &self.progress,
+            writer,
+        )
     }
 }

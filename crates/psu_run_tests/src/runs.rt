@@ -1,6 +1,6 @@
 //! A run, and its result.
 use psu_disk::Disk;
-use psu_run::{RunCause, RunFault, StartCause, run};
+use psu_run::{RunCause, RunFault, RunStart, StartCause, run};
 use std::alloc::{Allocator, Global};
 use std::io::{Read, Write};
 
@@ -23,7 +23,7 @@ pub(crate) fn run_between<R: Read, W: Write, D: Disk, A: Allocator + Copy>(
     writer: &mut W,
     disk: D,
 ) -> Result<D, RunFault<D>> {
-    run(memory, reader, writer, disk)
+    run(memory, reader, writer, RunStart::Image(disk))
 }
 
 /// Runs this input on a disk.

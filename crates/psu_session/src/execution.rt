@@ -62,11 +62,10 @@ impl<'a, 'b, 'c, D: Device> Executor<Global> for Execution<'a, 'b, 'c, D> {
         parked: &Option<Accepted>,
     ) -> Result<Tried<Global, Accepted>, EndCause> {
         self.left = self.left.saturating_sub(1);
-        let outcome = match parked {
-            None => self.device.execute(request),
-            Some(Accepted) => self.device.settle(),
-        };
-        Ok(Tried::of(outcome, Accepted))
+        match parked {
+            None => Ok(Tried::of(self.device.execute(request), Accepted)),
+            Some(Accepted) => Ok(Tried::of(self.device.settle(), Accepted)),
+        }
     }
 
     fn send(&mut self, text: &[u8], is_last: bool) -> Result<(), EndCause> {

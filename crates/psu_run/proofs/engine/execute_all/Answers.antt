@@ -16,4 +16,7 @@ pub returns-in_default-clause-reads : goal.returns-in_default-clause-reads
 returns-in_default-clause-reads g c = no_reads 65536 (g.R.Source.remaining c.args.reader.now) (g.R.Source.reads c.args.reader.now)
 
 pub returns-in_err-disk-clause-early : goal.returns-in_err-disk-clause-early
-returns-in_err-disk-clause-early g c = passed c.from_residual.result c.in_err-disk.field-0.0 _ c.from_residual.ensures.1 c.in_err-disk.ensures.early
+returns-in_err-disk-clause-early g c = passed c.from_residual.result c.in_err-disk.field-0.0 _ c.from_residual.ensures.1 (rw c.new-run.ensures.powered at c.in_err-disk.ensures.early)
+
+pub returns-clause-whole : goal.returns-clause-whole
+returns-clause-whole g c = rw c.new-run.ensures.powered at c.in_ok-disk.ensures.whole

@@ -12,48 +12,52 @@ reading-init g c = record {
   seen = [];
   has = read_start _ (g.R.Source.remaining c.args.reader.now) (g.R.Source.reads c.args.reader.now) c.new-intake.ensures.reads;
   taken = sym c.new-intake.ensures.bytes;
-  fed = rw c.new-lines.ensures (fed_none [] c.args.powered.exec (held (g.W.Write.contents c.args.writer.now) []));
+  fed = rw c.requires.line (fed_none [] c.args.run.responder.powered.exec (held (g.W.Write.contents c.args.writer.now) []));
+  none = c.requires.none;
+  fresh = c.requires.fresh;
 }
 
 pub returns-in_default-clause-early : goal.returns-in_default-clause-early
-returns-in_default-clause-early g c = read_front c.reading.lines.line.items c.reading.invariant.seen _ _ _ _ c.reading.invariant.has.taken c.reading.invariant.fed _ Read c.fault.result c.fault.ensures tt (λ w. cc)
+returns-in_default-clause-early g c = read_front c.reading.run.lines.line.items c.reading.invariant.seen _ _ _ _ c.reading.invariant.has.taken c.reading.invariant.fed _ Read c.fault.result c.fault.ensures tt (λ w. cc)
 
 pub returns-then-count-eq0-clause-whole : goal.returns-then-count-eq0-clause-whole
 returns-then-count-eq0-clause-whole g c =
-    read_end c.reading.lines.line.items c.reading.invariant.seen _ _ _ _ c.reading.invariant.has.taken c.reading.invariant.fed c.in_ok-disk.disk _ _ (rw c.if-count-eq0.true at c.in-Ok.ensures.bytes.0)
+    read_end c.reading.run.lines.line.items c.reading.invariant.seen _ _ _ _ c.reading.invariant.has.taken c.reading.invariant.fed c.in_ok-disk.disk _ _ (rw c.if-count-eq0.true at c.in-Ok.ensures.bytes.0)
     (c.in-Ok.ensures.bytes.1 c.if-count-eq0.true (omega (arith, c.requires.room, c.reading.auto.piece, c.read_into.auto.piece))) c.in_ok-disk.ensures.whole
 
 pub returns-in_err-disk-clause-early : goal.returns-in_err-disk-clause-early
 returns-in_err-disk-clause-early g c =
     passed c.from_residual.result c.in_err-disk.field-0.0 _ c.from_residual.ensures.1
-    (end_stop c.reading.lines.line.items c.reading.invariant.seen _ _ _ _ c.reading.invariant.has.taken c.reading.invariant.fed _ c.in_err-disk.field-0.0 _ _ (rw c.if-count-eq0.true at c.in-Ok.ensures.bytes.0)
+    (end_stop c.reading.run.lines.line.items c.reading.invariant.seen _ _ _ _ c.reading.invariant.has.taken c.reading.invariant.fed _ c.in_err-disk.field-0.0 _ _ (rw c.if-count-eq0.true at c.in-Ok.ensures.bytes.0)
     (c.in-Ok.ensures.bytes.1 c.if-count-eq0.true (omega (arith, c.requires.room, c.reading.auto.piece, c.read_into.auto.piece))) c.in_err-disk.ensures.early)
 
-pub returns-in_err-powered-clause-early : goal.returns-in_err-powered-clause-early
-returns-in_err-powered-clause-early g c =
-    passed c.from_residual-in_err-powered.result c.in_err-powered.field-0.0 _ c.from_residual-in_err-powered.ensures.1
-    (cut_front c.reading.lines.line.items c.reading.invariant.seen _ _ _ _ c.reading.invariant.has.taken c.reading.invariant.fed _ c.room-room.result c.in-Ok.count c.read_into.new.piece c.in_err-powered.field-0.0 _ _ (omega (arith, c.if-count-room.true)) c.in-Ok.ensures.bytes.0 c.in_err-powered.ensures.early)
+pub returns-in_err-run-clause-early : goal.returns-in_err-run-clause-early
+returns-in_err-run-clause-early g c =
+    passed c.from_residual-in_err-run.result c.in_err-run.field-0.0 _ c.from_residual-in_err-run.ensures.1
+    (cut_front c.reading.run.lines.line.items c.reading.invariant.seen _ _ _ _ c.reading.invariant.has.taken c.reading.invariant.fed _ c.room-room.result c.in-Ok.count c.read_into.new.piece c.in_err-run.field-0.0 _ _ (omega (arith, c.if-count-room.true)) c.in-Ok.ensures.bytes.0 c.in_err-run.ensures.stopped)
 
 pub returns-then-count-room-clause-early : goal.returns-then-count-room-clause-early
 returns-then-count-room-clause-early g c =
     let has = read_more c.in-Ok.count c.read_into.new.piece c.reading.invariant.has c.in-Ok.ensures.bytes.0 c.in-Ok.ensures.counted.1 c.if-count-eq0.false c.in-Ok.ensures.bound.0 c.count_read.ensures.reads in
     let all = taken_more c.reading.invariant.seen c.read_into.new.piece c.in-Ok.count _ _ _ c.reading.invariant.taken c.in-Ok.ensures.bound.0 c.count_read.ensures.bytes refl in
-    cut_after c.reading.lines.line.items c.reading.invariant.seen _ _ _ _ c.reading.invariant.has.taken c.reading.invariant.fed _ c.answer.new.lines.line.items c.room-room.result c.in-Ok.count c.read_into.new.piece
-    c.in_ok-powered.powered.exec TooLong c.fault-then-count-room.result _ _ (omega (arith, c.if-count-room.true)) c.in-Ok.ensures.bytes.0 c.in_ok-powered.ensures.whole c.fault-then-count-room.ensures
+    cut_after c.reading.run.lines.line.items c.reading.invariant.seen _ _ _ _ c.reading.invariant.has.taken c.reading.invariant.fed _ c.in_ok-run.run.lines.line.items c.room-room.result c.in-Ok.count c.read_into.new.piece
+    c.in_ok-run.run.responder.powered.exec TooLong c.fault-then-count-room.result _ _ (omega (arith, c.if-count-room.true)) c.in-Ok.ensures.bytes.0 c.in_ok-run.ensures.fed c.fault-then-count-room.ensures
     (_, _, has, inl (omega (arith, all, c.room-room.ensures, c.if-count-room.true, c.count_read.ensures.bytes))) (λ w. cc)
 
-pub returns-in_err-powered-2-clause-early : goal.returns-in_err-powered-2-clause-early
-returns-in_err-powered-2-clause-early g c =
-    let fault = c.in_err-powered-2.field-0.0 in let piece = take c.in-Ok.count c.read_into.new.piece in
-    passed c.from_residual-in_err-powered-2.result fault _ c.from_residual-in_err-powered-2.ensures.1
-    (read_fault c.reading.lines.line.items c.reading.invariant.seen _ _ _ _ c.reading.invariant.has.taken c.reading.invariant.fed _ piece fault _ _ c.in-Ok.ensures.bytes.0 c.in_err-powered-2.ensures.early)
+pub returns-in_err-run-2-clause-early : goal.returns-in_err-run-2-clause-early
+returns-in_err-run-2-clause-early g c =
+    let fault = c.in_err-run-2.field-0.0 in let piece = take c.in-Ok.count c.read_into.new.piece in
+    passed c.from_residual-in_err-run-2.result fault _ c.from_residual-in_err-run-2.ensures.1
+    (read_fault c.reading.run.lines.line.items c.reading.invariant.seen _ _ _ _ c.reading.invariant.has.taken c.reading.invariant.fed _ piece fault _ _ c.in-Ok.ensures.bytes.0 c.in_err-run-2.ensures.stopped)
 
 pub reading-preserved : goal.reading-preserved
 reading-preserved g c = record {
   seen = c.reading.invariant.seen ++ take c.in-Ok.count c.read_into.new.piece;
   has = read_more c.in-Ok.count c.read_into.new.piece c.reading.invariant.has c.in-Ok.ensures.bytes.0 c.in-Ok.ensures.counted.1 c.if-count-eq0.false c.in-Ok.ensures.bound.0 (c.count_bytes.ensures.reads ∙ c.count_read.ensures.reads);
   taken = taken_more c.reading.invariant.seen c.read_into.new.piece c.in-Ok.count _ _ _ c.reading.invariant.taken c.in-Ok.ensures.bound.0 c.count_read.ensures.bytes c.count_bytes.ensures.bytes;
-  fed = fed_then [] c.reading.lines.line.items c.answer-in-reading.new.lines.line.items c.reading.invariant.seen (take c.in-Ok.count c.read_into.new.piece) _ _ _ (held (g.W.Write.contents c.args.writer.now) []) _ _ c.reading.invariant.fed c.in_ok-powered-2.ensures.whole;
+  fed = fed_then [] c.reading.run.lines.line.items c.in_ok-run-2.run.lines.line.items c.reading.invariant.seen (take c.in-Ok.count c.read_into.new.piece) _ _ _ (held (g.W.Write.contents c.args.writer.now) []) _ _ c.reading.invariant.fed c.in_ok-run-2.ensures.fed;
+  none = c.in_ok-run-2.ensures.none;
+  fresh = c.in_ok-run-2.ensures.fresh;
 }
 
 pub returns-then-count-eq0-clause-short : goal.returns-then-count-eq0-clause-short
@@ -64,7 +68,7 @@ returns-then-count-eq0-clause-short g c =
 pub returns-clause-early : goal.returns-clause-early
 returns-clause-early g c =
     let full : c.reading.intake.reads + 1 ≤ 1048576 → ⊥ = λ room. let left = c.reading-test.ensures.1 room in absurd cc in
-    read_front c.reading.lines.line.items c.reading.invariant.seen _ _ _ _ c.reading.invariant.has.taken c.reading.invariant.fed _ TooLong c.fault-2.result c.fault-2.ensures
+    read_front c.reading.run.lines.line.items c.reading.invariant.seen _ _ _ _ c.reading.invariant.has.taken c.reading.invariant.fed _ TooLong c.fault-2.result c.fault-2.ensures
     (_, _, c.reading.invariant.has, inr (omega (arith, full, c.reading.intake.few))) (λ w. cc)
 
 -- ---- how far it reads
@@ -94,8 +98,8 @@ returns-in_err-disk-clause-reads g c =
     further_none _ (read_none c.reading.invariant.has (rw c.if-count-eq0.true at c.in-Ok.ensures.bytes.0) (c.in-Ok.ensures.counted.0 c.if-count-eq0.true))
     (omega (arith, c.count_read.new.self.few, c.count_read.ensures.reads)) (omega (arith, c.reading.invariant.taken, c.reading.intake.short))
 
-pub returns-in_err-powered-clause-reads : goal.returns-in_err-powered-clause-reads
-returns-in_err-powered-clause-reads g c =
+pub returns-in_err-run-clause-reads : goal.returns-in_err-run-clause-reads
+returns-in_err-run-clause-reads g c =
     further_more _ c.in-Ok.count c.reading.invariant.seen c.read_into.new.piece
     (read_more c.in-Ok.count c.read_into.new.piece c.reading.invariant.has c.in-Ok.ensures.bytes.0 c.in-Ok.ensures.counted.1 c.if-count-eq0.false c.in-Ok.ensures.bound.0 c.count_read.ensures.reads)
     c.count_read.new.self.few (omega (arith, c.reading.invariant.taken, c.reading.intake.short)) c.in-Ok.ensures.bound.0 (omega (arith, c.in-Ok.ensures.bound.0, c.reading.auto.piece, c.read_into.auto.piece))
@@ -106,8 +110,8 @@ returns-then-count-room-clause-reads g c =
     (read_more c.in-Ok.count c.read_into.new.piece c.reading.invariant.has c.in-Ok.ensures.bytes.0 c.in-Ok.ensures.counted.1 c.if-count-eq0.false c.in-Ok.ensures.bound.0 c.count_read.ensures.reads)
     c.count_read.new.self.few (omega (arith, c.reading.invariant.taken, c.reading.intake.short)) c.in-Ok.ensures.bound.0 (omega (arith, c.in-Ok.ensures.bound.0, c.reading.auto.piece, c.read_into.auto.piece))
 
-pub returns-in_err-powered-2-clause-reads : goal.returns-in_err-powered-2-clause-reads
-returns-in_err-powered-2-clause-reads g c =
+pub returns-in_err-run-2-clause-reads : goal.returns-in_err-run-2-clause-reads
+returns-in_err-run-2-clause-reads g c =
     further_more _ c.in-Ok.count c.reading.invariant.seen c.read_into.new.piece
     (read_more c.in-Ok.count c.read_into.new.piece c.reading.invariant.has c.in-Ok.ensures.bytes.0 c.in-Ok.ensures.counted.1 c.if-count-eq0.false c.in-Ok.ensures.bound.0 c.count_read.ensures.reads)
     c.count_read.new.self.few (omega (arith, c.reading.invariant.taken, c.reading.intake.short)) c.in-Ok.ensures.bound.0 (omega (arith, c.in-Ok.ensures.bound.0, c.reading.auto.piece, c.read_into.auto.piece))

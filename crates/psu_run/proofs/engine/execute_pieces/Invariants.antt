@@ -1,4 +1,6 @@
 use Rattle.std.proofs.Common.{◌≡◌, List, [], ℕ, length, ◌-◌}
+use Rattle.psu_messages.specs.Executions.{beginning}
+use Rattle.psu_messages.specs.Shown.{progress_of}
 use Rattle.psu_run.proofs.Common.{Fed, HasRead, held}
 use Rattle.psu_run.proofs.engine.execute_pieces.Given as goal
 
@@ -8,7 +10,9 @@ invariant-reading g l = record {
   seen : List ℕ;
   has : HasRead l.intake.reads l.intake.reads seen (g.R.Source.remaining l.initial.reader) (g.R.Source.remaining l.reader) (g.R.Source.reads l.initial.reader) (g.R.Source.reads l.reader);
   taken : length seen ≡ l.intake.bytes;
-  fed : Fed [] seen l.lines.line.items l.initial.powered.exec l.powered.exec (held (g.W.Write.contents l.initial.writer) []) (held (g.W.Write.contents l.writer) []);
+  fed : Fed [] seen l.run.lines.line.items l.initial.run.responder.powered.exec l.run.responder.powered.exec (held (g.W.Write.contents l.initial.writer) []) (held (g.W.Write.contents l.writer) []);
+  none : l.run.responder.output.items ≡ [];
+  fresh : progress_of l.run.progress ≡ beginning;
 }
 
 abbrev pub decreases-reading : goal.decreases-reading

@@ -5,6 +5,7 @@ use Rattle.psu_exec.proofs.Moments.{keeps_map}
 use Rattle.psu_run.proofs.Fronts.{passed}
 use Rattle.psu_run.proofs.Input.{no_reads}
 use Rattle.psu_run.proofs.Reading.{early_moments, passed_disk, run_early, run_whole, whole_moments}
+use Rattle.psu_run.specs.Runs.{disk_from}
 use Rattle.psu_run.proofs.engine.run.Goals as goal
 
 -- ---- it does not power on
@@ -21,8 +22,8 @@ returns-in-Err-clause-early g c = λ h. let refused = c.in-Err.ensures.refused h
 
 pub returns-in-Err-clause-time : goal.returns-in-Err-clause-time
 returns-in-Err-clause-time g c = λ h t.
-    weaken g.D.Disk.moment g.D.Disk.left_since c.args.disk c.in-Err.fault.disk (IsOldOrSame (g.D.Disk.state c.args.disk)) (IsOfRun (g.D.Disk.state c.args.disk) (g.R.Source.remaining c.args.reader.now))
-    (c.in-Err.ensures.time_refused h t) (λ x kept. inl (keeps_map (g.D.Disk.state c.args.disk) x kept))
+    weaken g.D.Disk.moment g.D.Disk.left_since (disk_from c.args.start) c.in-Err.fault.disk (IsOldOrSame (g.D.Disk.state (disk_from c.args.start))) (IsOfRun (g.D.Disk.state (disk_from c.args.start)) (g.R.Source.remaining c.args.reader.now))
+    (c.in-Err.ensures.time_refused h t) (λ x kept. inl (keeps_map (g.D.Disk.state (disk_from c.args.start)) x kept))
 
 -- ---- it ends early
 
@@ -35,8 +36,8 @@ returns-in_err-disk-clause-early g c = λ h.
 pub returns-in_err-disk-clause-time : goal.returns-in_err-disk-clause-time
 returns-in_err-disk-clause-time g c = λ h t.
     let on = c.in-Ok.ensures in let from = g.R.Source.remaining c.args.reader.now in
-    passed_disk c.from_residual.result c.in_err-disk.field-0.0 (λ d. LeavesOnly g.D.Disk.moment g.D.Disk.left_since c.args.disk d (IsOfRun (g.D.Disk.state c.args.disk) from)) c.from_residual.ensures.1
-    (early_moments c.in-Ok.powered.exec _ _ (on.starts h) on.works from c.args.disk h t (g.met.D.Disk.only_now t) refl on.stored (on.time h t) _ c.in_err-disk.field-0.0 _ _ c.in_err-disk.ensures.early)
+    passed_disk c.from_residual.result c.in_err-disk.field-0.0 (λ d. LeavesOnly g.D.Disk.moment g.D.Disk.left_since (disk_from c.args.start) d (IsOfRun (g.D.Disk.state (disk_from c.args.start)) from)) c.from_residual.ensures.1
+    (early_moments c.in-Ok.powered.exec _ _ (on.starts h) on.works from (disk_from c.args.start) h t (g.met.D.Disk.only_now t) refl on.stored (on.time h t) _ c.in_err-disk.field-0.0 _ _ c.in_err-disk.ensures.early)
 
 -- ---- it succeeds
 
@@ -48,7 +49,7 @@ returns-clause-whole g c = λ h.
 pub returns-clause-time : goal.returns-clause-time
 returns-clause-time g c = λ h t.
     let on = c.in-Ok.ensures in
-    whole_moments c.in-Ok.powered.exec _ _ (on.starts h) on.works (g.R.Source.remaining c.args.reader.now) c.args.disk h t (g.met.D.Disk.only_now t) refl on.stored (on.time h t) c.in_ok-disk.disk _ _ c.in_ok-disk.ensures.whole
+    whole_moments c.in-Ok.powered.exec _ _ (on.starts h) on.works (g.R.Source.remaining c.args.reader.now) (disk_from c.args.start) h t (g.met.D.Disk.only_now t) refl on.stored (on.time h t) c.in_ok-disk.disk _ _ c.in_ok-disk.ensures.whole
 
 pub returns-in-Err-clause-reads : goal.returns-in-Err-clause-reads
 returns-in-Err-clause-reads g c = no_reads 65536 (g.R.Source.remaining c.args.reader.now) (g.R.Source.reads c.args.reader.now)

@@ -1,38 +1,21 @@
-use Rattle.std.proofs.Common.{◌∙◌, arith, refl, sym}
-use Rattle.psu_run.proofs.Reading.{fed_short, fed_written, stopped_short, stopped_writing, stopped_written}
-use Rattle.psu_run.proofs.Fronts.{none_told, told_alone}
-use Rattle.psu_run.proofs.engine.answer.Goals as goal
+use Rattle.std.proofs.Common.{◌∙◌, sym}
+use Rattle.psu_run.proofs.Reading.{fed_short, fed_written}
+use Rattle.psu_run.proofs.Fronts.{none_told, passed, told_alone}
+use Rattle.psu_run.proofs.run_state.RunState.answer.Goals as goal
 
-pub returns-in_default-clause-early : goal.returns-in_default-clause-early
-returns-in_default-clause-early g c =
-    let new = c.new-run_state in let run = c.in-Ok.run_state in
-    fed_short c.args.lines.now.line.items c.args.piece.now _ _ _ _ _
-    (none_told new.result.unwritten.output.items new.result.unwritten.gathered new.ensures.none new.ensures.fresh) (c.as_slice.ensures.value ∙ sym (told_alone run.unwritten.output.items run.unwritten.gathered c.in-Ok.ensures.fresh))
-    c.feed.new.lines.line.items run.powered.exec c.fault.result (rw new.ensures.powered at c.in-Ok.ensures.fed) c.in_default.ensures.short c.fault.ensures
+pub returns-in_err-run-clause-stopped : goal.returns-in_err-run-clause-stopped
+returns-in_err-run-clause-stopped g c =
+    let before = c.args.self in
+    passed c.from_residual.result c.in_err-run.field-0.0 _ c.from_residual.ensures.1 (rw (none_told before.responder.output.items before.progress c.requires.none c.requires.fresh) at c.in_err-run.ensures.stopped)
 
-pub returns-then-is_write-clause-early : goal.returns-then-is_write-clause-early
-returns-then-is_write-clause-early g c =
-    let new = c.new-run_state in
-    stopped_writing c.args.lines.now.line.items c.args.piece.now _ c.in-Err.halted.fault _ _ (rw new.ensures.powered at c.in-Err.ensures.stopped)
-    (none_told new.result.unwritten.output.items new.result.unwritten.gathered new.ensures.none new.ensures.fresh) (c.is_write.ensures.0 c.if-is_write.true)
+pub returns-in_default-clause-stopped : goal.returns-in_default-clause-stopped
+returns-in_default-clause-stopped g c =
+    let before = c.args.self in let run = c.in_ok-run.run in let e = c.in_ok-run.ensures in
+    fed_short c.args.self.lines.line.items c.args.piece.now run.lines.line.items _ run.responder.powered.exec _ _ _ (rw (none_told before.responder.output.items before.progress c.requires.none c.requires.fresh) at e.fed)
+    c.fault.result (rw (told_alone run.responder.output.items run.progress e.fresh, ← c.as_slice.ensures.value) c.in_default.ensures.short) c.fault.ensures
 
-pub returns-in_default-put_both-clause-early : goal.returns-in_default-put_both-clause-early
-returns-in_default-put_both-clause-early g c =
-    let new = c.new-run_state in
-    stopped_short c.args.lines.now.line.items c.args.piece.now _ _ _ _ _
-    (none_told new.result.unwritten.output.items new.result.unwritten.gathered new.ensures.none new.ensures.fresh) (rw (c.as_slice-in-Err.ensures.value, c.text.ensures) refl) c.in-Err.halted.fault (rw new.ensures.powered at c.in-Err.ensures.stopped)
-    (λ e. let is = c.is_write.ensures.1 e in grind arith) c.in_default-put_both.ensures.short
-
-pub returns-in-Ok-put-clause-whole : goal.returns-in-Ok-put-clause-whole
-returns-in-Ok-put-clause-whole g c =
-    let new = c.new-run_state in let run = c.in-Ok.run_state in
-    fed_written c.args.lines.now.line.items c.args.piece.now _ _ _ _ _
-    (none_told new.result.unwritten.output.items new.result.unwritten.gathered new.ensures.none new.ensures.fresh) (c.as_slice.ensures.value ∙ sym (told_alone run.unwritten.output.items run.unwritten.gathered c.in-Ok.ensures.fresh))
-    c.feed.new.lines.line.items run.powered.exec (rw new.ensures.powered at c.in-Ok.ensures.fed) c.in-Ok-put.ensures.whole
-
-pub returns-in-Ok-put_both-clause-early : goal.returns-in-Ok-put_both-clause-early
-returns-in-Ok-put_both-clause-early g c =
-    let new = c.new-run_state in
-    stopped_written c.args.lines.now.line.items c.args.piece.now _ _ _ _ _
-    (none_told new.result.unwritten.output.items new.result.unwritten.gathered new.ensures.none new.ensures.fresh) (rw (c.as_slice-in-Err.ensures.value, c.text.ensures) refl) c.in-Err.halted.fault (rw new.ensures.powered at c.in-Err.ensures.stopped)
-    (λ e. let is = c.is_write.ensures.1 e in grind arith) c.in-Ok-put_both.ensures.whole
+pub returns-clause-fed : goal.returns-clause-fed
+returns-clause-fed g c =
+    let before = c.args.self in let run = c.in_ok-run.run in let e = c.in_ok-run.ensures in
+    fed_written c.args.self.lines.line.items c.args.piece.now run.lines.line.items _ run.responder.powered.exec _ _ _ (rw (none_told before.responder.output.items before.progress c.requires.none c.requires.fresh) at e.fed)
+    (rw (told_alone run.responder.output.items run.progress e.fresh, ← c.as_slice.ensures.value) c.in-Ok.ensures.whole)
