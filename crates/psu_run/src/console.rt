@@ -145,5 +145,5 @@ pub(crate) fn execute_line<W: Write, D: Disk, A: Allocator + Copy>(
         responder: &mut *responder,
         writer: &mut *writer,
     };
-    console.follow(lines, progress)
+    console.follow(lines, &mut *progress)
 }
