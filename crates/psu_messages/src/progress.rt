@@ -25,23 +25,13 @@ impl<A: Allocator + Copy, W: Copy> Progress<A, W> {
     pub fn new(buffer: ResponseBuffer<A>) -> Progress<A, W>
         ensures { progress_of result ≡ beginning }
     {
-        let mut progress = Progress {
+        let mut gathered = buffer;
+        gathered.restart();
+        Progress {
             units: 0,
             expansion: None,
             parked: None,
-            gathered: buffer,
-        };
-        progress.gathered.restart();
-        progress
-    }
-
-    /// Begins anew: nothing is done, and the response buffer is emptied and keeps its allocation.
-    pub fn restart(&mut self)
-        ensures { progress_of self.new ≡ beginning }
-    {
-        self.units = 0;
-        self.expansion = None;
-        self.parked = None;
-        self.gathered.restart();
+            gathered,
+        }
     }
 }

@@ -7,10 +7,7 @@ use Rattle.std.specs.Io.KnownBytes.{Appends}
 use Rattle.std.specs.Io.{StartsWith}
 use Rattle.psu_run.proofs.Cuts.{whole_tail}
 use Rattle.std.proofs.lemmas.List.{take-append-le}
-use Rattle.psu_messages.specs.Executions.{Progress as Executed, beginning}
-use Rattle.psu_messages.specs.Shown.{progress_of}
-use Rattle.psu_messages.specs.declared.progress.Progress.{Progress}
-use Rattle.psu_run.proofs.Common.{OutputState, RunCause, Says, SaysUntil, Write, WritesShort, held}
+use Rattle.psu_run.proofs.Common.{OutputState, RunCause, Says, SaysUntil, Text, Write, WritesShort, held, nothing}
 
 pub starts_after : (t s rest : List ℕ) → StartsWith rest s → StartsWith (t ++ rest) (t ++ s)
 starts_after t s rest h = ap (λ (n : ℕ). take n (t ++ rest)) (length-append t s) ∙ take-append-add t rest (length s) ∙ ap (λ (z : List ℕ). t ++ z) h
@@ -87,8 +84,8 @@ until_rest cause a b c m rest p q = record {
 -- ---- what is not written
 
 -- no line has begun
-pub told_alone : {A W : Type 0} (output : List ℕ) (p : Progress A W) → progress_of p ≡ beginning → output ++ p.gathered.rest ≡ output
-told_alone output p fresh = ap (λ (c : Executed). output ++ c.text.rest) fresh ∙ append-nil output
+pub told_alone : (output : List ℕ) (t : Text) → t ≡ nothing → output ++ t.rest ≡ output
+told_alone output t fresh = ap (λ (z : Text). output ++ z.rest) fresh ∙ append-nil output
 
-pub none_told : {A W : Type 0} (output : List ℕ) (p : Progress A W) → output ≡ [] → progress_of p ≡ beginning → output ++ p.gathered.rest ≡ []
-none_told output p none fresh = told_alone output p fresh ∙ none
+pub none_told : (output : List ℕ) (t : Text) → output ≡ [] → t ≡ nothing → output ++ t.rest ≡ []
+none_told output t none fresh = told_alone output t fresh ∙ none

@@ -1,6 +1,6 @@
 //! The executor of a run: it executes units on the device and outputs their answers.
 ghost use Rattle.std.specs.Prelude.{◌≡◌, [], List, ℕ, IfErr, IfOk, IfSome, OnOk, None, false};
-ghost use Rattle.psu_messages.specs.Executions.{Advances, IsOver, StopsAt, beginning};
+ghost use Rattle.psu_messages.specs.Executions.{Advances, IsOver, StopsAt};
 ghost use Rattle.psu_messages.specs.Relations.{IsAwaited};
 ghost use Rattle.psu_messages.specs.Shown.{progress_of};
 ghost use Rattle.psu_run.specs.Lines.{source_of};
@@ -14,10 +14,13 @@ use crate::run_state::Responder;
 use crate::writing::append_output;
 use psu_disk::Disk;
 use psu_exec::{Request, ScpiError};
-use psu_messages::{Executor, MemoryRefused, Need, Progress, Tried, execute_fault, execute_text};
+use psu_messages::{
+    Executor, MemoryRefused, Need, Progress, ResponseBuffer, Tried, execute_fault, execute_text,
+};
 use std::alloc::Allocator;
 use std::convert::Infallible;
 use std::io::Write;
+use std::mem;
 
 // Executes the message of a line: its bytes, or the error that the line is too long.
 #[inline(always)]
@@ -99,23 +102,22 @@ impl<'r, 'w, W: Write, D: Disk, A: Allocator + Copy> Executor<A> for Console<'r,
 
 impl<'r, 'w, W: Write, D: Disk, A: Allocator + Copy> Console<'r, 'w, W, D, A> {
     // Executes the message of a complete line, and outputs its response.
-    fn follow(
-        &mut self,
-        lines: &Lines<A>,
-        progress: &mut Progress<A, Infallible>,
-    ) -> Result<(), RunCause>
-        requires fresh { progress_of progress.old ≡ beginning }
+    fn follow(&mut self, alloc: A, lines: &Lines<A>) -> Result<(), RunCause>
         ensures runs { OnOk result ((text : List ℕ)
             × Leads self.old.responder.now.powered.exec self.new.responder.now.powered.exec (LineRuns (source_of lines.now.line.items) text)
             × Says (held (W.contents self.old.writer.now) self.old.responder.now.output.items) (held (W.contents self.new.writer.now) self.new.responder.now.output.items) text) }
         ensures breaks { IfErr result (λ cause. (part : List ℕ)
             × DeviceStops self.old.responder.now.powered.exec self.new.responder.now.powered.exec (LineBegins (source_of lines.now.line.items) part) cause
             × SaysUntil cause (held (W.contents self.old.writer.now) self.old.responder.now.output.items)
-            (output_state (W.contents self.new.writer.now) self.new.responder.now.output.items progress.new.gathered) part) }
+            (output_state (W.contents self.new.writer.now) self.new.responder.now.output.items self.new.responder.now.gathered) part) }
         ensures responder { self.new.responder.ghost_name ≡ self.old.responder.ghost_name }
         ensures writer { self.new.writer.ghost_name ≡ self.old.writer.ghost_name }
     {
-        match proceed(self, lines, progress) {
+        let buffer = ResponseBuffer::new(alloc);
+        let mut progress = Progress::new(mem::replace(&mut self.responder.gathered, buffer));
+        let done = proceed(self, lines, &mut progress);
+        self.responder.gathered = progress.gathered;
+        match done {
             Ok(need) => match need {
                 None => Ok(()),
                 Some(_) => unreachable!(),
@@ -126,24 +128,23 @@ impl<'r, 'w, W: Write, D: Disk, A: Allocator + Copy> Console<'r, 'w, W, D, A> {
 }
 
 /// Executes the message of a complete line, and outputs its response. Where it stops early, the answers that were not
-/// output are left in the progress.
+/// output are left in the response buffer.
 pub(crate) fn execute_line<W: Write, D: Disk, A: Allocator + Copy>(
+    alloc: A,
     responder: &mut Responder<D, A>,
     lines: &Lines<A>,
-    progress: &mut Progress<A, Infallible>,
     writer: &mut W,
 ) -> Result<(), RunCause>
-    requires fresh { progress_of progress.old ≡ beginning }
     ensures runs { OnOk result ((text : List ℕ)
         × Leads responder.old.powered.exec responder.new.powered.exec (LineRuns (source_of lines.now.line.items) text)
         × Says (held (W.contents writer.old) responder.old.output.items) (held (W.contents writer.new) responder.new.output.items) text) }
     ensures breaks { IfErr result (λ cause. (part : List ℕ)
         × DeviceStops responder.old.powered.exec responder.new.powered.exec (LineBegins (source_of lines.now.line.items) part) cause
-        × SaysUntil cause (held (W.contents writer.old) responder.old.output.items) (output_state (W.contents writer.new) responder.new.output.items progress.new.gathered) part) }
+        × SaysUntil cause (held (W.contents writer.old) responder.old.output.items) (output_state (W.contents writer.new) responder.new.output.items responder.new.gathered) part) }
 {
     let mut console = Console {
         responder: &mut *responder,
         writer: &mut *writer,
     };
-    console.follow(lines, &mut *progress)
+    console.follow(alloc, lines)
 }

@@ -2,8 +2,7 @@
 ghost use Rattle.std.specs.Prelude.{◌≡◌, ◌⊎◌, ◌<◌, ◌≤◌, length, [], ℕ, List, OnOk, IfOk, IfErr, IfSome};
 ghost use Rattle.psu_disk.specs.Disk.{LeavesOnly};
 ghost use Rattle.psu_run.specs.Lines.{Brings, IsReadToEnd, Message, ReadsNoFurther, messages};
-ghost use Rattle.psu_messages.specs.Executions.{beginning};
-ghost use Rattle.psu_messages.specs.Shown.{progress_of};
+ghost use Rattle.psu_messages.specs.ResponseBuffer.{nothing};
 ghost use Rattle.psu_run.specs.Progress.{Answers, EndsEarly, RanAll, held};
 ghost use Rattle.psu_run.specs.Runs.{DoesNotStart, GivenByInput, IsByFailure, IsOfRun, WritesFirst, WritesRun, disk_from, disk_of, never};
 
@@ -22,7 +21,7 @@ impl<D: Disk, A: Allocator + Copy> RunState<D, A> {
     // Executes the last line of the input, which has no line feed, and writes its response.
     fn last_line<W: Write>(self, writer: &mut W) -> Result<PoweredDevice<D, A>, RunFault<D>>
         requires none { self.responder.output.items ≡ [] }
-        requires fresh { progress_of self.progress ≡ beginning }
+        requires fresh { self.responder.gathered ≡ nothing }
         ensures whole { IfOk result (λ p. Answers (messages self.lines.line.items) self.responder.powered.exec
             p.exec (held (W.contents writer.old) []) (held (W.contents writer.new) [])) }
         ensures early { IfErr result (λ f. EndsEarly never self.responder.powered.exec f (messages self.lines.line.items)
@@ -38,7 +37,7 @@ impl<D: Disk, A: Allocator + Copy> RunState<D, A> {
     // Executes the last line of the input, which has no line feed, writes its response, and flushes.
     fn finish<W: Write>(self, writer: &mut W) -> Result<D, RunFault<D>>
         requires none { self.responder.output.items ≡ [] }
-        requires fresh { progress_of self.progress ≡ beginning }
+        requires fresh { self.responder.gathered ≡ nothing }
         ensures whole { IfOk result (λ d. RanAll self.responder.powered.exec (messages self.lines.line.items) d
             (held (W.contents writer.old) []) (held (W.contents writer.new) [])) }
         ensures early { IfErr result (λ f. EndsEarly never self.responder.powered.exec f (messages self.lines.line.items)
@@ -66,7 +65,7 @@ fn execute_pieces<R: Source, W: Write, D: Disk, A: Allocator + Copy>(
     requires room { 0 < length piece.old }
     requires line { run.lines.line.items ≡ [] }
     requires none { run.responder.output.items ≡ [] }
-    requires fresh { progress_of run.progress ≡ beginning }
+    requires fresh { run.responder.gathered ≡ nothing }
     ensures whole { IfOk result (λ d. (due : List Message) × Brings (R.remaining reader.old) due
         × RanAll run.responder.powered.exec due d (held (W.contents writer.old) []) (held (W.contents writer.new) [])) }
     ensures early { IfErr result (λ f. (due : List Message) × Brings (R.remaining reader.old) due

@@ -1,7 +1,6 @@
 //! The lines that end in a piece of the input.
 ghost use Rattle.std.specs.Prelude.{◌≡◌, ◌≢◌, ◌∷◌, ◌++◌, [], List, ℕ, OnOk, IfOk, IfErr};
-ghost use Rattle.psu_messages.specs.Executions.{beginning};
-ghost use Rattle.psu_messages.specs.Shown.{progress_of};
+ghost use Rattle.psu_messages.specs.ResponseBuffer.{nothing};
 ghost use Rattle.psu_run.specs.Lines.{Message, messages, source_of};
 ghost use Rattle.psu_run.specs.Progress.{Answers, DeviceStops, EndsEarly, Fed, Leads, RunStops, SaysUntil, held, output_state};
 ghost use Rattle.psu_run.specs.Runs.{LineBegins, Runs, never};
@@ -41,42 +40,49 @@ impl<D: Disk, A: Allocator + Copy> RunState<D, A> {
     // Simulates a power loss at rest and a restart, and keeps the output that is not yet written.
     fn restart<W: Write>(self, writer: &mut W) -> Result<RunState<D, A>, RunFault<D>>
         ensures runs { IfOk result (λ r. Leads self.responder.powered.exec r.responder.powered.exec (Runs (Message.Power ∷ []) [])) }
-        ensures same { IfOk result (λ r. (r.lines ≡ self.lines) × (r.progress ≡ self.progress) × (r.responder.output ≡ self.responder.output)) }
+        ensures same { IfOk result (λ r. (r.lines ≡ self.lines) × (r.responder.output ≡ self.responder.output) × (r.responder.gathered ≡ self.responder.gathered)) }
         ensures silent { OnOk result (W.contents writer.new ≡ W.contents writer.old) }
         ensures stops { IfErr result (λ f. (rest : List Message) → EndsEarly never self.responder.powered.exec f (Message.Power ∷ rest)
-            (output_state (W.contents writer.old) self.responder.output.items self.progress.gathered) (held (W.contents writer.new) [])) }
+            (output_state (W.contents writer.old) self.responder.output.items self.responder.gathered) (held (W.contents writer.new) [])) }
     {
         let RunState {
             alloc,
             lines,
-            progress,
-            responder: Responder { powered, output },
+            responder,
         } = self;
+        let Responder {
+            powered,
+            output,
+            gathered,
+        } = responder;
         match restart_device(alloc, powered) {
             Ok(powered) => Ok(RunState {
                 alloc,
                 lines,
-                progress,
-                responder: Responder { powered, output },
+                responder: Responder {
+                    powered,
+                    output,
+                    gathered,
+                },
             }),
-            Err(fault) => Err(write_before(fault, output.as_slice(), &progress, writer)),
+            Err(fault) => Err(write_before(fault, output.as_slice(), &gathered, writer)),
         }
     }
 
     // Executes the message of a complete line that is not the one of a power loss, outputs its response, and begins the
     // next line.
     fn answer_line<W: Write>(&mut self, writer: &mut W) -> Result<(), RunCause>
-        requires fresh { progress_of self.old.progress ≡ beginning }
+        requires fresh { self.old.responder.gathered ≡ nothing }
         ensures runs { OnOk result (Answers (Message.Line (source_of self.old.lines.line.items) ∷ []) self.old.responder.powered.exec self.new.responder.powered.exec
-            (output_state (W.contents writer.old) self.old.responder.output.items self.old.progress.gathered) (output_state (W.contents writer.new) self.new.responder.output.items self.new.progress.gathered)) }
-        ensures fresh { OnOk result (progress_of self.new.progress ≡ beginning) }
+            (output_state (W.contents writer.old) self.old.responder.output.items self.old.responder.gathered) (output_state (W.contents writer.new) self.new.responder.output.items self.new.responder.gathered)) }
+        ensures fresh { OnOk result (self.new.responder.gathered ≡ nothing) }
         ensures empty { OnOk result (self.new.lines.line.items ≡ []) }
         ensures breaks { IfErr result (λ cause. (part : List ℕ)
-            × SaysUntil cause (output_state (W.contents writer.old) self.old.responder.output.items self.old.progress.gathered) (output_state (W.contents writer.new) self.new.responder.output.items self.new.progress.gathered) part
+            × SaysUntil cause (output_state (W.contents writer.old) self.old.responder.output.items self.old.responder.gathered) (output_state (W.contents writer.new) self.new.responder.output.items self.new.responder.gathered) part
             × DeviceStops self.old.responder.powered.exec self.new.responder.powered.exec (LineBegins (source_of self.old.lines.line.items) part) cause) }
     {
-        execute_line(&mut self.responder, &self.lines, &mut self.progress, writer)?;
-        self.progress.restart();
+        execute_line(self.alloc, &mut self.responder, &self.lines, writer)?;
+        self.responder.gathered.restart();
         self.lines.clear();
         Ok(())
     }
@@ -88,12 +94,12 @@ impl<D: Disk, A: Allocator + Copy> RunState<D, A> {
         piece: &[u8],
         writer: &mut W,
     ) -> Result<RunState<D, A>, RunFault<D>>
-        requires { progress_of self.progress ≡ beginning }
+        requires { self.responder.gathered ≡ nothing }
         ensures fed { IfOk result (λ r. Fed self.lines.line.items piece.now r.lines.line.items self.responder.powered.exec r.responder.powered.exec
-            (output_state (W.contents writer.old) self.responder.output.items self.progress.gathered) (output_state (W.contents writer.new) r.responder.output.items r.progress.gathered)) }
-        ensures fresh { IfOk result (λ r. progress_of r.progress ≡ beginning) }
+            (output_state (W.contents writer.old) self.responder.output.items self.responder.gathered) (output_state (W.contents writer.new) r.responder.output.items r.responder.gathered)) }
+        ensures fresh { IfOk result (λ r. r.responder.gathered ≡ nothing) }
         ensures stopped { IfErr result (λ f. (input : List ℕ) → EndsEarly never self.responder.powered.exec f (messages (self.lines.line.items ++ (piece.now ++ input)))
-            (output_state (W.contents writer.old) self.responder.output.items self.progress.gathered) (held (W.contents writer.new) [])) }
+            (output_state (W.contents writer.old) self.responder.output.items self.responder.gathered) (held (W.contents writer.new) [])) }
     {
         let mut run = self;
         let mut rest = piece;
@@ -125,11 +131,11 @@ impl<D: Disk, A: Allocator + Copy> RunState<D, A> {
         writer: &mut W,
     ) -> Result<RunState<D, A>, RunFault<D>>
         requires none { self.responder.output.items ≡ [] }
-        requires fresh { progress_of self.progress ≡ beginning }
+        requires fresh { self.responder.gathered ≡ nothing }
         ensures fed { IfOk result (λ r. Fed self.lines.line.items piece.now r.lines.line.items self.responder.powered.exec r.responder.powered.exec
             (held (W.contents writer.old) []) (held (W.contents writer.new) [])) }
         ensures none { IfOk result (λ r. r.responder.output.items ≡ []) }
-        ensures fresh { IfOk result (λ r. progress_of r.progress ≡ beginning) }
+        ensures fresh { IfOk result (λ r. r.responder.gathered ≡ nothing) }
         ensures stopped { IfErr result (λ f. (input : List ℕ) → EndsEarly never self.responder.powered.exec f (messages (self.lines.line.items ++ (piece.now ++ input)))
             (held (W.contents writer.old) []) (held (W.contents writer.new) [])) }
     {

@@ -98,21 +98,26 @@ impl<D: Disk, A: Allocator + Copy> PoweredDevice<D, A> {
         ensures left { D.honest → IfErr result (λ f. (limit : ℕ) (map : List Item)
             → EachRepresents (D.state (disk_from start)) limit map → EachRepresents (D.state f.disk) limit map) }
     {
-        let store = match start {
-            RunStart::Store(store) => store,
-            RunStart::Image(disk) => match Store::open(alloc, disk) {
-                Ok(store) => store,
-                Err(refused) => {
-                    return Err(RunFault {
-                        cause: RunCause::from(refused.cause),
-                        disk: refused.disk,
-                        is_worn: false,
-                    });
-                }
-            },
-        };
-        let powered = PoweredDevice::of_store(alloc, store)?;
-        Ok(powered)
+        match start {
+            RunStart::Store(store) => {
+                let powered = PoweredDevice::of_store(alloc, store)?;
+                Ok(powered)
+            }
+            RunStart::Image(disk) => {
+                let store = match Store::open(alloc, disk) {
+                    Ok(store) => store,
+                    Err(refused) => {
+                        return Err(RunFault {
+                            cause: RunCause::from(refused.cause),
+                            disk: refused.disk,
+                            is_worn: false,
+                        });
+                    }
+                };
+                let powered = PoweredDevice::of_store(alloc, store)?;
+                Ok(powered)
+            }
+        }
     }
 
     /// Ends the device and returns its disk.

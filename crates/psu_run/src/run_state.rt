@@ -1,7 +1,6 @@
 //! What a run has in hand.
 ghost use Rattle.std.specs.Prelude.{◌≡◌, ◌↔◌, ◌++◌, [], IsTrue};
-ghost use Rattle.psu_messages.specs.Executions.{beginning};
-ghost use Rattle.psu_messages.specs.Shown.{progress_of};
+ghost use Rattle.psu_messages.specs.ResponseBuffer.{nothing};
 ghost use Rattle.psu_run.specs.Progress.{FaultOf, IsWrittenBefore, held, output_state};
 ghost use Rattle.psu_run.specs.declared.run_fault.RunFault.{RunFault as AnyFault};
 
@@ -10,25 +9,25 @@ use crate::output::put_both;
 use crate::powered_device::PoweredDevice;
 use crate::{RunCause, RunFault};
 use psu_disk::Disk;
-use psu_messages::{Progress, ResponseBuffer};
+use psu_messages::ResponseBuffer;
 use std::alloc::Allocator;
-use std::convert::Infallible;
 use std::io::Write;
 
-/// The powered-on device, and its responses that are not yet written.
+/// The powered-on device, with its output that is not yet written.
 #[derive(Drop)]
 pub(crate) struct Responder<D: Disk, A: Allocator + Copy> {
     pub powered: PoweredDevice<D, A>,
+    /// The output buffer: responses that are not yet written.
     pub output: Vec<u8, A>,
+    /// The answers of the line in progress that are not yet in the output buffer.
+    pub gathered: ResponseBuffer<A>,
 }
 
-/// What a run has in hand: the line that is being read, the progress of the line that is executed, with its answers
-/// that are not yet responses, and the device with its output.
+/// What a run has in hand: the line that is being read, and the device with its output.
 #[derive(Drop)]
 pub(crate) struct RunState<D: Disk, A: Allocator + Copy> {
     pub alloc: A,
     pub lines: Lines<A>,
-    pub progress: Progress<A, Infallible>,
     pub responder: Responder<D, A>,
 }
 
@@ -43,15 +42,15 @@ fn is_write(cause: RunCause) -> bool
 pub(crate) fn write_before<W: Write, D: Disk, A: Allocator + Copy>(
     fault: RunFault<D>,
     output: &[u8],
-    progress: &Progress<A, Infallible>,
+    gathered: &ResponseBuffer<A>,
     writer: &mut W,
 ) -> RunFault<D>
-    ensures { IsWrittenBefore A D.Disk fault result (held (W.contents writer.old) (output.now ++ progress.now.gathered.rest)) (held (W.contents writer.new) []) }
+    ensures { IsWrittenBefore A D.Disk fault result (held (W.contents writer.old) (output.now ++ gathered.now.rest)) (held (W.contents writer.new) []) }
 {
     if is_write(fault.cause) {
         return fault;
     }
-    match put_both(writer, output, progress.gathered.text()) {
+    match put_both(writer, output, gathered.text()) {
         Ok(()) => fault,
         Err(cause) => RunFault { cause, ..fault },
     }
@@ -63,15 +62,15 @@ impl<D: Disk, A: Allocator + Copy> RunState<D, A> {
         ensures powered { result.responder.powered ≡ powered }
         ensures line { result.lines.line.items ≡ [] }
         ensures none { result.responder.output.items ≡ [] }
-        ensures fresh { progress_of result.progress ≡ beginning }
+        ensures fresh { result.responder.gathered ≡ nothing }
     {
         RunState {
             alloc,
             lines: Lines::new(alloc),
-            progress: Progress::new(ResponseBuffer::new(alloc)),
             responder: Responder {
                 powered,
                 output: Vec::new(alloc),
+                gathered: ResponseBuffer::new(alloc),
             },
         }
     }
@@ -88,14 +87,13 @@ impl<D: Disk, A: Allocator + Copy> RunState<D, A> {
     /// Ends the run early, for this cause, once the output before it is written.
     pub fn end_early<W: Write>(self, cause: RunCause, writer: &mut W) -> RunFault<D>
         ensures { (fault : AnyFault D) × FaultOf self.responder.powered.exec cause fault
-            × IsWrittenBefore A D.Disk fault result (output_state (W.contents writer.old) self.responder.output.items self.progress.gathered) (held (W.contents writer.new) []) }
+            × IsWrittenBefore A D.Disk fault result (output_state (W.contents writer.old) self.responder.output.items self.responder.gathered) (held (W.contents writer.new) []) }
     {
-        let Responder { powered, output } = self.responder;
-        write_before(
-            powered.fault(cause),
-            output.as_slice(),
-            &self.progress,
-            writer,
-        )
+        let Responder {
+            powered,
+            output,
+            gathered,
+        } = self.responder;
+        write_before(powered.fault(cause), output.as_slice(), &gathered, writer)
     }
 }

@@ -1,6 +1,5 @@
 use Rattle.std.proofs.Common.{◌≡◌, List, [], ℕ, length, ◌-◌}
-use Rattle.psu_messages.specs.Executions.{beginning}
-use Rattle.psu_messages.specs.Shown.{progress_of}
+use Rattle.psu_messages.specs.ResponseBuffer.{nothing}
 use Rattle.psu_run.proofs.Common.{Fed, HasRead, held}
 use Rattle.psu_run.proofs.engine.execute_pieces.Given as goal
 
@@ -12,7 +11,7 @@ invariant-reading g l = record {
   taken : length seen ≡ l.intake.bytes;
   fed : Fed [] seen l.run.lines.line.items l.initial.run.responder.powered.exec l.run.responder.powered.exec (held (g.W.Write.contents l.initial.writer) []) (held (g.W.Write.contents l.writer) []);
   none : l.run.responder.output.items ≡ [];
-  fresh : progress_of l.run.progress ≡ beginning;
+  fresh : l.run.responder.gathered ≡ nothing;
 }
 
 abbrev pub decreases-reading : goal.decreases-reading

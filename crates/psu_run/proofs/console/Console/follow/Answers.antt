@@ -4,21 +4,21 @@ use Rattle.psu_run.proofs.Common.{held, source_of}
 use Rattle.psu_run.proofs.Feeding.{broken, whole}
 use Rattle.psu_run.proofs.console.Console.follow.Goals as goal
 
-pub returns-in-Err-clause-breaks : goal.returns-in-Err-clause-breaks
-returns-in-Err-clause-breaks g c =
+pub returns-clause-breaks : goal.returns-clause-breaks
+returns-clause-breaks g c =
     broken (λ x. x.responder.now.powered.exec) (λ x. held (g.W.Write.contents x.writer.now) x.responder.now.output.items) _ (source_of c.args.lines.now.line.items)
-    (λ x y effect d. d.2) (λ x y request cause f. f.2) (λ x y cause s. s.2) _ c.proceed.new.executor c.in-Err.cause c.proceed.new.progress.gathered _ c.requires.fresh c.in-Err.ensures.stops
+    (λ x y effect d. d.2) (λ x y request cause f. f.2) (λ x y cause s. s.2) _ c.proceed-done.new.executor c.in-Err.cause c.proceed.new.responder.gathered _ c.new-progress.ensures c.in-Err.ensures.stops
 
-pub returns-in-Err-clause-responder : goal.returns-in-Err-clause-responder
-returns-in-Err-clause-responder g c = kept_interrupted c.in-Err.ensures.stops (λ x. x.responder.ghost_name) (λ x y effect d. d.0) (λ x y request stop d. d.0) (λ x y stop d. d.0)
+pub returns-clause-responder : goal.returns-clause-responder
+returns-clause-responder g c = kept_interrupted c.in-Err.ensures.stops (λ x. x.responder.ghost_name) (λ x y effect d. d.0) (λ x y request stop d. d.0) (λ x y stop d. d.0)
 
-pub returns-in-Err-clause-writer : goal.returns-in-Err-clause-writer
-returns-in-Err-clause-writer g c = kept_interrupted c.in-Err.ensures.stops (λ x. x.writer.ghost_name) (λ x y effect d. d.1) (λ x y request stop d. d.1) (λ x y stop d. d.1)
+pub returns-clause-writer : goal.returns-clause-writer
+returns-clause-writer g c = kept_interrupted c.in-Err.ensures.stops (λ x. x.writer.ghost_name) (λ x y effect d. d.1) (λ x y request stop d. d.1) (λ x y stop d. d.1)
 
 pub returns-in-None-clause-runs : goal.returns-in-None-clause-runs
 returns-in-None-clause-runs g c =
     whole (λ x. x.responder.now.powered.exec) (λ x. held (g.W.Write.contents x.writer.now) x.responder.now.output.items) _ (λ x y effect d. d.2)
-    (source_of c.args.lines.now.line.items) _ c.proceed.new.executor _ (progress_of c.proceed.new.progress) c.requires.fresh c.in-Ok.ensures.goes (c.in-Ok.ensures.over c.in-None.is)
+    (source_of c.args.lines.now.line.items) _ c.proceed-done.new.executor _ (progress_of c.proceed-done.new.progress) c.new-progress.ensures c.in-Ok.ensures.goes (c.in-Ok.ensures.over c.in-None.is)
 
 pub returns-in-None-clause-responder : goal.returns-in-None-clause-responder
 returns-in-None-clause-responder g c = kept_advances c.in-Ok.ensures.goes (λ x. x.responder.ghost_name) (λ x y effect d. d.0)

@@ -9,4 +9,4 @@ pub returns-in-Err-clause-refused : goal.returns-in-Err-clause-refused
 returns-in-Err-clause-refused g c = λ h. let refused = c.in-Err.ensures in (start_of_opening c.in-Err.refused.cause, grind arith, grind arith)
 
 pub returns-in-Err-clause-left : goal.returns-in-Err-clause-left
-returns-in-Err-clause-left g c = λ h limit map each. (c.in-Err.ensures.left limit map each).left h
+returns-in-Err-clause-left g c = rw c.in-Image.is (λ h limit map each. (c.in-Err.ensures.left limit map each).left h)

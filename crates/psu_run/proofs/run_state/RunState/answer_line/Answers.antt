@@ -6,10 +6,10 @@ use Rattle.psu_run.proofs.run_state.RunState.answer_line.Goals as goal
 pub returns-in_err-execute_line-clause-breaks : goal.returns-in_err-execute_line-clause-breaks
 returns-in_err-execute_line-clause-breaks g c =
     let s = c.in_err-execute_line.ensures.breaks in let before = c.args.self.now in
-    passed c.from_residual.result c.in_err-execute_line.field-0.0 _ c.from_residual.ensures.1 (rw (told_alone before.responder.output.items before.progress c.requires.fresh) (s.0, s.2, s.1))
+    passed c.from_residual.result c.in_err-execute_line.field-0.0 _ c.from_residual.ensures.1 (rw (told_alone before.responder.output.items before.responder.gathered c.requires.fresh) (s.0, s.2, s.1))
 
 pub returns-clause-runs : goal.returns-clause-runs
 returns-clause-runs g c =
     let s = c.in_ok-execute_line.ensures.runs in let before = c.args.self.now in
-    rw (told_alone before.responder.output.items before.progress c.requires.fresh, told_alone c.execute_line.new.responder.output.items c.restart.new.self c.restart.ensures)
+    rw (told_alone before.responder.output.items before.responder.gathered c.requires.fresh, told_alone c.execute_line.new.responder.output.items c.restart.new.self c.restart.ensures)
     (answers_line (source_of c.args.self.now.lines.line.items) s.0 _ _ _ _ s.1 s.2)

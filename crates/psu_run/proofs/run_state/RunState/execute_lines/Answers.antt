@@ -10,7 +10,7 @@ pub loop-at-init : goal.loop-at-init
 loop-at-init g c = record {
   within = omega arith;
   fresh = c.requires;
-  fed = ([], refl, fed_none c.args.self.lines.line.items c.args.self.responder.powered.exec (output_state (g.W.Write.contents c.args.writer.now) c.args.self.responder.output.items c.args.self.progress.gathered));
+  fed = ([], refl, fed_none c.args.self.lines.line.items c.args.self.responder.powered.exec (output_state (g.W.Write.contents c.args.writer.now) c.args.self.responder.output.items c.args.self.responder.gathered));
 }
 
 pub extend-requires : goal.extend-requires
@@ -35,7 +35,7 @@ returns-in_err-run-clause-stopped g c =
     passed c.from_residual.result fault _ c.from_residual.ensures.1
     (feed_stops c.args.self.lines.line.items run.lines.line.items c.args.piece.now c.loop-at.rest.now c.args.self.responder.powered.exec run.responder.powered.exec fault _ _ _ c.loop-at.invariant.fed
     (line_stops run.lines.line.items c.loop-at.rest.now c.in-Some.at line run.responder.powered.exec fault _ _ c.in-Some.ensures c.in-Ok.ensures c.extend.new.self.free
-    (λ later. subst (λ (m : Message). EndsEarly never run.responder.powered.exec fault (m ∷ later) (output_state (g.W.Write.contents c.loop-at.writer) run.responder.output.items run.progress.gathered) (held (g.W.Write.contents c.restart.new.writer) []))
+    (λ later. subst (λ (m : Message). EndsEarly never run.responder.powered.exec fault (m ∷ later) (output_state (g.W.Write.contents c.loop-at.writer) run.responder.output.items run.responder.gathered) (held (g.W.Write.contents c.restart.new.writer) []))
     (sym (power_message line (sym c.is_power.ensures ∙ c.if-is_power.true))) (e.ensures.stops later))))
 
 pub returns-in-Err-clause-stopped : goal.returns-in-Err-clause-stopped
@@ -43,7 +43,7 @@ returns-in-Err-clause-stopped g c = λ input.
     let e = c.end_early-in-Err.ensures in let fault = e.0 in let run = c.loop-at.run in let after = c.answer_line.new.self in let line = c.extend.new.self.line.items in let s = c.in-Err.ensures.breaks in
     e.2 _ _ _ (feed_stops c.args.self.lines.line.items run.lines.line.items c.args.piece.now c.loop-at.rest.now c.args.self.responder.powered.exec run.responder.powered.exec fault _ _ _ c.loop-at.invariant.fed
     (line_stops run.lines.line.items c.loop-at.rest.now c.in-Some.at line run.responder.powered.exec fault _ _ c.in-Some.ensures c.in-Ok.ensures c.extend.new.self.free
-    (λ later. subst (λ (m : Message). EndsEarly never run.responder.powered.exec fault (m ∷ later) (output_state (g.W.Write.contents c.loop-at.writer) run.responder.output.items run.progress.gathered) (output_state (g.W.Write.contents c.answer_line.new.writer) after.responder.output.items after.progress.gathered))
+    (λ later. subst (λ (m : Message). EndsEarly never run.responder.powered.exec fault (m ∷ later) (output_state (g.W.Write.contents c.loop-at.writer) run.responder.output.items run.responder.gathered) (output_state (g.W.Write.contents c.answer_line.new.writer) after.responder.output.items after.responder.gathered))
     (sym (plain_message line (sym c.is_power.ensures ∙ c.if-is_power.false)))
     (s.0, rw e.1.cause_is s.1, broken_stop run.responder.powered.exec after.responder.powered.exec c.in-Err.cause fault (source_of line) later s.0 s.2 e.1))) input)
 
@@ -54,7 +54,7 @@ returns-clause-fed g c =
 pub loop-at-preserved-then-is_power : goal.loop-at-preserved-then-is_power
 loop-at-preserved-then-is_power g c =
     let line = c.extend.new.self.line.items in let run = c.loop-at.run in let e = c.in_ok-run.ensures in
-    let t = output_state (g.W.Write.contents c.loop-at.writer) run.responder.output.items run.progress.gathered in
+    let t = output_state (g.W.Write.contents c.loop-at.writer) run.responder.output.items run.responder.gathered in
     let power : Answers (Message.Power ∷ []) run.responder.powered.exec c.in_ok-run.run.responder.powered.exec t t = ([], says_none t, e.runs) in
     rw (e.same.0, e.same.1, e.same.2, e.silent) (record {
       within = grind arith;

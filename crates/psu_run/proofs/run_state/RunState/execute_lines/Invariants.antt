@@ -1,6 +1,5 @@
 use Rattle.std.proofs.Common.{◌≡◌, ◌≤◌, length}
-use Rattle.psu_messages.specs.Executions.{beginning}
-use Rattle.psu_messages.specs.Shown.{progress_of}
+use Rattle.psu_messages.specs.ResponseBuffer.{nothing}
 use Rattle.psu_run.proofs.Common.{output_state}
 use Rattle.psu_run.proofs.Feeding.{FedSo}
 use Rattle.psu_run.proofs.run_state.RunState.execute_lines.Given as goal
@@ -8,9 +7,9 @@ use Rattle.psu_run.proofs.run_state.RunState.execute_lines.Given as goal
 abbrev pub invariant-loop-at : goal.invariant-loop-at
 invariant-loop-at g l = record {
   within : length l.rest ≤ length l.piece;
-  fresh : progress_of l.run.progress ≡ beginning;
+  fresh : l.run.responder.gathered ≡ nothing;
   fed : FedSo l.initial.self.lines.line.items l.piece l.rest l.run.lines.line.items l.initial.self.responder.powered.exec l.run.responder.powered.exec
-      (output_state (g.W.Write.contents l.initial.writer) l.initial.self.responder.output.items l.initial.self.progress.gathered) (output_state (g.W.Write.contents l.writer) l.run.responder.output.items l.run.progress.gathered);
+      (output_state (g.W.Write.contents l.initial.writer) l.initial.self.responder.output.items l.initial.self.responder.gathered) (output_state (g.W.Write.contents l.writer) l.run.responder.output.items l.run.responder.gathered);
 }
 
 abbrev pub decreases-loop-at : goal.decreases-loop-at
