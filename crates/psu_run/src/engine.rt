@@ -80,7 +80,7 @@ fn execute_pieces<R: Source, W: Write, D: Disk, A: Allocator + Copy>(
     'reading: while intake.may_read() {
         intake.count_read();
         let Ok(count) = reader.read_into(piece) else {
-            return Err(run.into_device().fault(RunCause::Read));
+            return Err(run.fault(RunCause::Read));
         };
         if count == 0 {
             let disk = run.finish(writer)?;
@@ -89,12 +89,12 @@ fn execute_pieces<R: Source, W: Write, D: Disk, A: Allocator + Copy>(
         let room = intake.room();
         if count > room {
             let run = run.answer(&piece[..room], writer)?;
-            return Err(run.into_device().fault(RunCause::TooLong));
+            return Err(run.fault(RunCause::TooLong));
         }
         intake.count_bytes(count);
         run = run.answer(&piece[..count], writer)?;
     }
-    Err(run.into_device().fault(RunCause::TooLong))
+    Err(run.fault(RunCause::TooLong))
 }
 
 /// Executes the lines of the reader on a device, and writes their responses.

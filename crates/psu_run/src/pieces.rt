@@ -141,7 +141,7 @@ impl<D: Disk, A: Allocator + Copy> RunState<D, A> {
     {
         let mut run = self.execute_lines(piece, writer)?;
         let Ok(()) = put(writer, run.responder.output.as_slice()) else {
-            return Err(run.into_device().fault(RunCause::Write));
+            return Err(run.fault(RunCause::Write));
         };
         run.responder.output.clear();
         Ok(run)

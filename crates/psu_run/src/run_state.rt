@@ -84,6 +84,13 @@ impl<D: Disk, A: Allocator + Copy> RunState<D, A> {
         powered
     }
 
+    /// Ends the run early, for this cause, where all output is written.
+    pub fn fault(self, cause: RunCause) -> RunFault<D>
+        ensures { FaultOf self.responder.powered.exec cause result }
+    {
+        self.into_device().fault(cause)
+    }
+
     /// Ends the run early, for this cause, once the output before it is written.
     pub fn end_early<W: Write>(self, cause: RunCause, writer: &mut W) -> RunFault<D>
         ensures { (fault : AnyFault D) × FaultOf self.responder.powered.exec cause fault

@@ -40,8 +40,8 @@ pub returns-then-count-room-clause-early : goal.returns-then-count-room-clause-e
 returns-then-count-room-clause-early g c =
     let has = read_more c.in-Ok.count c.read_into.new.piece c.reading.invariant.has c.in-Ok.ensures.bytes.0 c.in-Ok.ensures.counted.1 c.if-count-eq0.false c.in-Ok.ensures.bound.0 c.count_read.ensures.reads in
     let all = taken_more c.reading.invariant.seen c.read_into.new.piece c.in-Ok.count _ _ _ c.reading.invariant.taken c.in-Ok.ensures.bound.0 c.count_read.ensures.bytes refl in
-    cut_after c.reading.run.lines.line.items c.reading.invariant.seen _ _ _ _ c.reading.invariant.has.taken c.reading.invariant.fed _ c.in_ok-run.run.lines.line.items c.room-room.result c.in-Ok.count c.read_into.new.piece
-    c.in_ok-run.run.responder.powered.exec TooLong c.fault-then-count-room.result _ _ (omega (arith, c.if-count-room.true)) c.in-Ok.ensures.bytes.0 c.in_ok-run.ensures.fed c.fault-then-count-room.ensures
+    cut_after c.reading.run.lines.line.items c.reading.invariant.seen _ _ _ _ c.reading.invariant.has.taken c.reading.invariant.fed _ c.in_ok-run.run'.lines.line.items c.room-room.result c.in-Ok.count c.read_into.new.piece
+    c.in_ok-run.run'.responder.powered.exec TooLong c.fault-then-count-room.result _ _ (omega (arith, c.if-count-room.true)) c.in-Ok.ensures.bytes.0 c.in_ok-run.ensures.fed c.fault-then-count-room.ensures
     (_, _, has, inl (omega (arith, all, c.room-room.ensures, c.if-count-room.true, c.count_read.ensures.bytes))) (λ w. cc)
 
 pub returns-in_err-run-2-clause-early : goal.returns-in_err-run-2-clause-early
@@ -55,7 +55,7 @@ reading-preserved g c = record {
   seen = c.reading.invariant.seen ++ take c.in-Ok.count c.read_into.new.piece;
   has = read_more c.in-Ok.count c.read_into.new.piece c.reading.invariant.has c.in-Ok.ensures.bytes.0 c.in-Ok.ensures.counted.1 c.if-count-eq0.false c.in-Ok.ensures.bound.0 (c.count_bytes.ensures.reads ∙ c.count_read.ensures.reads);
   taken = taken_more c.reading.invariant.seen c.read_into.new.piece c.in-Ok.count _ _ _ c.reading.invariant.taken c.in-Ok.ensures.bound.0 c.count_read.ensures.bytes c.count_bytes.ensures.bytes;
-  fed = fed_then [] c.reading.run.lines.line.items c.in_ok-run-2.run.lines.line.items c.reading.invariant.seen (take c.in-Ok.count c.read_into.new.piece) _ _ _ (held (g.W.Write.contents c.args.writer.now) []) _ _ c.reading.invariant.fed c.in_ok-run-2.ensures.fed;
+  fed = fed_then [] c.reading.run.lines.line.items c.in_ok-run-2.run'.lines.line.items c.reading.invariant.seen (take c.in-Ok.count c.read_into.new.piece) _ _ _ (held (g.W.Write.contents c.args.writer.now) []) _ _ c.reading.invariant.fed c.in_ok-run-2.ensures.fed;
   none = c.in_ok-run-2.ensures.none;
   fresh = c.in_ok-run-2.ensures.fresh;
 }

@@ -7,7 +7,7 @@ use Rattle.psu_run.proofs.console.Console.follow.Goals as goal
 pub returns-clause-breaks : goal.returns-clause-breaks
 returns-clause-breaks g c =
     broken (λ x. x.responder.now.powered.exec) (λ x. held (g.W.Write.contents x.writer.now) x.responder.now.output.items) _ (source_of c.args.lines.now.line.items)
-    (λ x y effect d. d.2) (λ x y request cause f. f.2) (λ x y cause s. s.2) _ c.proceed-done.new.executor c.in-Err.cause c.proceed.new.responder.gathered _ c.new-progress.ensures c.in-Err.ensures.stops
+    (λ x y effect d. d.2) (λ x y request cause f. f.2) (λ x y cause s. s.2) _ c.proceed-done.new.executor c.in-Err.cause c.proceed-done.new.progress.gathered _ c.new-progress.ensures c.in-Err.ensures.stops
 
 pub returns-clause-responder : goal.returns-clause-responder
 returns-clause-responder g c = kept_interrupted c.in-Err.ensures.stops (λ x. x.responder.ghost_name) (λ x y effect d. d.0) (λ x y request stop d. d.0) (λ x y stop d. d.0)

@@ -1,12 +1,66 @@
-use Rattle.std.proofs.Common.{refl, ◌∙◌, sym, arith}
+use Rattle.std.proofs.Common.{refl, ◌∙◌, ℕ, sym, subst, arith, inl}
+use Rattle.std.proofs.lemmas.Option.{same_Some}
 use Rattle.psu_disk.specs.Moments.{started}
-use Rattle.psu_run.proofs.Common.{IsOldOrSame}
+use Rattle.psu_run.proofs.Common.{IsOldOrSame, LeavesOnly, idle_disk}
+use Rattle.psu_run.specs.Runs.{NotStarted}
 use Rattle.psu_exec.specs.Starts.{start_of_opening}
+use Rattle.psu_exec.specs.declared.idle_store.IdleStore.TheVariants as idle_store
 use Rattle.psu_run.proofs.Fronts.{passed}
 use Rattle.psu_run.proofs.powered_device.PoweredDevice.on.Goals as goal
+
+-- ---- on a store that is open
+
+pub returns-in_ok-powered-in-Store-clause-starts : goal.returns-in_ok-powered-in-Store-clause-starts
+returns-in_ok-powered-in-Store-clause-starts g c = λ h.
+    let e = c.in_ok-powered-in-Store.ensures in rw c.in-Store.is (e.starts h (g.D.Disk.state c.in-Store.store.disk).bytes (e.own h) refl)
+
+pub returns-in_ok-powered-in-Store-clause-time : goal.returns-in_ok-powered-in-Store-clause-time
+returns-in_ok-powered-in-Store-clause-time g c = λ h t there is.
+    let store = c.in-Store.store in
+    rw c.in-Store.is (subst (λ z. LeavesOnly g.D.Disk.moment g.D.Disk.left_since store.disk (idle_disk z) (IsOldOrSame (g.D.Disk.state store.disk)))
+    (same_Some (idle_store.Whole store) there (sym c.in_ok-powered-in-Store.ensures.store ∙ is))
+    (started g.D.Disk.moment g.D.Disk.left_since store.disk (IsOldOrSame (g.D.Disk.state store.disk)) (λ x left. inl (g.met.D.Disk.only_now t store.disk x left))))
+
+pub returns-in_err-powered-in-Store-clause-refused : goal.returns-in_err-powered-in-Store-clause-refused
+returns-in_err-powered-in-Store-clause-refused g c = λ h.
+    let e = c.in_err-powered-in-Store.ensures in
+    passed c.from_residual.result c.in_err-powered-in-Store.field-0.0 _ c.from_residual.ensures.1
+    (rw (e.disk, c.in-Store.is) (e.refused (g.D.Disk.state c.in-Store.store.disk).bytes (e.own h)))
+
+pub returns-in_err-powered-in-Store-clause-time_refused : goal.returns-in_err-powered-in-Store-clause-time_refused
+returns-in_err-powered-in-Store-clause-time_refused g c = λ h t.
+    let store = c.in-Store.store in
+    passed c.from_residual.result c.in_err-powered-in-Store.field-0.0 _ c.from_residual.ensures.1
+    (rw (c.in_err-powered-in-Store.ensures.disk, c.in-Store.is)
+    (started g.D.Disk.moment g.D.Disk.left_since store.disk (IsOldOrSame (g.D.Disk.state store.disk)) (λ x left. inl (g.met.D.Disk.only_now t store.disk x left))))
+
+pub returns-in_err-powered-in-Store-clause-left : goal.returns-in_err-powered-in-Store-clause-left
+returns-in_err-powered-in-Store-clause-left g c = λ h.
+    passed c.from_residual.result c.in_err-powered-in-Store.field-0.0 _ c.from_residual.ensures.1
+    (rw (c.in_err-powered-in-Store.ensures.disk, c.in-Store.is) (λ limit map each. each))
+
+-- ---- on an image
 
 pub returns-in-Err-clause-refused : goal.returns-in-Err-clause-refused
 returns-in-Err-clause-refused g c = λ h. let refused = c.in-Err.ensures in (start_of_opening c.in-Err.refused.cause, grind arith, grind arith)
 
 pub returns-in-Err-clause-left : goal.returns-in-Err-clause-left
 returns-in-Err-clause-left g c = rw c.in-Image.is (λ h limit map each. (c.in-Err.ensures.left limit map each).left h)
+
+pub returns-in_ok-powered-in-Image-clause-starts : goal.returns-in_ok-powered-in-Image-clause-starts
+returns-in_ok-powered-in-Image-clause-starts g c = λ h.
+    let opened = c.in-Ok.ensures in let disk = c.in-Image.disk in let store = c.in-Ok.store in
+    rw c.in-Image.is (c.in_ok-powered-in-Image.ensures.starts h (g.D.Disk.state disk).bytes (opened.represented h)
+    (g.met.D.Disk.sized h store.disk ∙ opened.step.extent ∙ sym (g.met.D.Disk.sized h disk)))
+
+pub returns-in_err-powered-in-Image-clause-refused : goal.returns-in_err-powered-in-Image-clause-refused
+returns-in_err-powered-in-Image-clause-refused g c = λ h.
+    let e = c.in_err-powered-in-Image.ensures in let opened = c.in-Ok.ensures in let disk = c.in-Image.disk in
+    passed c.from_residual-in_err-powered-in-Image.result c.in_err-powered-in-Image.field-0.0 _ c.from_residual-in_err-powered-in-Image.ensures.1
+    (let r = e.refused (g.D.Disk.state disk).bytes (opened.represented h) in
+    rw (e.disk, c.in-Image.is) (r.0, r.1, subst (λ (n : ℕ). NotStarted (g.D.Disk.state disk).bytes n (g.D.Disk.failures c.in-Ok.store.disk) r.0) opened.step.works r.2))
+
+pub returns-in_err-powered-in-Image-clause-left : goal.returns-in_err-powered-in-Image-clause-left
+returns-in_err-powered-in-Image-clause-left g c = λ h.
+    passed c.from_residual-in_err-powered-in-Image.result c.in_err-powered-in-Image.field-0.0 _ c.from_residual-in_err-powered-in-Image.ensures.1
+    (rw (c.in_err-powered-in-Image.ensures.disk, c.in-Image.is) (λ limit map each. (c.in-Ok.ensures.left limit map each).left h))

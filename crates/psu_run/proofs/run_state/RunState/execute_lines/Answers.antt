@@ -55,13 +55,13 @@ pub loop-at-preserved-then-is_power : goal.loop-at-preserved-then-is_power
 loop-at-preserved-then-is_power g c =
     let line = c.extend.new.self.line.items in let run = c.loop-at.run in let e = c.in_ok-run.ensures in
     let t = output_state (g.W.Write.contents c.loop-at.writer) run.responder.output.items run.responder.gathered in
-    let power : Answers (Message.Power ∷ []) run.responder.powered.exec c.in_ok-run.run.responder.powered.exec t t = ([], says_none t, e.runs) in
+    let power : Answers (Message.Power ∷ []) run.responder.powered.exec c.in_ok-run.run'.responder.powered.exec t t = ([], says_none t, e.runs) in
     rw (e.same.0, e.same.1, e.same.2, e.silent) (record {
       within = grind arith;
       fresh = c.loop-at.invariant.fresh;
       fed = feed_step c.args.self.lines.line.items run.lines.line.items c.args.piece.now c.loop-at.rest.now c.in-Some.at line c.clear.new.self.line.items
           _ _ _ _ _ _ c.in-Some.ensures c.loop-at.invariant.fed c.in-Ok.ensures c.extend.new.self.free
-          (subst (λ (m : Message). Answers (m ∷ []) run.responder.powered.exec c.in_ok-run.run.responder.powered.exec t t) (sym (power_message line (sym c.is_power.ensures ∙ c.if-is_power.true))) power) c.clear.ensures;
+          (subst (λ (m : Message). Answers (m ∷ []) run.responder.powered.exec c.in_ok-run.run'.responder.powered.exec t t) (sym (power_message line (sym c.is_power.ensures ∙ c.if-is_power.true))) power) c.clear.ensures;
     })
 
 pub loop-at-preserved : goal.loop-at-preserved

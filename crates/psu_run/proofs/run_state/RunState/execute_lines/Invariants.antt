@@ -8,8 +8,8 @@ abbrev pub invariant-loop-at : goal.invariant-loop-at
 invariant-loop-at g l = record {
   within : length l.rest ≤ length l.piece;
   fresh : l.run.responder.gathered ≡ nothing;
-  fed : FedSo l.initial.self.lines.line.items l.piece l.rest l.run.lines.line.items l.initial.self.responder.powered.exec l.run.responder.powered.exec
-      (output_state (g.W.Write.contents l.initial.writer) l.initial.self.responder.output.items l.initial.self.responder.gathered) (output_state (g.W.Write.contents l.writer) l.run.responder.output.items l.run.responder.gathered);
+  fed : FedSo l.initial.run.lines.line.items l.piece l.rest l.run.lines.line.items l.initial.run.responder.powered.exec l.run.responder.powered.exec
+      (output_state (g.W.Write.contents l.initial.writer) l.initial.run.responder.output.items l.initial.run.responder.gathered) (output_state (g.W.Write.contents l.writer) l.run.responder.output.items l.run.responder.gathered);
 }
 
 abbrev pub decreases-loop-at : goal.decreases-loop-at

@@ -6,7 +6,7 @@ use Rattle.psu_run.proofs.Reading.{last_answered, last_early}
 use Rattle.psu_run.proofs.run_state.RunState.last_line.Goals as goal
 
 pub returns-then-is_empty-clause-whole : goal.returns-then-is_empty-clause-whole
-returns-then-is_empty-clause-whole g c = rw (c.is_empty.ensures.0 c.if-is_empty.true) (answers_none c.args.self.responder.powered.exec (held (g.W.Write.contents c.args.writer.now) []))
+returns-then-is_empty-clause-whole g c = rw (c.into_device.ensures, c.is_empty.ensures.0 c.if-is_empty.true) (answers_none c.args.self.responder.powered.exec (held (g.W.Write.contents c.args.writer.now) []))
 
 pub returns-in_err-run-clause-early : goal.returns-in_err-run-clause-early
 returns-in_err-run-clause-early g c =
@@ -15,6 +15,6 @@ returns-in_err-run-clause-early g c =
 
 pub returns-clause-whole : goal.returns-clause-whole
 returns-clause-whole g c =
-    last_answered c.args.self.lines.line.items c.in_ok-run.run.lines.line.items c.args.self.responder.powered.exec c.in_ok-run.run.responder.powered.exec
+    rw c.into_device-2.ensures (last_answered c.args.self.lines.line.items c.in_ok-run.run'.lines.line.items c.args.self.responder.powered.exec c.in_ok-run.run'.responder.powered.exec
     (held (g.W.Write.contents c.args.writer.now) []) (held (g.W.Write.contents c.answer.new.writer) [])
-    (λ none. let some = c.is_empty.ensures.1 none in let not = c.if-is_empty.false in cc) c.args.self.lines.free c.in_ok-run.run.lines.free c.in_ok-run.ensures.fed
+    (λ none. let some = c.is_empty.ensures.1 none in let not = c.if-is_empty.false in cc) c.args.self.lines.free c.in_ok-run.run'.lines.free c.in_ok-run.ensures.fed)
