@@ -152,7 +152,7 @@ step_by_step D A G counts honest records (CallMade call ∷ steps) run w disk la
 step_by_step D A G counts honest records (Takes seat begun ∷ steps) run w disk last state running k out is have (next, allows, on, rest) =
     let call : Numbered Entry = numbered seat (Took (Taken.Job (job_data begun.job))) in
     let started = taken_out D A G begun w.state next allows in
-    let r = step_by_step D A G counts honest records steps (Some begun) (after_call w call.entry next w.disk) disk last state running (each_stays_consistent w.state next call.entry allows k) started is have.1 rest in
+    let r = step_by_step D A G counts honest records steps (Some begun) (after_call w call.entry next w.disk) disk last state running (each_stays_consistent w.state next call.entry allows k) started is have rest in
     one_call D A G w call next w.disk steps state last running allows refl r
 step_by_step D A G counts honest records (Reaches next ∷ steps) None w disk last state running k out is have leads = absurd have.0
 step_by_step D A G counts honest records (Reaches next ∷ steps) (Some now) w disk last state running k out is have leads =
@@ -195,4 +195,4 @@ pub some_steps_exist : (D A : Type 0) (G : Ghosts D) → SomeStepsExist D A G
 some_steps_exist D A G w first run store s =
     let given : HasGiven (Ghosts.honest G) w (finished_of run.finished) = subst (λ (end : JobEnd). HasGiven (Ghosts.honest G) w end) (sym s.ended)
     (inl (record { out = out_is w.state.flush; expected = (s.limit, s.items); gives = refl; over_is = refl }), λ honest. (Ghosts.state G store.disk, s.on.represents)) in
-    ((s.there, (s.call, ((λ honest. s.stands), refl))), (taken w, (inl ((s.free, s.work, s.job), refl), λ honest. tt), (with_stored (taken w), given, refl)))
+    ((s.call, ((λ honest. s.stands), refl)), (taken w, (inl ((s.free, s.work, s.job), refl), λ honest. tt), (with_stored (taken w), given, refl)))

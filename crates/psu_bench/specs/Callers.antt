@@ -1,5 +1,5 @@
 -- What the seat of a thread has seen once the thread has called the device.
-use Rattle.std.specs.Prelude.{◌≡◌, ◌⊎◌, ℕ, Bool, Option, Some, None, Result, Ok, Err, List, []}
+use Rattle.std.specs.Prelude.{◌≡◌, ℕ, zero, suc, Bool, Option, Some, None, Result, Ok, Err, List, []}
 use Rattle.std.specs.declared.alloc.Global.{Global}
 use Rattle.psu_disk.specs.declared.disk.Disk.{Ghosts}
 use Rattle.psu_turn.specs.Seats.{Sight, SeatCalls}
@@ -12,20 +12,24 @@ use Rattle.psu_exec.specs.Calls.Entry.{Took, GaveBack, Notified}
 use Rattle.psu_exec.specs.Jobs.{RunsTo, finished_of, job_data}
 use Rattle.psu_exec.specs.Shown.{none_of}
 use Rattle.psu_exec.specs.declared.finished.End.{End}
+use Rattle.psu_exec.specs.declared.finished.End.TheVariants as finished
+use Rattle.psu_items.specs.declared.commit.UnstartedCause.TheVariants as unstarted
 use Rattle.psu_exec.specs.declared.job.Job.{Job as AnyJob}
 use Rattle.psu_exec.specs.declared.no_job.NoJob.{NoJob}
 use Rattle.psu_bench.specs.Calls.{AllowsOn}
-use Rattle.psu_bench.specs.Rounds.{ending_of}
 use Rattle.psu_bench.specs.declared.caused.Caused.{Caused}
 use Rattle.psu_bench.specs.declared.caused_by_job.CausedByJob.{CausedByJob}
 use Rattle.psu_bench.specs.declared.granted.Granted.{Granted}
 use Rattle.psu_bench.specs.declared.caused_by_job.JobEnding.{JobEnding}
+use Rattle.psu_bench.specs.declared.caused_by_job.JobEnding.TheVariants as ending
 
--- The seat made this call, and perhaps took the notifications after it. What it has seen then is one legal history, which begins with all that it had seen
--- and ends with what it called.
-abbrev pub MakesCall : Type 0 → Sight State Entry → Entry → Sight State Entry → Type 0
-MakesCall honest old entry new = SeatCalls (AllowsOn honest) old entry new
-    ⊎ ((mid : Sight State Entry) × (asking : List ℕ) × (work : Bool) × SeatCalls (AllowsOn honest) old entry mid × SeatCalls (AllowsOn honest) mid (Notified asking work) new)
+-- how a finished job ended
+abbrev pub ending_of : {D A : Type 0} {G : Ghosts D} → End D A G → JobEnding
+ending_of (finished.Stored store) = ending.Stored
+ending_of (finished.Reopened store) = ending.Reopened
+ending_of (finished.Broken broken) = ending.Broken
+ending_of (finished.Unstarted store batch unstarted.Worn) = ending.Worn
+ending_of (finished.Unstarted store batch unstarted.Memory) = ending.OutOfMemory
 
 -- the sessions whose waits the end of a job has ended; none if it is the job of another device
 abbrev pub over_sessions : Option (List ℕ) → List ℕ
@@ -49,6 +53,11 @@ pub record HasRun {D : Type 0} (A : Type 0) (G : Ghosts D) (ending : JobEnding) 
 abbrev pub MakesRound : {D : Type 0} (A : Type 0) (G : Ghosts D) → Result (JobEnding × List ℕ) NoJob → Sight State Entry → Sight State Entry → Type 0
 MakesRound A G (Ok (ending, over)) old new = HasRun A G ending over old new
 MakesRound A G (Err none) old new = SeatCalls (AllowsOn (Ghosts.honest G)) old (Took (none_of none)) new
+
+-- this number of rounds, one after another
+abbrev pub MakesRounds : {D : Type 0} (A : Type 0) (G : Ghosts D) → ℕ → Sight State Entry → Sight State Entry → Type 0
+MakesRounds A G zero old new = new ≡ old
+MakesRounds A G (suc n) old new = (mid : Sight State Entry) × (made : Result (JobEnding × List ℕ) NoJob) × MakesRounds A G n old mid × MakesRound A G made mid new
 
 -- ---- what calls cause for other threads
 

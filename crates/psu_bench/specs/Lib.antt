@@ -1,13 +1,10 @@
 pub mod Calls
 pub mod Callers
 pub mod ReportedCondition
-pub mod Seconds
-pub mod Lines
 pub mod Reopenings
+pub mod Lines
 pub mod PowerOn
 pub mod Reports
-pub mod Rounds
-pub mod Seen
 pub mod Tries
 pub mod Lives
 pub mod Threads

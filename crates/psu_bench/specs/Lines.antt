@@ -4,7 +4,7 @@ use Rattle.std.specs.Prelude.{◌≡◌, ◌<◌, ◌+◌, ◌-◌, ◌^◌, ℕ
 use Rattle.psu_bench.specs.declared.reported_condition.ReportedCondition.{ReportedCondition}
 use Rattle.psu_bench.specs.declared.condition_lines.ConditionLines.{ConditionLines}
 use Rattle.psu_bench.specs.declared.condition_lines.ConditionLine.{ConditionLine}
-use Rattle.psu_bench.specs.Seconds.{left_of_second}
+use Rattle.psu_bench.specs.Reopenings.{left_of_second}
 
 -- after a change to this condition
 abbrev pub with_change : ConditionLines → ReportedCondition → ConditionLines

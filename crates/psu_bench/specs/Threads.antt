@@ -72,13 +72,13 @@ abbrev pub IsDiskCallOf : {D A : Type 0} {G : Ghosts D} → Option (JobRun D A G
 IsDiskCallOf None old new = ⊥
 IsDiskCallOf (Some run) old new = IsDiskCall run old new
 
--- The steps have these disks, from one to the last, with this run under way before them or none. A job has the disk
--- that is there when it is taken; a disk call is one of its run; then the disk is the one that the accepted end
--- carries, of which that is true which `Job::run` states of each end.
+-- The steps have these disks, from one to the last, with this run under way before them or none. A disk call is one of
+-- the run; then the disk is the one that the accepted end carries, of which that is true which `Job::run` states of each
+-- end.
 abbrev pub HaveDisks : (D A : Type 0) (G : Ghosts D) → Option (JobRun D A G) → D → List (ThreadStep D A G) → D → Type 0
 HaveDisks D A G run disk [] last = last ≡ disk
 HaveDisks D A G run disk (CallMade call ∷ more) last = IsPlain call.entry × HaveDisks D A G run disk more last
-HaveDisks D A G run disk (Takes seat begun ∷ more) last = (job_disk begun.job ≡ disk) × HaveDisks D A G (Some begun) disk more last
+HaveDisks D A G run disk (Takes seat begun ∷ more) last = HaveDisks D A G (Some begun) disk more last
 HaveDisks D A G run disk (Reaches next ∷ more) last = IsDiskCallOf run disk next × HaveDisks D A G run next more last
 HaveDisks D A G run disk (Gives seat finished over ∷ more) last = (Ghosts.honest G → EndStands finished) × HaveDisks D A G None (finished_disk finished) more last
 
@@ -119,7 +119,6 @@ pub record StoresTarget {D A : Type 0} {G : Ghosts D} (w : World) (first : D) (r
   pub free : w.state.flush.out ≡ false
   pub work : HasWork w.state.flush
   pub job : job_data run.job ≡ job_of (job_out w.state.flush)
-  pub there : job_disk run.job ≡ first
   pub ended : finished_of run.finished ≡ JobEnd.Stored store.limit store.items
   pub limit : store.limit ≡ (job_out w.state.flush).limit
   pub items : store.items ≡ target (job_out w.state.flush)

@@ -1,21 +1,19 @@
 //! What a call causes for other threads.
-ghost use Rattle.std.specs.Prelude.{◌≡◌, ◌↔◌, IsTrue, [], Ok};
+ghost use Rattle.std.specs.Prelude.{◌≡◌};
 ghost use Rattle.psu_bench.specs.Reports.{Reports, flusher_reports, reports_of, service_reports};
 
 use crate::Others;
-use psu_exec::{CannotDrop, Grant, LockRefusal, Notifications, Sessions};
+use psu_exec::{CannotDrop, Notifications, Sessions};
 
 /// What a call of the device has caused for other threads: sessions request service, or the flusher has something to
 /// do. It has no `Drop`: it is reported, and there is no other way to end it.
 pub struct Caused {
-    requesting: Sessions,
-    wakes_flusher: bool,
-    duty: CannotDrop,
+    pub(crate) requesting: Sessions,
+    pub(crate) wakes_flusher: bool,
+    pub(crate) duty: CannotDrop,
 }
 
 impl Caused {
-    ghost use Rattle.psu_locks.specs.declared.results.Grant.TheVariants.{Queued};
-
     // Returns what the notifications of the device say.
     pub(crate) fn of(notifications: Notifications) -> Caused
         ensures requesting { result.requesting ≡ notifications.requesting }
@@ -24,18 +22,6 @@ impl Caused {
         Caused {
             requesting: notifications.requesting,
             wakes_flusher: notifications.has_work,
-            duty: CannotDrop::begin(),
-        }
-    }
-
-    // Returns what a lock request with this reply causes: the flusher watches the deadline of one that waits.
-    pub(crate) fn by_request(reply: &Result<Grant, LockRefusal>) -> Caused
-        ensures requesting { result.requesting ≡ [] }
-        ensures flusher { IsTrue result.wakes_flusher ↔ (reply.now ≡ Ok Queued) }
-    {
-        Caused {
-            requesting: Sessions::new(),
-            wakes_flusher: matches!(reply, Ok(Grant::Queued)),
             duty: CannotDrop::begin(),
         }
     }

@@ -1,7 +1,7 @@
 //! What the end of a job causes for other threads.
 ghost use Rattle.std.specs.Prelude.{◌≡◌};
 ghost use Rattle.psu_bench.specs.Reports.{Reports, reports_of_job};
-ghost use Rattle.psu_bench.specs.Rounds.{ending_of};
+ghost use Rattle.psu_bench.specs.Callers.{ending_of};
 
 use crate::Others;
 use crate::caused::report_service;
@@ -44,27 +44,13 @@ impl JobEnding {
 /// service. Whether there is more to flush the flusher finds out itself, as it takes the next job. It has no `Drop`: it
 /// is reported, and there is no other way to end it.
 pub struct CausedByJob {
-    ending: JobEnding,
-    over: Sessions,
-    requesting: Sessions,
-    duty: CannotDrop,
+    pub(crate) ending: JobEnding,
+    pub(crate) over: Sessions,
+    pub(crate) requesting: Sessions,
+    pub(crate) duty: CannotDrop,
 }
 
 impl CausedByJob {
-    // Returns that a job has ended so, that the waits of sessions are over, and that sessions request service.
-    pub(crate) fn new(ending: JobEnding, over: Sessions, requesting: Sessions) -> CausedByJob
-        ensures ending { result.ending ≡ ending }
-        ensures over { result.over ≡ over }
-        ensures requesting { result.requesting ≡ requesting }
-    {
-        CausedByJob {
-            ending,
-            over,
-            requesting,
-            duty: CannotDrop::begin(),
-        }
-    }
-
     /// How the job ended.
     pub fn ending(&self) -> JobEnding
         ensures { result ≡ self.now.ending }

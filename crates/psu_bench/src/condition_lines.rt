@@ -1,7 +1,7 @@
 //! The lines on the store's condition that are due.
 ghost use Rattle.std.specs.Prelude.{◌≡◌, ◌≢◌, ◌↔◌, ◌<◌, IfNone, IfSome, IsSome, IsTrue, None};
 ghost use Rattle.psu_bench.specs.Lines.{IsDue, due_line, with_change, with_line};
-ghost use Rattle.psu_bench.specs.Seconds.{left_of_second};
+ghost use Rattle.psu_bench.specs.Reopenings.{left_of_second};
 ghost use Rattle.psu_bench.specs.declared.reported_condition.ReportedCondition.TheVariants.{Works};
 
 use crate::ReportedCondition;

@@ -1,12 +1,10 @@
 //! The rounds of the flusher.
-ghost use Rattle.std.specs.Prelude.{◌≡◌, ◌<◌, ◌++◌, List};
-ghost use Rattle.psu_turn.specs.Seats.{IsOf, IsSame};
-ghost use Rattle.psu_exec.specs.Calls.{Entry};
+ghost use Rattle.std.specs.Prelude.{◌≡◌};
+ghost use Rattle.psu_turn.specs.Seats.{IsOf};
 ghost use Rattle.psu_exec.specs.Shown.{over_of};
-ghost use Rattle.psu_bench.specs.Callers.{MakesRound, over_sessions};
-ghost use Rattle.psu_bench.specs.Rounds.{AreRounds};
-ghost use Rattle.psu_bench.specs.Seen.{HasSeen};
+ghost use Rattle.psu_bench.specs.Callers.{MakesRound, MakesRounds, over_sessions};
 
+use crate::operations::{GiveBack, Take};
 use crate::{Bench, Gate, JobEnding, Point, Seat};
 use psu_disk::Disk;
 use psu_exec::{NoJob, Sessions, Stranger};
@@ -26,11 +24,11 @@ impl<D: Disk + Drop, A: Allocator + Copy> Bench<D, A> {
         ensures calls { MakesRound A D.Disk result seat.old seat.new }
         ensures own { IsOf self.now seat.new }
     {
-        let job = self.take(rt, seat)?;
+        let job = self.call(rt, seat, Take)?;
         gate.at(Point::BeforeRun);
         let finished = job.run();
         let ending = JobEnding::of(finished.end());
-        let given = self.give_back(rt, seat, finished);
+        let given = self.call(rt, seat, GiveBack(finished));
         Ok((ending, sessions_over(given)))
     }
 }
@@ -61,9 +59,7 @@ pub fn flusher<D: Disk + Drop, A: Allocator + Copy, R: Wait, G: Gate>(
     gate: &G,
 ) -> Seat
     requires own { IsOf bench.now seat }
-    ensures same { IsSame seat result }
-    ensures calls { (calls : List Entry) × (result.mine ≡ seat.mine ++ calls) × AreRounds A D.Disk rounds calls }
-    ensures seen { 0 < rounds → HasSeen D.honest seat result }
+    ensures calls { MakesRounds A D.Disk rounds seat result }
     ensures own { IsOf bench.now result }
 {
     for _ in 0..rounds {

@@ -1,5 +1,4 @@
 //! Gates, by which a thread can be blocked from outside.
-use std::alloc::AllocError;
 use std::sync::Arc;
 
 /// A point that a thread of the bench has reached.
@@ -33,28 +32,8 @@ impl<G: Gate> Gate for &G {
     }
 }
 
-/// A gate that all threads of the server call.
-#[derive(Drop)]
-pub struct SharedGate<G: Gate> {
-    gate: Arc<G>,
-}
-
-impl<G: Gate> SharedGate<G> {
-    /// Creates a shared gate.
-    pub fn new(gate: Arc<G>) -> SharedGate<G> {
-        SharedGate { gate }
-    }
-
-    /// Returns the same gate, for another thread.
-    pub fn another(&self) -> Result<SharedGate<G>, AllocError> {
-        Ok(SharedGate {
-            gate: Arc::try_clone(&self.gate)?,
-        })
-    }
-}
-
-impl<G: Gate> Gate for SharedGate<G> {
+impl<G: Gate> Gate for Arc<G> {
     fn at(&self, point: Point) {
-        self.gate.at(point);
+        (**self).at(point);
     }
 }

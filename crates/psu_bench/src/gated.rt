@@ -1,6 +1,7 @@
 //! A disk with a gate before each write.
-use crate::{Gate, Point, SharedGate};
+use crate::{Gate, Point};
 use psu_disk::{Disk, DiskFault};
+use std::sync::Arc;
 
 /// A disk that calls a gate before each write, and otherwise passes each call to the disk below it.
 #[derive(Drop)]
@@ -84,8 +85,8 @@ pub trait ServedDisk: Disk + Drop {
 }
 
 /// The disk of the server, with a gate before each write.
-pub type Served<D, G> = Gated<D, SharedGate<G>>;
+pub type Served<D, G> = Gated<D, Arc<G>>;
 
-impl<D: Disk + Drop, G: Gate + Drop> ServedDisk for Gated<D, SharedGate<G>> {
+impl<D: Disk + Drop, G: Gate + Drop> ServedDisk for Gated<D, Arc<G>> {
     type Gate = G;
 }

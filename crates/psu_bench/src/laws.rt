@@ -23,7 +23,7 @@ pub fn seen_histories_happen<D: Disk>()
 /// The power-loss theorem holds of the disk that the threads have. An end that is accepted is true of the disk that it
 /// carries. The calls of a legal history, with the disk calls of each run of a job between its take and its give-back,
 /// are events of the theorem, each with the threads' disk: that of the end that was accepted last, and during a run
-/// the one that its last disk call left. A job is to have the disk of the end before it.
+/// the one that its last disk call left.
 pub fn threads_are_events<D: Disk, A: Allocator + Copy>()
     ensures ends { D.honest → EndsAreTrue D A D.Disk }
     ensures events { D.honest → D.records → ThreadsAreEvents D A D.Disk }

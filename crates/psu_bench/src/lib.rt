@@ -30,7 +30,7 @@ pub use caused::Caused;
 pub use caused_by_job::{CausedByJob, JobEnding};
 pub use condition_lines::{ConditionLine, ConditionLines};
 pub use flushing::flusher;
-pub use gate::{Gate, Open, Point, SharedGate};
+pub use gate::{Gate, Open, Point};
 pub use gated::{Gated, Served, ServedDisk};
 pub use granted::Granted;
 pub use laws::{histories_are_lives, seen_histories_happen, threads_are_events};

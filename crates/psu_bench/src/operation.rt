@@ -20,3 +20,7 @@ pub trait Operation<D: Disk, A: Allocator + Copy> {
     fn perform(self, exec: &mut Exec<D, A>) -> Self::Reply
         ensures { AllowsOn D.honest exec.old.device (entry self result) exec.new.device };
 }
+
+/// An operation that causes nothing for other threads. By their callers (`Caller`) threads perform each other one by a
+/// call of its own, which returns what it has caused.
+pub trait Silent {}

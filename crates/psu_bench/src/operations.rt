@@ -5,7 +5,7 @@ ghost use Rattle.psu_exec.specs.Jobs.{finished_of, taken_of};
 ghost use Rattle.psu_bench.specs.Calls.{session_of};
 ghost use Rattle.psu_bench.specs.Tries.{tried};
 
-use crate::operation::Operation;
+use crate::operation::{Operation, Silent};
 use psu_disk::Disk;
 use psu_exec::{
     Crowded, Exec, Finished, Freed, Grant, Info, Job, Kind, LockRefusal, NoJob, Notifications,
@@ -24,7 +24,7 @@ pub enum Try<'r, 't> {
 
 /// Tries a unit of a session: executes it, or returns the result of its wait; Later if the session isn't open.
 #[derive(Drop)]
-pub(crate) struct TryUnit<'r, 't>(pub Session, pub Try<'r, 't>);
+pub struct TryUnit<'r, 't>(pub Session, pub Try<'r, 't>);
 
 impl<'r, 't, D: Disk, A: Allocator + Copy> Operation<D, A> for TryUnit<'r, 't> {
     type Reply = Outcome<A>;
@@ -41,7 +41,7 @@ impl<'r, 't, D: Disk, A: Allocator + Copy> Operation<D, A> for TryUnit<'r, 't> {
 
 /// Takes a job.
 #[derive(Drop)]
-pub(crate) struct Take;
+pub struct Take;
 
 impl<D: Disk, A: Allocator + Copy> Operation<D, A> for Take {
     type Reply = Result<Job<D, A>, NoJob>;
@@ -54,7 +54,7 @@ impl<D: Disk, A: Allocator + Copy> Operation<D, A> for Take {
 }
 
 /// Gives back a finished job.
-pub(crate) struct GiveBack<D: Disk, A: Allocator + Copy>(pub Finished<D, A>);
+pub struct GiveBack<D: Disk, A: Allocator + Copy>(pub Finished<D, A>);
 
 impl<D: Disk, A: Allocator + Copy> Operation<D, A> for GiveBack<D, A> {
     type Reply = Result<Sessions, Stranger<D, A>>;
@@ -77,16 +77,13 @@ impl<D: Disk, A: Allocator + Copy> Operation<D, A> for OpenSession {
     ghost entry = { λ _ reply. Opened (session_of reply) };
 
     fn perform(self, exec: &mut Exec<D, A>) -> Result<Session, Crowded> {
-        match exec.open_session() {
-            Ok(session) => Ok(session),
-            Err(Crowded) => Err(Crowded),
-        }
+        exec.open_session()
     }
 }
 
 /// Closes a session if it is open. Returns the sessions whose lock requests were then granted.
 #[derive(Drop)]
-pub(crate) struct CloseSession(pub Session);
+pub struct CloseSession(pub Session);
 
 impl<D: Disk, A: Allocator + Copy> Operation<D, A> for CloseSession {
     type Reply = Sessions;
@@ -114,7 +111,7 @@ impl<D: Disk, A: Allocator + Copy> Operation<D, A> for Clear {
 
 /// If a session is open, records that a response was sent to it. Returns the notifications after that.
 #[derive(Drop)]
-pub(crate) struct MarkSent(pub Session);
+pub struct MarkSent(pub Session);
 
 impl<D: Disk, A: Allocator + Copy> Operation<D, A> for MarkSent {
     type Reply = Notifications;
@@ -170,7 +167,7 @@ impl<D: Disk, A: Allocator + Copy> Operation<D, A> for Fetch {
 
 /// Returns the sessions that have requested service since the last such call, and whether a take would return a job.
 #[derive(Drop)]
-pub(crate) struct Notify;
+pub struct Notify;
 
 impl<D: Disk, A: Allocator + Copy> Operation<D, A> for Notify {
     type Reply = Notifications;
@@ -184,7 +181,7 @@ impl<D: Disk, A: Allocator + Copy> Operation<D, A> for Notify {
 
 /// Requests a lock for a session. `now` and `timeout` are in milliseconds. `Failed` if the session isn't open.
 #[derive(Drop)]
-pub(crate) struct Lock {
+pub struct Lock {
     pub session: Session,
     pub kind: Kind,
     pub now: u64,
@@ -210,7 +207,7 @@ impl<D: Disk, A: Allocator + Copy> Operation<D, A> for Lock {
 /// Releases a lock of a session, and returns the sessions whose lock requests were then granted. A session that isn't
 /// open holds none.
 #[derive(Drop)]
-pub(crate) struct Release(pub Session);
+pub struct Release(pub Session);
 
 impl<D: Disk, A: Allocator + Copy> Operation<D, A> for Release {
     type Reply = Result<(Freed, Sessions), LockRefusal>;
@@ -224,7 +221,7 @@ impl<D: Disk, A: Allocator + Copy> Operation<D, A> for Release {
 
 /// Fails the lock requests whose timeout has expired, and returns their sessions.
 #[derive(Drop)]
-pub(crate) struct Tick(pub u64);
+pub struct Tick(pub u64);
 
 impl<D: Disk, A: Allocator + Copy> Operation<D, A> for Tick {
     type Reply = Sessions;
@@ -263,3 +260,17 @@ impl<D: Disk, A: Allocator + Copy> Operation<D, A> for NextDeadline {
         exec.next_deadline()
     }
 }
+
+impl Silent for OpenSession {}
+
+impl Silent for Clear {}
+
+impl Silent for MarkDelivered {}
+
+impl Silent for Query {}
+
+impl Silent for Fetch {}
+
+impl Silent for Inform {}
+
+impl Silent for NextDeadline {}

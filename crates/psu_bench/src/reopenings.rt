@@ -1,7 +1,6 @@
 //! When a store that broke is opened again.
 ghost use Rattle.std.specs.Prelude.{◌≡◌, None};
-ghost use Rattle.psu_bench.specs.Reopenings.{after_job, broken, reopened};
-ghost use Rattle.psu_bench.specs.Seconds.{left_of_second};
+ghost use Rattle.psu_bench.specs.Reopenings.{after_job, left_of_second};
 
 use crate::JobEnding;
 
@@ -40,29 +39,17 @@ impl Reopenings {
         }
     }
 
-    /// Notes that the store was opened again at this time.
-    pub fn note_reopening(&mut self, now: u64)
-        ensures { self.new ≡ reopened self.old now }
-    {
-        self.reopened = Some(now);
-    }
-
-    /// Notes that the store broke at this time, or that a reopening failed.
-    pub fn note_break(&mut self, now: u64)
-        ensures { self.new ≡ broken self.old now }
-    {
-        if left_of_second(self.reopened, now) > 0 {
-            self.broken = Some(now);
-        }
-    }
-
     /// Notes how a job ended at this time.
     pub fn note(&mut self, ending: JobEnding, now: u64)
         ensures { self.new ≡ after_job self.old ending now }
     {
         match ending {
-            JobEnding::Reopened => self.note_reopening(now),
-            JobEnding::Broken => self.note_break(now),
+            JobEnding::Reopened => self.reopened = Some(now),
+            JobEnding::Broken => {
+                if left_of_second(self.reopened, now) > 0 {
+                    self.broken = Some(now);
+                }
+            }
             JobEnding::Stored | JobEnding::Worn | JobEnding::OutOfMemory => {}
         }
     }

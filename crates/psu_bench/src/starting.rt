@@ -2,7 +2,7 @@
 ghost use Rattle.std.specs.Prelude.{IfOk};
 ghost use Rattle.psu_bench.specs.PowerOn.{BeginsWith};
 
-use crate::{Access, Bench, Gate, Gated, Served, SharedGate};
+use crate::{Access, Bench, Gate, Gated, Served};
 use psu_disk::Disk;
 use psu_exec::{Exec, StartFault};
 use psu_items::Store;
@@ -22,8 +22,7 @@ pub fn power_on<D: Disk + Drop, G: Gate + Drop>(
     let Ok(gate) = Arc::new(alloc, gate) else {
         return Err(StartFault::Memory);
     };
-    let gate = SharedGate::new(gate);
-    let disk = Gated::new(disk, gate.another()?);
+    let disk = Gated::new(disk, Arc::try_clone(&gate)?);
     let store = match Store::open(alloc, disk) {
         Ok(store) => store,
         Err(refused) => return Err(StartFault::from(refused.cause)),

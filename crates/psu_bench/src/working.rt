@@ -1,12 +1,10 @@
 //! The thread of a session.
-ghost use Rattle.std.specs.Prelude.{◌≡◌, ◌++◌, ◌<◌, List, Some};
-ghost use Rattle.psu_turn.specs.Seats.{SeatCalls, IsOf, IsSame};
-ghost use Rattle.psu_exec.specs.Calls.{Entry};
+ghost use Rattle.std.specs.Prelude.{◌≡◌, ◌<◌};
+ghost use Rattle.psu_turn.specs.Seats.{IsOf};
 ghost use Rattle.psu_exec.specs.Shown.{outcome_of};
-ghost use Rattle.psu_bench.specs.Calls.{AllowsOn};
-ghost use Rattle.psu_bench.specs.Seen.{HasSeen};
-ghost use Rattle.psu_bench.specs.Tries.{AreTries, is_put_off, try_after};
+ghost use Rattle.psu_bench.specs.Tries.{MakesTries, is_put_off};
 
+use crate::operations::{Try, TryUnit};
 use crate::{Bench, Gate, Point, Seat};
 use psu_disk::Disk;
 use psu_exec::{Outcome, Request, Session};
@@ -27,15 +25,17 @@ pub fn session_worker<D: Disk, A: Allocator + Copy, R: Wait, G: Gate>(
 ) -> Outcome<A>
     requires own { IsOf bench.now seat.old }
     requires some { 0 < tries }
-    ensures same { IsSame seat.old seat.new }
-    ensures calls { (calls : List Entry) × (seat.new.mine ≡ seat.old.mine ++ calls) × AreTries session tries request.now calls (outcome_of result) }
-    ensures seen { HasSeen D.honest seat.old seat.new }
+    ensures calls { MakesTries D.honest session tries request.now seat.old (outcome_of result) seat.new }
     ensures own { IsOf bench.now seat.new }
 {
-    let mut outcome = bench.execute(rt, seat, session, request);
+    let mut outcome = bench.call(rt, seat, TryUnit(session, Try::Execute(request)));
     let mut left = tries - 1;
     while left > 0 && is_put_off(&outcome) {
-        outcome = next_try(rt, bench, seat, session, request, &outcome);
+        let how = match outcome {
+            Outcome::Parked => Try::Settle,
+            _ => Try::Execute(request),
+        };
+        outcome = bench.call(rt, seat, TryUnit(session, how));
         left -= 1;
     }
     gate.at(Point::AfterAnswer);
@@ -47,23 +47,4 @@ fn is_put_off<A: Allocator + Copy>(outcome: &Outcome<A>) -> bool
     ensures { result ≡ is_put_off (outcome_of outcome.now) }
 {
     matches!(outcome, Outcome::Parked | Outcome::Held | Outcome::Later)
-}
-
-// Settles a unit that was parked, and executes it again after any other outcome.
-fn next_try<D: Disk, A: Allocator + Copy, R: Wait>(
-    rt: &R,
-    bench: &Bench<D, A>,
-    seat: &mut Seat,
-    session: Session,
-    request: &Request<'_>,
-    before: &Outcome<A>,
-) -> Outcome<A>
-    requires own { IsOf bench.now seat.old }
-    ensures call { SeatCalls (AllowsOn D.honest) seat.old (try_after session request.now (Some (outcome_of before.now)) (outcome_of result)) seat.new }
-    ensures own { IsOf bench.now seat.new }
-{
-    match before {
-        Outcome::Parked => bench.settle(rt, seat, session),
-        _ => bench.execute(rt, seat, session, request),
-    }
 }

@@ -2,6 +2,7 @@
 ghost use Rattle.std.specs.Prelude.{◌≡◌};
 ghost use Rattle.psu_turn.specs.Seats.{IsOf};
 
+use psu_bench::operations::{OpenSession, Try, TryUnit};
 use psu_bench::{Bench, Seat};
 use psu_call_steps::{image, powered_on};
 use psu_disk::{Disk, MemDisk};
@@ -65,7 +66,7 @@ pub(crate) fn opened<D: Disk, R: Wait + Abort>(
     requires { IsOf bench.now seat.old }
     ensures { IsOf bench.now seat.new }
 {
-    match bench.open_session(rt, seat) {
+    match bench.call(rt, seat, OpenSession) {
         Ok(session) => session,
         Err(_) => panic!(rt; "no session"),
     }
@@ -92,7 +93,7 @@ pub(crate) fn unit<D: Disk, R: Wait>(
     requires { IsOf bench.now seat.old }
     ensures { IsOf bench.now seat.new }
 {
-    bench.execute(rt, seat, session, &read(text))
+    bench.call(rt, seat, TryUnit(session, Try::Execute(&read(text))))
 }
 
 /// Whether an outcome is this answer.

@@ -4,6 +4,10 @@ ghost use Rattle.psu_turn.specs.Seats.{IsOf};
 use crate::benches::{
     bench_on, executes, formatted, is_answer, is_flushed_at_close, is_open_at_close, opened, unit,
 };
+use psu_bench::operations::{
+    Clear, CloseSession, Fetch, Inform, Lock, MarkDelivered, MarkSent, NextDeadline, Query,
+    Release, Try, TryUnit,
+};
 use psu_bench::{Bench, Seat};
 use psu_disk::MemDisk;
 use psu_exec::{Grant, Kind, LockRefusal, Outcome, Session};
@@ -19,9 +23,12 @@ fn comes_later<R: Wait>(rt: &R, bench: &Device, seat: &mut Seat, one: Session) -
     ensures { IsOf bench.now seat.new }
 {
     matches!(unit(rt, bench, seat, one, b"*IDN?"), Outcome::Later)
-        && matches!(bench.settle(rt, seat, one), Outcome::Later)
-        && bench.query(rt, seat, one) == 0
-        && bench.fetch(rt, seat, one).is_none()
+        && matches!(
+            bench.call(rt, seat, TryUnit(one, Try::Settle)),
+            Outcome::Later
+        )
+        && bench.call(rt, seat, Query(one)) == 0
+        && bench.call(rt, seat, Fetch(one)).is_none()
 }
 
 // Whether no lock is granted or held.
@@ -29,9 +36,18 @@ fn holds_nothing<R: Wait>(rt: &R, bench: &Device, seat: &mut Seat, one: Session)
     requires { IsOf bench.now seat.old }
     ensures { IsOf bench.now seat.new }
 {
-    bench.lock(rt, seat, one, Kind::Exclusive, 0, 0) == Ok(Grant::Failed)
-        && matches!(bench.release(rt, seat, one), Err(LockRefusal::NotHeld))
-        && bench.close_session(rt, seat, one).is_empty()
+    let lock = Lock {
+        session: one,
+        kind: Kind::Exclusive,
+        now: 0,
+        timeout: 0,
+    };
+    bench.call(rt, seat, lock) == Ok(Grant::Failed)
+        && matches!(
+            bench.call(rt, seat, Release(one)),
+            Err(LockRefusal::NotHeld)
+        )
+        && bench.call(rt, seat, CloseSession(one)).is_empty()
 }
 
 // Makes the other calls of a session, and returns whether no session holds a lock or waits for one then.
@@ -39,15 +55,15 @@ fn leaves_nothing<R: Wait>(rt: &R, bench: &Device, seat: &mut Seat, one: Session
     requires { IsOf bench.now seat.old }
     ensures { IsOf bench.now seat.new }
 {
-    bench.clear(rt, seat, one);
-    let notifications = bench.mark_sent(rt, seat, one);
-    bench.mark_delivered(rt, seat, one);
-    let info = bench.inform(rt, seat);
+    bench.call(rt, seat, Clear(one));
+    let notifications = bench.call(rt, seat, MarkSent(one));
+    bench.call(rt, seat, MarkDelivered(one));
+    let info = bench.call(rt, seat, Inform);
     notifications.requesting.is_empty()
         && !notifications.has_work
         && !info.exclusive
         && info.holders == 0
-        && bench.next_deadline(rt, seat).is_none()
+        && bench.call(rt, seat, NextDeadline).is_none()
 }
 
 // Whether none of its twelve calls has an effect.

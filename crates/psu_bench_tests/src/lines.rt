@@ -1,5 +1,5 @@
 //! The lines on the store's condition, and when a store that broke is opened again.
-use psu_bench::{ConditionLines, Reopenings, ReportedCondition};
+use psu_bench::{ConditionLines, JobEnding, Reopenings, ReportedCondition};
 use psu_tables::row;
 use std::alloc::Global;
 
@@ -70,8 +70,8 @@ fn is_put_off(reopenings: &mut Reopenings, line: &str) -> Option<bool> {
     let (time, name) = step.split_once(" ")?;
     let now = time.parse::<u64>().ok()?;
     match name {
-        "breaks" => reopenings.note_break(now),
-        "reopens" => reopenings.note_reopening(now),
+        "breaks" => reopenings.note(JobEnding::Broken, now),
+        "reopens" => reopenings.note(JobEnding::Reopened, now),
         _ => {}
     }
     Some(reopenings.time_left(now) == wanted.parse::<u64>().ok()?)

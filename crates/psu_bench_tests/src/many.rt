@@ -3,6 +3,7 @@ ghost use Rattle.std.specs.Prelude.{◌≡◌, ◌<◌, ◌≤◌};
 ghost use Rattle.psu_turn.specs.Seats.{IsOf};
 
 use crate::benches::{bench_on, formatted, is_answer, is_open_at_close, opened, unit};
+use psu_bench::operations::{CloseSession, OpenSession};
 use psu_bench::{Bench, Seat};
 use psu_disk::MemDisk;
 use psu_exec::{Outcome, Session};
@@ -19,7 +20,7 @@ fn one_thread<R: Wait>(rt: &R, bench: &Device, mut seat: Seat) -> (u64, Seat)
     requires { IsOf bench.now seat }
     ensures { IsOf bench.now result.1 }
 {
-    let Ok(session) = bench.open_session(rt, &mut seat) else {
+    let Ok(session) = bench.call(rt, &mut seat, OpenSession) else {
         return (0, seat);
     };
     let mut answers: u64 = 0;
@@ -29,7 +30,7 @@ fn one_thread<R: Wait>(rt: &R, bench: &Device, mut seat: Seat) -> (u64, Seat)
             answers = answers.saturating_add(1);
         }
     }
-    let _granted = bench.close_session(rt, &mut seat, session);
+    let _granted = bench.call(rt, &mut seat, CloseSession(session));
     (answers, seat)
 }
 
@@ -94,7 +95,7 @@ fn closed<R: Wait>(rt: &R, bench: &Device, mut seat: Seat, session: Session) -> 
     requires { IsOf bench.now seat }
     ensures { IsOf bench.now result }
 {
-    let _granted = bench.close_session(rt, &mut seat, session);
+    let _granted = bench.call(rt, &mut seat, CloseSession(session));
     seat
 }
 

@@ -6,6 +6,7 @@ use crate::benches::{
     bench_on, executes, formatted, is_answer, is_flushed_at_close, opened, read, unit,
 };
 use crate::holds::Hold;
+use psu_bench::operations::{Try, TryUnit};
 use psu_bench::{Bench, Gated, Open, Point, Seat, flusher, session_worker};
 use psu_disk::{Disk, FailingDisk};
 use psu_exec::{Outcome, ScpiError, Session};
@@ -125,7 +126,7 @@ fn is_answered_beside<D: Disk + Drop + Send, R: Threads + Wait + Sync + Abort>(
     let waits = waits(rt, bench, seat, one);
     let are_outcomes = are_outcomes_beside(rt, bench, seat, two, [b"VOLT?", b"7.000"], hold);
     let are_seen = bench.progress(seat) >= 2;
-    let is_outcome = is_answer(&bench.settle(rt, seat, one), b"1");
+    let is_outcome = is_answer(&bench.call(rt, seat, TryUnit(one, Try::Settle)), b"1");
     waits && are_outcomes && are_seen && is_outcome
 }
 

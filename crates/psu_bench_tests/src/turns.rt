@@ -3,6 +3,7 @@ ghost use Rattle.std.specs.Prelude.{◌≡◌};
 ghost use Rattle.psu_turn.specs.Seats.{IsOf};
 
 use crate::benches::{bench_on, formatted, is_open_at_close};
+use psu_bench::operations::NextDeadline;
 use psu_bench::{Bench, Seat};
 use psu_disk::MemDisk;
 use psu_exec::Session;
@@ -18,7 +19,7 @@ fn calls<R: Wait>(rt: &R, bench: &Bench<MemDisk<Global>, Global>, mut seat: Seat
     ensures { IsOf bench.now result }
 {
     for _ in 0..CALLS {
-        let _none = bench.next_deadline(rt, &mut seat);
+        let _none = bench.call(rt, &mut seat, NextDeadline);
     }
     seat
 }

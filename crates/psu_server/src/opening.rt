@@ -167,10 +167,10 @@ pub(crate) fn open<R: Wait, D: ServedDisk>(
     link: &Arc<Link>,
     message: &[u8],
 ) -> io::Result<Option<(FirstReply, Arc<ServedSession>)>>
-    ensures number { IfOk result (λ some. IfSome some (λ opened. IsOpened D.honest caller.old.seat (arc_value opened.1).number caller.new.seat)) }
+    ensures number { IfOk result (λ some. IfSome some (λ opened. IsOpened D.honest caller.old (arc_value opened.1).number caller.new)) }
     ensures response { IfOk result (λ some. IfSome some (λ opened. opened.0.bytes ≡ initialize_response (arc_value opened.1).number)) }
-    ensures crowded { IfOk result (λ some. IsNone some → SeatCalls (AllowsOn D.honest) caller.old.seat (Opened None) caller.new.seat) }
-    ensures closed { OnErr result (IsClosedAgain D.honest caller.old.seat caller.new.seat) }
+    ensures crowded { IfOk result (λ some. IsNone some → SeatCalls (AllowsOn D.honest) caller.old (Opened None) caller.new) }
+    ensures closed { OnErr result (IsClosedAgain D.honest caller.old caller.new) }
 {
     let others = Reporter { rt, server };
     let mut registry = others.lock_registry();
@@ -196,7 +196,7 @@ pub(crate) fn close<R: Wait, D: ServedDisk>(
     caller: &mut Caller<'_, D>,
     number: Session,
 )
-    ensures { (granted : List ℕ) × SeatCalls (AllowsOn D.honest) caller.old.seat (Closed number granted) caller.new.seat }
+    ensures { (granted : List ℕ) × SeatCalls (AllowsOn D.honest) caller.old (Closed number granted) caller.new }
 {
     let others = Reporter { rt, server };
     let mut registry = others.lock_registry();

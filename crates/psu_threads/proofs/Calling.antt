@@ -1,5 +1,5 @@
 -- The calls of a session on the shared device, in the history.
-use Rattle.std.proofs.Common.{◌≡◌, ℕ, List, [], ◌∷◌, ◌++◌, ap, inl, inr, refl, subst}
+use Rattle.std.proofs.Common.{◌≡◌, ℕ, Option, Some, None, List, [], ◌∷◌, ◌++◌, ap, inl, inr, refl, subst}
 use Rattle.psu_turn.specs.Seats.{Sight}
 use Rattle.psu_exec.specs.Device.{State}
 use Rattle.psu_exec.specs.Calls.{Entry}
@@ -8,16 +8,18 @@ use Rattle.psu_session.specs.Events.{Call, Executed, Settled, Sent, Delivered, Q
 use Rattle.psu_session.specs.Serving.{Runs}
 use Rattle.psu_threads.specs.Added.{Adds}
 use Rattle.psu_threads.specs.Called.{AreCalls, AreEntries, IsCalled, MayNotify}
-use Rattle.psu_bench.specs.Callers.{MakesCall, freed_to}
+use Rattle.psu_bench.specs.Callers.{Causes, freed_to}
+use Rattle.psu_bench.specs.declared.caused.Caused.{Caused}
 use Rattle.psu_threads.proofs.Adding.{adds_both, adds_none, adds_one}
 
 module _ {honest : Type 0} where
-  made : (old new : Sight State Entry) (entry : Entry) → MakesCall honest old entry new → (entries : List Entry) × MayNotify entry entries × Adds (AllowsOn honest) old entries new
-  made old new entry (inl call) = (entry ∷ [], inl refl, adds_one old new entry call)
-  made old new entry (inr (mid, requesting, work, call, notified)) = (
-    entry ∷ Entry.Notified requesting work ∷ [],
-    inr (requesting, work, refl),
-    adds_both old mid new (entry ∷ []) (Entry.Notified requesting work ∷ []) (adds_one old mid entry call) (adds_one mid new (Entry.Notified requesting work) notified),
+  made : (old new : Sight State Entry) (entry : Entry) → (caused : Option Caused) × Causes honest old entry caused new → (entries : List Entry) × MayNotify entry entries × Adds (AllowsOn honest) old entries new
+  made old new entry (None, mid, call, same, quiet) = (entry ∷ [], inl refl, adds_both old mid new (entry ∷ []) [] (adds_one old mid entry call) (adds_none mid new same))
+  made old new entry (Some caused, mid, call, notified) = (
+    entry ∷ Entry.Notified caused.requesting caused.wakes_flusher ∷ [],
+    inr (caused.requesting, caused.wakes_flusher, refl),
+    adds_both old mid new (entry ∷ []) (Entry.Notified caused.requesting caused.wakes_flusher ∷ []) (adds_one old mid entry call)
+        (adds_one mid new (Entry.Notified caused.requesting caused.wakes_flusher) notified),
   )
 
   called : (session : ℕ) (old new : Sight State Entry) (call : Call) → IsCalled honest session old call new → (entries : List Entry) × AreEntries session call entries × Adds (AllowsOn honest) old entries new

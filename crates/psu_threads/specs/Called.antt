@@ -1,17 +1,19 @@
 -- The calls of a session, as calls of the device under the seat of the thread that makes them.
-use Rattle.std.specs.Prelude.{◌≡◌, ◌⊎◌, ℕ, Bool, List, [], ◌∷◌, ◌++◌}
+use Rattle.std.specs.Prelude.{◌≡◌, ◌⊎◌, ℕ, Bool, Option, List, [], ◌∷◌, ◌++◌}
 use Rattle.psu_turn.specs.Seats.{Sight, SeatCalls}
 use Rattle.psu_exec.specs.Device.{State}
 use Rattle.psu_exec.specs.Calls.{Entry}
 use Rattle.psu_bench.specs.Calls.{AllowsOn}
+use Rattle.psu_bench.specs.Callers.{Causes, freed_to}
+use Rattle.psu_bench.specs.declared.caused.Caused.{Caused}
 use Rattle.psu_session.specs.Events.{Call, Executed, Settled, Sent, Delivered, Queried, Fetched, Locked, Released, Informed, Cleared}
+use Rattle.psu_session.specs.Serving.{Runs}
 use Rattle.psu_threads.specs.Added.{Adds}
-use Rattle.psu_bench.specs.Callers.{MakesCall, freed_to}
 
 -- The seat has made this call of a session. Its reply is what the one legal history says.
 abbrev pub IsCalled : Type 0 → ℕ → Sight State Entry → Call → Sight State Entry → Type 0
-IsCalled honest session old (Executed request reply) new = MakesCall honest old (Entry.Executed session request reply) new
-IsCalled honest session old (Settled reply) new = MakesCall honest old (Entry.Settled session reply) new
+IsCalled honest session old (Executed request reply) new = (caused : Option Caused) × Causes honest old (Entry.Executed session request reply) caused new
+IsCalled honest session old (Settled reply) new = (caused : Option Caused) × Causes honest old (Entry.Settled session reply) caused new
 IsCalled honest session old Sent new = (requesting : List ℕ) × (work : Bool) × SeatCalls (AllowsOn honest) old (Entry.Sent session requesting work) new
 IsCalled honest session old Delivered new = SeatCalls (AllowsOn honest) old (Entry.Delivered session) new
 IsCalled honest session old (Queried byte) new = SeatCalls (AllowsOn honest) old (Entry.Queried session byte) new
@@ -50,3 +52,7 @@ pub record AreCalls (honest : Type 0) (session : ℕ) (old : Sight State Entry) 
   pub entries : List Entry
   pub are : AreAllEntries session calls entries
   pub adds : Adds (AllowsOn honest) old entries new
+
+-- So are the calls that lead a device from one state to another, where each is a call under its seat.
+abbrev pub CallsAreInTheHistory : {X : Type 0} → Type 0 → (X → Call → X → Type 0) → (X → ℕ) → (X → Sight State Entry) → Type 0
+CallsAreInTheHistory {X} honest does session seat = (old new : X) (calls : List Call) → Runs does old calls new → AreCalls honest (session old) (seat old) calls (seat new)

@@ -2,8 +2,7 @@
 ghost use Rattle.std.specs.Prelude.{◌≡◌, ◌<◌, Result};
 ghost use Rattle.psu_exec.specs.declared.no_job.NoJob.{NoJob as AnyNoJob};
 ghost use Rattle.psu_bench.specs.Callers.{CausesByRound};
-ghost use Rattle.psu_bench.specs.Reopenings.{after_job};
-ghost use Rattle.psu_bench.specs.Seconds.{left_of_second};
+ghost use Rattle.psu_bench.specs.Reopenings.{after_job, left_of_second};
 ghost use Rattle.psu_bench.specs.declared.caused_by_job.CausedByJob.{CausedByJob};
 
 use crate::reporter::Reporter;
@@ -96,7 +95,7 @@ impl<'a, 'b, D: ServedDisk> Flusher<'a, 'b, D> {
     // Makes a round, and reports what it has caused. Returns how long the flusher sleeps after it at most, in milliseconds;
     // none where it sleeps until there is something to do.
     fn round<R: Wait + Clock>(&mut self, rt: &R) -> Option<u64>
-        ensures calls { (made : Result CausedByJob AnyNoJob) × CausesByRound D.Disk made self.old.caller.seat self.new.caller.seat }
+        ensures calls { (made : Result CausedByJob AnyNoJob) × CausesByRound D.Disk made self.old.caller self.new.caller }
     {
         match self.caller.round(rt) {
             Ok(caused) => {
@@ -118,7 +117,7 @@ impl<'a, 'b, D: ServedDisk> Flusher<'a, 'b, D> {
     fn round_at<R: Wait + Clock>(&mut self, rt: &R, now: u64) -> Option<u64>
         ensures put_off { 0 < left_of_second self.old.reopenings.broken now → self.new.caller ≡ self.old.caller }
         ensures calls { left_of_second self.old.reopenings.broken now ≡ 0
-            → (made : Result CausedByJob AnyNoJob) × CausesByRound D.Disk made self.old.caller.seat self.new.caller.seat }
+            → (made : Result CausedByJob AnyNoJob) × CausesByRound D.Disk made self.old.caller self.new.caller }
     {
         let left = self.reopenings.time_left(now);
         if left > 0 {

@@ -1,30 +1,19 @@
 //! Laws of the calls of a session on the shared device.
-ghost use Rattle.std.specs.Prelude.{List};
-ghost use Rattle.psu_session.specs.Events.{Call};
-ghost use Rattle.psu_session.specs.Serving.{Runs};
-ghost use Rattle.psu_threads.specs.Called.{AreCalls};
+ghost use Rattle.psu_threads.specs.Called.{CallsAreInTheHistory};
 ghost use Rattle.psu_threads.specs.Recorded.{EachResponseIsOfTheHistory, OneResponseIsSent};
 
 use crate::SharedDevice;
 use psu_bench::ServedDisk;
 use psu_session::{Device, from_bytes_to_bytes, histories_are_exchanges};
 use std::rt::Clock;
-use std::snapshot::Snapshot;
 use std::sync::Wait;
 
 /// The calls that lead from one state of the shared device to another, as the contracts of a session name them, are in
 /// the one legal history: under the number of the thread's seat it has exactly these calls of the session after those
 /// that the seat had made, in their order and with their replies.
-pub fn calls_are_in_the_history<'s, 'b, 'r, R: Wait + Clock, D: ServedDisk>(
-    old: &Snapshot<SharedDevice<'s, 'b, 'r, R, D>>,
-    new: &SharedDevice<'s, 'b, 'r, R, D>,
-)
-    ensures { (calls : List Call) → Runs ⟦<SharedDevice<'s, 'b, 'r, R, D> as Device>⟧.does old.now.value calls new.now
-        → AreCalls D.honest old.now.value.session old.now.value.caller.seat calls new.now.caller.seat }
-{
-    let _ = old;
-    let _ = new;
-}
+pub fn calls_are_in_the_history<'s, 'b, 'r, R: Wait + Clock + 'r, D: ServedDisk + 'b>()
+    ensures { CallsAreInTheHistory D.honest ⟦<SharedDevice<'s, 'b, 'r, R, D> as Device>⟧.does (λ x. x.session) (λ x. x.caller) }
+{}
 
 /// What a client is sent, from the one legal history of the device. Threads call a session one after another, each with
 /// a shared device of the session's number, and so a seat, of its own. Then each call of the device in the session's
@@ -41,7 +30,7 @@ pub fn calls_are_in_the_history<'s, 'b, 'r, R: Wait + Clock, D: ServedDisk>(
 /// Each seat has seen a history of its own, as far as the thread has called. Any two seats of a bench may be joined
 /// (`Bench::join`): they have then seen one legal history, which has the calls of both.
 pub fn each_response_is_of_the_history<'s, 'b, 'r, R: Wait + Clock + 'r, D: ServedDisk + 'b>()
-    ensures each { EachResponseIsOfTheHistory D.honest ⟦<SharedDevice<'s, 'b, 'r, R, D> as Device>⟧.does (λ x. x.session) (λ x. x.caller.seat) }
+    ensures each { EachResponseIsOfTheHistory D.honest ⟦<SharedDevice<'s, 'b, 'r, R, D> as Device>⟧.does (λ x. x.session) (λ x. x.caller) }
     ensures one { OneResponseIsSent }
 {
     histories_are_exchanges();

@@ -25,4 +25,4 @@ pub use registry::Registry;
 pub use reporter::{HeldRegistry, Reporter};
 pub use server::Server;
 pub use session_thread::{Role, serve_session, space};
-pub use shared_device::{OfSession, SharedDevice};
+pub use shared_device::SharedDevice;

@@ -42,12 +42,10 @@ impl<'a, 'r, R: Wait> Others for Reporter<'a, 'r, R> {
     }
 
     fn service_requested(&mut self, sessions: &Sessions) {
-        if !sessions.is_empty() {
-            self.server
-                .registry
-                .lock(self.rt)
-                .request_service(self.rt, sessions);
-        }
+        self.server
+            .registry
+            .lock(self.rt)
+            .request_service(self.rt, sessions);
     }
 
     fn wake_flusher(&mut self) {

@@ -5,10 +5,10 @@ use crate::executing::{SyncReader, Worker};
 use crate::responding::{AsyncReader, Notifier};
 use crate::server::Server;
 use crate::serving::Serving;
-use crate::shared_device::{OfSession, SharedDevice};
+use crate::shared_device::SharedDevice;
 use psu_bench::{Access, Caller, ServedDisk};
 use psu_messages::READ_SIZE;
-use psu_session_io::{Asynchronous, Connection, Link, ServedSession, StepDevice, Synchronous, run};
+use psu_session_io::{Asynchronous, Connection, Link, ServedSession, Synchronous, run};
 use std::alloc::Global;
 use std::io;
 use std::rt::Clock;
@@ -40,42 +40,30 @@ pub enum Role {
 
 // What a thread of a session works with: the device is that of the session's number.
 #[derive(Drop)]
-struct SessionThread<'s, 'v, D: OfSession> {
-    server: &'s Server,
+struct SessionThread<'s, 'v, 'b, 'r, R: Wait, D: ServedDisk> {
     served: &'v ServedSession,
-    device: D,
-    ghost own: { D.session device ≡ served.now.number },
+    device: SharedDevice<'s, 'b, 'r, R, D>,
+    ghost own: { device.session ≡ served.now.number },
 }
 
-impl<'s, 'v, D: StepDevice + OfSession + Drop> SessionThread<'s, 'v, D> {
+impl<'s, 'v, 'b, 'r, R: Wait + Clock, D: ServedDisk> SessionThread<'s, 'v, 'b, 'r, R, D> {
     // Returns what the thread works with on a connection.
-    fn on<S>(self, connection: Connection<S>) -> Serving<'s, 'v, S, D>
-        ensures { D.session result.device ≡ result.served.now.number }
+    fn on<S>(self, connection: Connection<S>) -> Serving<'s, 'v, S, SharedDevice<'s, 'b, 'r, R, D>>
+        ensures { result.device.session ≡ result.served.now.number }
     {
-        let SessionThread {
-            server,
-            served,
-            device,
-        } = self;
+        let SessionThread { served, device } = self;
         Serving {
-            server,
+            server: device.server,
             served,
             connection,
             device,
         }
     }
 
-    // Returns what the thread works with on a connection over this link, of which nothing is read yet.
-    fn over<S>(self, link: Arc<Link>) -> Serving<'s, 'v, S, D>
-        ensures { D.session result.device ≡ result.served.now.number }
-    {
-        let connection = Connection::new(link, Vec::new(self.server.alloc));
-        self.on(connection)
-    }
-
     // Does what its role is, until the session is over.
-    fn run_as<R: Wait + Clock>(self, rt: &R, role: Role) -> io::Result<()> {
-        let alloc = self.server.alloc;
+    fn run_as(self, role: Role) -> io::Result<()> {
+        let rt = self.device.rt;
+        let alloc = self.device.server.alloc;
         match role {
             Role::Read(connection, opened) => {
                 let space = space(alloc, READ_SIZE)?;
@@ -89,7 +77,7 @@ impl<'s, 'v, D: StepDevice + OfSession + Drop> SessionThread<'s, 'v, D> {
                 run(rt, &mut reader);
             }
             Role::Work(link) => {
-                let serving = self.over(link);
+                let serving = self.on(Connection::new(link, Vec::new(alloc)));
                 run(rt, &mut Worker { serving });
             }
             Role::Listen(connection) => {
@@ -98,29 +86,12 @@ impl<'s, 'v, D: StepDevice + OfSession + Drop> SessionThread<'s, 'v, D> {
                 run(rt, &mut AsyncReader { serving, space });
             }
             Role::Notify(link) => {
-                let serving = self.over(link);
+                let serving = self.on(Connection::new(link, Vec::new(alloc)));
                 run(rt, &mut Notifier { serving });
             }
         }
         Ok(())
     }
-}
-
-// Serves a session by this caller.
-fn serve_by<R: Wait + Clock, D: ServedDisk>(
-    rt: &R,
-    server: &Server,
-    served: &ServedSession,
-    caller: Caller<'_, D>,
-    role: Role,
-) -> io::Result<()> {
-    let device = SharedDevice::new(rt, server, served.number, caller);
-    let thread = SessionThread {
-        server,
-        served,
-        device,
-    };
-    thread.run_as(rt, role)
 }
 
 /// Serves a session in this thread until the session is over. An error where memory for it is refused.
@@ -132,5 +103,12 @@ pub fn serve_session<R: Wait + Clock, D: ServedDisk>(
     role: Role,
 ) -> io::Result<()> {
     let Access { bench, seat, gate } = access;
-    serve_by(rt, server, served, Caller::new(&bench, seat, gate), role)
+    let device = SharedDevice {
+        rt,
+        server,
+        session: served.number,
+        caller: Caller::new(&bench, seat, gate),
+    };
+    let thread = SessionThread { served, device };
+    thread.run_as(role)
 }

@@ -1,8 +1,9 @@
 //! The shared device as the device of a session.
-ghost use Rattle.std.specs.Prelude.{◌≡◌};
+ghost use Rattle.std.specs.Prelude.{◌≡◌, Option};
 ghost use Rattle.psu_exec.specs.Shown.{outcome_of};
-ghost use Rattle.psu_bench.specs.Callers.{MakesCall};
+ghost use Rattle.psu_bench.specs.Callers.{Causes};
 ghost use Rattle.psu_bench.specs.Tries.{tried};
+ghost use Rattle.psu_bench.specs.declared.caused.Caused.{Caused};
 ghost use Rattle.psu_threads.specs.Called.{IsCalled};
 
 use crate::reporter::Reporter;
@@ -27,24 +28,6 @@ pub struct SharedDevice<'s, 'b, 'r, R: Wait, D: ServedDisk> {
 }
 
 impl<'s, 'b, 'r, R: Wait, D: ServedDisk> SharedDevice<'s, 'b, 'r, R, D> {
-    /// Returns the device of a session for a thread of it.
-    pub fn new(
-        rt: &'r R,
-        server: &'s Server,
-        session: Session,
-        caller: Caller<'b, D>,
-    ) -> SharedDevice<'s, 'b, 'r, R, D>
-        ensures session { result.session ≡ session }
-        ensures caller { result.caller ≡ caller.entry }
-    {
-        SharedDevice {
-            rt,
-            server,
-            session,
-            caller,
-        }
-    }
-
     // Returns what reports to the other threads. The mutex of the device is released before, since the registry is locked
     // first where both are.
     fn others(&mut self) -> Reporter<'s, 'r, R>
@@ -60,7 +43,7 @@ impl<'s, 'b, 'r, R: Wait, D: ServedDisk> SharedDevice<'s, 'b, 'r, R, D> {
     // Tries a unit, and reports to the other threads what that may have caused.
     fn try_unit(&mut self, how: Try<'_, '_>) -> Outcome<Global>
         ensures session { self.new.session ≡ self.old.session }
-        ensures call { MakesCall D.honest self.old.caller.seat (tried self.old.session how.entry (outcome_of result)) self.new.caller.seat }
+        ensures caused { (caused : Option Caused) × Causes D.honest self.old.caller (tried self.old.session how.entry (outcome_of result)) caused self.new.caller }
     {
         let (outcome, caused) = self.caller.try_unit(self.rt, self.session, how);
         if let Some(caused) = caused {
@@ -72,7 +55,7 @@ impl<'s, 'b, 'r, R: Wait, D: ServedDisk> SharedDevice<'s, 'b, 'r, R, D> {
 
 impl<'s, 'b, 'r, R: Wait + Clock, D: ServedDisk> Device for SharedDevice<'s, 'b, 'r, R, D> {
     ghost does = { λ x call y. (y.session ≡ x.session)
-        × IsCalled D.honest x.session x.caller.seat call y.caller.seat };
+        × IsCalled D.honest x.session x.caller call y.caller };
 
     fn execute(&mut self, request: &Request<'_>) -> Outcome<Global> {
         self.try_unit(Try::Execute(request))
@@ -130,18 +113,6 @@ impl<'s, 'b, 'r, R: Wait + Clock, D: ServedDisk> Device for SharedDevice<'s, 'b,
         self.caller.call(self.rt, Clear(self.session));
         self.others().wake(self.session);
     }
-}
-
-/// The device of a session, whose number contracts see.
-pub trait OfSession {
-    ghost use Rattle.std.specs.Prelude.{ℕ};
-
-    /// The session's number.
-    ghost session: { Self → ℕ };
-}
-
-impl<'s, 'b, 'r, R: Wait, D: ServedDisk> OfSession for SharedDevice<'s, 'b, 'r, R, D> {
-    ghost session = { λ d. d.session };
 }
 
 impl<'s, 'b, 'r, R: Wait + Clock, D: ServedDisk> StepDevice for SharedDevice<'s, 'b, 'r, R, D> {
