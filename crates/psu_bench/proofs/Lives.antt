@@ -9,14 +9,9 @@ use Rattle.psu_exec.proofs.Events.{prefix_is_left}
 use Rattle.psu_turn.specs.History.{HistoryLeads}
 use Rattle.psu_turn.specs.declared.numbered.Numbered.{Numbered}
 use Rattle.psu_bench.specs.Calls.{AllowsOn, EndHasDisk, HasDisk}
-use Rattle.psu_bench.specs.Lives.{Happening, Called, Moved, HistoriesHappen, LeadsOverDisks, Lives, LivesAreEvents, SeenHistoriesHappen, SomeHistoryHappens, ThreadsLeavePrefix, calls_in}
+use Rattle.psu_bench.specs.Lives.{Happening, Called, Moved, HistoriesHappen, LeadsOverDisks, Lives, LivesAreEvents, SeenHistoriesHappen, SomeHistoryHappens, ThreadsLeavePrefix, calls_in, events_in}
 
 -- ---- happenings are events
-
-events_of : (happenings : List Happening) (w new : World) → Lives w happenings new → (events : List Event) × Run w events new
-events_of [] w new same = ([], same)
-events_of (Called call disk ∷ more) w new (mid, happens, rest) = let r = events_of more mid new rest in (Call call.entry disk ∷ r.0, (mid, happens, r.1))
-events_of (Moved disk ∷ more) w new (mid, happens, rest) = let r = events_of more mid new rest in (DiskCall disk ∷ r.0, (mid, happens, r.1))
 
 -- a disk call leaves the device's state unchanged
 still : (w mid : World) (disk : DiskState) → Happens w (DiskCall disk) mid → mid.state ≡ w.state
@@ -33,7 +28,7 @@ leads_of (Called call disk ∷ more) w new (mid, happens, rest) = (
 leads_of (Moved disk ∷ more) w new (mid, happens, rest) = subst (λ (s : State). HistoryLeads Allows s (calls_in more) new.state) (still w mid disk happens) (leads_of more mid new rest)
 
 pub lives_are_events : LivesAreEvents
-lives_are_events w new happenings lives = (events_of happenings w new lives, leads_of happenings w new lives)
+lives_are_events w new happenings lives = (lives, leads_of happenings w new lives)
 
 -- ---- a history happens if its ends are true of disks
 
@@ -103,5 +98,4 @@ some_history_happens first torn disk start moves either mends each =
 -- ---- possible crash images
 
 pub threads_leave_prefix : ThreadsLeavePrefix
-threads_leave_prefix first now happenings image start lives left =
-    let events = events_of happenings first now lives in prefix_is_left first now events.0 image start events.1 left
+threads_leave_prefix first now happenings image start lives left = prefix_is_left first now (events_in happenings) image start lives left

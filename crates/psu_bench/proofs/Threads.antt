@@ -17,9 +17,9 @@ use Rattle.psu_exec.proofs.Staying.{each_stays_consistent}
 use Rattle.psu_turn.specs.History.{numbered}
 use Rattle.psu_turn.specs.declared.numbered.Numbered.{Numbered}
 use Rattle.psu_bench.specs.Calls.{AllowsOn}
-use Rattle.psu_bench.specs.Lives.{Called, Moved, LeadsOverDisks, Lives, calls_in}
-use Rattle.psu_bench.specs.Threads.{DisksLeavePrefix, EndsAreTrue, HaveDisks, IsDiskCall, IsPlain, JobRun, SomeStepsExist, ThreadStep, CallMade, Takes, Reaches, Gives, ThreadsAreEvents, shown, taken}
-use Rattle.psu_bench.proofs.Lives.{lives_are_events, over_disks, threads_leave_prefix}
+use Rattle.psu_bench.specs.Lives.{Happening, Called, Moved, LeadsOverDisks, calls_in}
+use Rattle.psu_bench.specs.Threads.{DisksLeavePrefix, EndsAreTrue, HaveDisks, IsDiskCall, IsPlain, JobRun, Occurs, SomeStepsExist, ThreadStep, CallMade, Takes, Reaches, Gives, ThreadsAreEvents, shown, taken}
+use Rattle.psu_bench.proofs.Lives.{over_disks, threads_leave_prefix}
 
 -- ---- a call that takes no job, and by which no end is accepted
 
@@ -45,27 +45,18 @@ settled_same f session reply = at (ends_wait reply) where
 
 serves_same : (s new : State) (entry : Entry) → IsPlain entry → Serves s entry new → SameJob s.flush new.flush
 serves_same s new (Took (Taken.Job job)) plain a = absurd (let bad = plain.0 in cc)
-serves_same s new (Took Taken.Nothing) plain a = same_at s.flush new _ a.1 (record { limit = refl; before = refl; held = refl; out = refl })
-serves_same s new (Took Taken.Out) plain a = same_at s.flush new _ a.1 (record { limit = refl; before = refl; held = refl; out = refl })
-serves_same s new (Took Taken.Memory) plain a = same_at s.flush new _ a.1 (record { limit = refl; before = refl; held = refl; out = refl })
 serves_same s new (GaveBack finished (Some over)) plain a = absurd (let bad = plain.1 in cc)
-serves_same s new (GaveBack finished None) plain a = same_at s.flush new _ a.1 (record { limit = refl; before = refl; held = refl; out = refl })
 serves_same s new (Executed session request reply) plain a = same_at s.flush new _ a.1.is (record { limit = refl; before = refl; held = refl; out = refl })
 serves_same s new (Settled session reply) plain a = same_at s.flush new _ a.2 (settled_same s.flush session reply)
-serves_same s new (Opened None) plain a = same_at s.flush new _ a.1 (record { limit = refl; before = refl; held = refl; out = refl })
 serves_same s new (Opened (Some session)) plain a = same_at s.flush new _ a.1 (record { limit = refl; before = refl; held = refl; out = refl })
 serves_same s new (Closed session granted) plain a = same_at s.flush new _ a.2 (record { limit = refl; before = refl; held = refl; out = refl })
-serves_same s new (Cleared session) plain a = same_at s.flush new _ a.1 (record { limit = refl; before = refl; held = refl; out = refl })
-serves_same s new (Sent session sessions work) plain a = same_at s.flush new _ a.1.2 (record { limit = refl; before = refl; held = refl; out = refl })
-serves_same s new (Delivered session) plain a = same_at s.flush new _ a.1 (record { limit = refl; before = refl; held = refl; out = refl })
 serves_same s new (Queried session byte) plain a = same_at s.flush new _ a.2 (record { limit = refl; before = refl; held = refl; out = refl })
 serves_same s new (Fetched session byte) plain a = same_at s.flush new _ a.2 (record { limit = refl; before = refl; held = refl; out = refl })
 serves_same s new (Notified sessions work) plain a = same_at s.flush new _ a.2 (record { limit = refl; before = refl; held = refl; out = refl })
 serves_same s new (Locked session kind now timeout result) plain a = same_at s.flush new _ a.2 (record { limit = refl; before = refl; held = refl; out = refl })
 serves_same s new (Released session result) plain a = same_at s.flush new _ a.2 (record { limit = refl; before = refl; held = refl; out = refl })
-serves_same s new (Ticked now failed) plain a = same_at s.flush new _ a.1 (record { limit = refl; before = refl; held = refl; out = refl })
-serves_same s new (Informed info) plain a = same_at s.flush new _ a.1 (record { limit = refl; before = refl; held = refl; out = refl })
-serves_same s new (Due deadline) plain a = same_at s.flush new _ a.1 (record { limit = refl; before = refl; held = refl; out = refl })
+serves_same s new (Sent session sessions work) plain a = same_at s.flush new _ a.1.2 (record { limit = refl; before = refl; held = refl; out = refl })
+serves_same s new entry plain a = same_at s.flush new _ a.1 (record { limit = refl; before = refl; held = refl; out = refl })
 
 plain_same : (s new : State) (entry : Entry) → IsPlain entry → Allows s entry new → SameJob s.flush new.flush
 plain_same s new entry plain (inl a) = serves_same s new entry plain a
@@ -116,54 +107,50 @@ taken_out D A G run s new (inr none) = absurd none.0
 abbrev pub Counts : (D : Type 0) → Ghosts D → Type 0
 Counts D G = (d : D) (t : ℕ) (x : List ℕ) → t ≤ Ghosts.moment G d → IsCrashImage (Ghosts.state G d) x → Ghosts.left_since G d t x
 
-abbrev Stepped : (D A : Type 0) (G : Ghosts D) → World → List (ThreadStep D A G) → State → D → Type 0
-Stepped D A G w steps state last = (new : World) × Lives w (shown w.disk steps) new × (new.state ≡ state) × (new.disk ≡ Ghosts.state G last)
-
 abbrev after_call : World → Entry → State → DiskState → World
 after_call w entry next disk = record w { state = next; history = recorded w.state entry w.history; disk = disk }
 
--- a call that is an event, before steps that happen
-one_call : (D A : Type 0) (G : Ghosts D) (w : World) (call : Numbered Entry) (next : State) (disk : DiskState) (steps : List (ThreadStep D A G)) (state : State) (last : D)
-    → w.mode ≡ Running → Allows w.state call.entry next → DiskAfter w call.entry disk → Stepped D A G (after_call w call.entry next disk) steps state last
-    → (new : World) × Lives w (Called call disk ∷ shown disk steps) new × (new.state ≡ state) × (new.disk ≡ Ghosts.state G last)
-one_call D A G w call next disk steps state last running allows after r = (r.0, (after_call w call.entry next disk, (next, running, allows, after, refl), r.1), r.2, r.3)
+-- a call that is an event, before what happens then
+one_call : (w : World) (call : Numbered Entry) (next : State) (disk : DiskState) (more : List Happening) (state : State) (last : DiskState)
+    → w.mode ≡ Running → Allows w.state call.entry next → DiskAfter w call.entry disk → Occurs (after_call w call.entry next disk) more state last → Occurs w (Called call disk ∷ more) state last
+one_call w call next disk more state last running allows after r =
+    record { new = r.new; lives = (after_call w call.entry next disk, (next, running, allows, after, refl), r.lives); state_is = r.state_is; disk_is = r.disk_is }
 
--- a disk call of the run, before steps that happen
+-- a disk call of the run, before what happens then
 one_disk_call : (D A : Type 0) (G : Ghosts D) → Counts D G → Ghosts.honest G → Ghosts.records G
-    → (run : JobRun D A G) (w : World) (disk next : D) (steps : List (ThreadStep D A G)) (state : State) (last : D) → w.mode ≡ Running → IsOut run w.state.flush → w.disk ≡ Ghosts.state G disk → IsDiskCall run disk next
-    → Stepped D A G (record w { disk = Ghosts.state G next }) steps state last
-    → (new : World) × Lives w (Moved (Ghosts.state G next) ∷ shown (Ghosts.state G next) steps) new × (new.state ≡ state) × (new.disk ≡ Ghosts.state G last)
-one_disk_call D A G counts honest records run w disk next steps state last running out is call r =
+    → (run : JobRun D A G) (w : World) (disk next : D) (more : List Happening) (state : State) (last : DiskState) → w.mode ≡ Running → IsOut run w.state.flush → w.disk ≡ Ghosts.state G disk → IsDiskCall run disk next
+    → Occurs (record w { disk = Ghosts.state G next }) more state last → Occurs w (Moved (Ghosts.state G next) ∷ more) state last
+one_disk_call D A G counts honest records run w disk next more state last running out is call r =
     let mid : World = record w { disk = Ghosts.state G next } in
     let moves : Moves w.disk (Ghosts.state G next) = subst (λ (d : DiskState). Moves d (Ghosts.state G next)) (sym is) call.moves in
     let either : EachIsEither (Ghosts.state G next) w.state.flush.limit w.state.flush.before (target w.state.flush)
     = still_either G counts (job_disk run.job) next (finished_disk run.finished) (job_data run.job).limit w.state.flush.limit (job_data run.job).before w.state.flush.before (job_data run.job).target (target w.state.flush)
     (run.time honest records) call.later call.within out.limit out.before out.goal in
-    (r.0, (mid, (moves, inl (record { running = running; out = out.out; either = either }, refl)), r.1), r.2, r.3)
+    record { new = r.new; lives = (mid, (moves, inl (record { running = running; out = out.out; either = either }, refl)), r.lives); state_is = r.state_is; disk_is = r.disk_is }
 
 step_by_step : (D A : Type 0) (G : Ghosts D) → Counts D G → Ghosts.honest G → Ghosts.records G
     → (steps : List (ThreadStep D A G)) (run : Option (JobRun D A G)) (w : World) (disk last : D) (state : State) → w.mode ≡ Running → IsConsistent w.state.flush → AreOut run w.state.flush → w.disk ≡ Ghosts.state G disk
-    → HaveDisks D A G run disk steps last → LeadsOverDisks w.state (calls_in (shown w.disk steps)) state → Stepped D A G w steps state last
-step_by_step D A G counts honest records [] run w disk last state running k out is have leads = (w, refl, leads, is ∙ sym (ap (λ (d : D). Ghosts.state G d) have))
+    → HaveDisks D A G run disk steps last → LeadsOverDisks w.state (calls_in (shown w.disk steps)) state → Occurs w (shown w.disk steps) state (Ghosts.state G last)
+step_by_step D A G counts honest records [] run w disk last state running k out is have leads = record { new = w; lives = refl; state_is = leads; disk_is = is ∙ sym (ap (λ (d : D). Ghosts.state G d) have) }
 step_by_step D A G counts honest records (CallMade call ∷ steps) run w disk last state running k out is have (next, allows, on, rest) =
     let still = still_out D A G run w.state.flush next.flush (plain_same w.state next call.entry have.0 allows) out in
     let r = step_by_step D A G counts honest records steps run (after_call w call.entry next w.disk) disk last state running (each_stays_consistent w.state next call.entry allows k) still is have.1 rest in
-    one_call D A G w call next w.disk steps state last running allows (plain_after w call.entry have.0) r
+    one_call w call next w.disk (shown w.disk steps) state (Ghosts.state G last) running allows (plain_after w call.entry have.0) r
 step_by_step D A G counts honest records (Takes seat begun ∷ steps) run w disk last state running k out is have (next, allows, on, rest) =
     let call : Numbered Entry = numbered seat (Took (Taken.Job (job_data begun.job))) in
     let started = taken_out D A G begun w.state next allows in
     let r = step_by_step D A G counts honest records steps (Some begun) (after_call w call.entry next w.disk) disk last state running (each_stays_consistent w.state next call.entry allows k) started is have rest in
-    one_call D A G w call next w.disk steps state last running allows refl r
+    one_call w call next w.disk (shown w.disk steps) state (Ghosts.state G last) running allows refl r
 step_by_step D A G counts honest records (Reaches next ∷ steps) None w disk last state running k out is have leads = absurd have.0
 step_by_step D A G counts honest records (Reaches next ∷ steps) (Some now) w disk last state running k out is have leads =
     let r = step_by_step D A G counts honest records steps (Some now) (record w { disk = Ghosts.state G next }) next last state running k out refl have.1 leads in
-    one_disk_call D A G counts honest records now w disk next steps state last running out is have.0 r
+    one_disk_call D A G counts honest records now w disk next (shown (Ghosts.state G next) steps) state (Ghosts.state G last) running out is have.0 r
 step_by_step D A G counts honest records (Gives seat finished over ∷ steps) run w disk last state running k out is have (next, inl allows, on, rest) =
     let call : Numbered Entry = numbered seat (GaveBack (finished_of finished) (Some over)) in
     let carried : DiskState = Ghosts.state G (finished_disk finished) in
     let own = true_of w.state.flush finished k allows.expected (have.0 honest) in
     let r = step_by_step D A G counts honest records steps None (after_call w call.entry next carried) (finished_disk finished) last state running (each_stays_consistent w.state next call.entry (inl allows) k) tt refl have.1 rest in
-    one_call D A G w call next carried steps state last running (inl allows) own r
+    one_call w call next carried (shown carried steps) state (Ghosts.state G last) running (inl allows) own r
 step_by_step D A G counts honest records (Gives seat finished over ∷ steps) run w disk last state running k out is have (next, inr (absent, same), on, rest) = absurd absent
 
 -- ---- the laws
@@ -174,8 +161,7 @@ ends_are_true D A G s new finished over k stands (inr none) = absurd none.0
 
 pub threads_are_events : (D A : Type 0) (G : Ghosts D) → Counts D G → Ghosts.honest G → Ghosts.records G → ThreadsAreEvents D A G
 threads_are_events D A G counts honest records w first last steps state running k is have leads =
-    let r = step_by_step D A G counts honest records steps None w first last state running k tt is have (over_disks (Ghosts.honest G) (calls_in (shown w.disk steps)) w.state state honest leads) in
-    record { new = r.0; lives = r.1; state_is = r.2; disk_is = r.3; are = (lives_are_events w r.0 (shown w.disk steps) r.1).0 }
+    step_by_step D A G counts honest records steps None w first last state running k tt is have (over_disks (Ghosts.honest G) (calls_in (shown w.disk steps)) w.state state honest leads)
 
 consistent_at_start : (w : World) → IsStart w → IsConsistent w.state.flush
 consistent_at_start w start = subst (λ (s : State). IsConsistent s.flush) (sym start.state) (consistent_start w.limit w.start (items_of w.start) start.sound start.fitting refl)

@@ -24,16 +24,20 @@ calls_in [] = []
 calls_in (Called call disk ∷ more) = call ∷ calls_in more
 calls_in (Moved disk ∷ more) = calls_in more
 
--- These happen one after another, from world w to the world new: each is an event.
-abbrev pub Lives : World → List Happening → World → Type 0
-Lives w [] new = new ≡ w
-Lives w (Called call disk ∷ more) new = (mid : World) × Happens w (Call call.entry disk) mid × Lives mid more new
-Lives w (Moved disk ∷ more) new = (mid : World) × Happens w (DiskCall disk) mid × Lives mid more new
+-- as events of the power-loss theorem
+abbrev pub events_in : List Happening → List Event
+events_in [] = []
+events_in (Called call disk ∷ more) = Call call.entry disk ∷ events_in more
+events_in (Moved disk ∷ more) = DiskCall disk ∷ events_in more
 
--- What happens are events of the power-loss theorem, and its calls are a legal history.
+-- These happen one after another, from world w to the world new: they are such events.
+abbrev pub Lives : World → List Happening → World → Type 0
+Lives w happenings new = Run w (events_in happenings) new
+
+-- The calls of what happens are a legal history.
 abbrev pub LivesAreEvents : Type 0
 LivesAreEvents = (w new : World) (happenings : List Happening) → Lives w happenings new
-    → ((events : List Event) × Run w events new) × HistoryLeads Allows w.state (calls_in happenings) new.state
+    → Run w (events_in happenings) new × HistoryLeads Allows w.state (calls_in happenings) new.state
 
 -- a legal history whose accepted ends are each true of some disk
 abbrev pub LeadsOverDisks : State → List (Numbered Entry) → State → Type 0
@@ -52,12 +56,9 @@ SeenHistoriesHappen honest = (w : World) (history : List (Numbered Entry)) (last
 
 -- the happenings of one thread that causes these events, up to a power loss, the process's end or a restart
 abbrev pub by_one : List Event → List Happening
-by_one [] = []
 by_one (Call entry disk ∷ more) = Called (numbered 1 entry) disk ∷ by_one more
 by_one (DiskCall disk ∷ more) = Moved disk ∷ by_one more
-by_one (Loss image ∷ more) = []
-by_one (Stop ∷ more) = []
-by_one (Restart limit contents ∷ more) = []
+by_one _ = []
 
 -- There are such histories: one with a job whose disk fails, a reopening of the store, and a response 1 for what the
 -- store then holds.

@@ -9,7 +9,6 @@ use Rattle.psu_bench.specs.declared.reported_condition.ReportedCondition.TheVari
 -- nothing.
 abbrev pub condition_shown : JobEnding → Option ReportedCondition
 condition_shown ending.Stored = Some Works
-condition_shown ending.Reopened = None
 condition_shown ending.Broken = Some Broken
 condition_shown ending.Worn = Some Worn
-condition_shown ending.OutOfMemory = None
+condition_shown _ = None

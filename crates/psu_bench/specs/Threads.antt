@@ -89,20 +89,19 @@ abbrev pub EndsAreTrue : (D A : Type 0) → Ghosts D → Type 0
 EndsAreTrue D A G = (s new : State) (finished : EndOf D A G) (over : List ℕ)
     → IsConsistent s.flush → EndStands finished → Allows s (GaveBack (finished_of finished) (Some over)) new → IsTrueOf (target s.flush) (finished_of finished) (Ghosts.state G (finished_disk finished))
 
--- The steps happen in world w, one after another, each with the disk of the threads, and are events of the power-loss
--- theorem. In the end the state is the history's, and the disk the threads' last.
-pub record Occurs {D A : Type 0} {G : Ghosts D} (w : World) (steps : List (ThreadStep D A G)) (state : State) (disk : D) : Type 0 where
+-- These happen in world w as events of the power-loss theorem, one after another, and lead to this state and this disk.
+pub record Occurs (w : World) (happenings : List Happening) (state : State) (disk : DiskState) : Type 0 where
   pub new : World
-  pub lives : Lives w (shown w.disk steps) new
+  pub lives : Lives w happenings new
   pub state_is : new.state ≡ state
-  pub disk_is : new.disk ≡ Ghosts.state G disk
-  pub are : (events : List Event) × Run w events new
+  pub disk_is : new.disk ≡ disk
 
--- So do the steps of threads whose calls are a legal history.
+-- So do the steps of threads whose calls are a legal history, each with the disk of the threads, and lead to the
+-- history's state and the threads' last disk.
 abbrev pub ThreadsAreEvents : (D A : Type 0) → Ghosts D → Type 0
 ThreadsAreEvents D A G = (w : World) (first last : D) (steps : List (ThreadStep D A G)) (state : State)
     → w.mode ≡ Running → IsConsistent w.state.flush → w.disk ≡ Ghosts.state G first → HaveDisks D A G None first steps last → HistoryLeads (AllowsOn (Ghosts.honest G)) w.state (calls_in (shown w.disk steps)) state
-    → Occurs w steps state last
+    → Occurs w (shown w.disk steps) state (Ghosts.state G last)
 
 -- Therefore each possible crash image of the threads' disk, after any of their steps since a power-on, represents the
 -- contents after a prefix of the executed units that includes every unit before an answered `*OPC?`.

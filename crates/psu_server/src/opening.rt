@@ -179,7 +179,7 @@ pub(crate) fn open<R: Wait, D: ServedDisk>(
     };
     match opened(server.alloc, number, link, message) {
         Ok((response, known, served)) => {
-            registry.registry.put(known);
+            registry.registry.set(number, Some(known));
             Ok(Some((response, served)))
         }
         Err(error) => {
@@ -200,6 +200,6 @@ pub(crate) fn close<R: Wait, D: ServedDisk>(
 {
     let others = Reporter { rt, server };
     let mut registry = others.lock_registry();
-    registry.registry.remove(number);
+    registry.registry.set(number, None);
     caller.close_session(rt, number).pass_on(&mut registry);
 }

@@ -2,6 +2,7 @@
 use Rattle.std.proofs.Common.{◌≡◌, ℕ, List, [], ◌∷◌, ◌++◌, map, refl, sym, ap, ◌∙◌, subst}
 use Rattle.std.specs.List.{AllByRecursion}
 use Rattle.std.proofs.lemmas.List.Elements.{All-from_recursion, recursion_from_All}
+use Rattle.std.proofs.lemmas.Simd.{map-map}
 use Rattle.psu_hislip.specs.declared.side.Side.TheVariants.{Sync, Async}
 use Rattle.psu_turn.specs.History.{calls_by}
 use Rattle.psu_turn.specs.Seats.{Joins, Sight}
@@ -17,19 +18,11 @@ use Rattle.psu_session.specs.History.{HistoriesAreExchanges}
 use Rattle.psu_session.specs.State.{orders_in}
 use Rattle.psu_threads.specs.Added.{Adds}
 use Rattle.psu_threads.specs.Called.{IsCalled}
-use Rattle.psu_threads.specs.Made.{history_of}
+use Rattle.psu_threads.specs.Made.{Made, history_of}
 use Rattle.psu_threads.specs.Recorded.{AreEffects, EachResponseIsOfTheHistory, IsAnswered, Recorded, RecordedTurn, Shows, entries_by}
 use Rattle.psu_threads.proofs.Making.{made_history}
 use Rattle.psu_threads.proofs.Recording.{HasEntries, of_all}
 use Rattle.psu_threads.proofs.Transmissions.{all_answered, turns_of}
-
-events_of : (events : List Recorded) → map (λ (r : Recorded). r.made.event) events ≡ history_of (map (λ (r : Recorded). r.made) events)
-events_of [] = refl
-events_of (r ∷ events) = ap (λ (z : List Event). r.made.event ∷ z) (events_of events)
-
-orders_of : (turns : List RecordedTurn) → map (λ (turn : Turn). turn.order) (map (λ (r : RecordedTurn). r.turn) turns) ≡ map (λ (r : RecordedTurn). r.turn.order) turns
-orders_of [] = refl
-orders_of (r ∷ turns) = ap (λ (z : List Order). r.turn.order ∷ z) (orders_of turns)
 
 -- seats that are joined
 joined : (honest : Type 0) (old_one new_one old_other new_other both : Sight device.State Entry) (one other : List Entry) → Adds (AllowsOn honest) old_one one new_one → Adds (AllowsOn honest) old_other other new_other
@@ -55,7 +48,7 @@ each_response honest session seat makes exchanges answers nothing_else = λ star
     let sync : List ℕ = opening.0.0 ++ bytes_received Sync history in
     let async : List ℕ = bytes_received Async history in
     let number : ℕ → ℕ = λ k. start.session in
-    let are : map (λ (r : Recorded). r.made.event) all.events ≡ history = events_of all.events ∙ ap history_of all.are in
+    let are : map (λ (r : Recorded). r.made.event) all.events ≡ history = sym (map-map (λ (m : Made). m.event) (λ (r : Recorded). r.made) all.events) ∙ ap history_of all.are in
     let turns = turns_of number h.turns all.events (ap (λ (z : List Event). executions (exchange_history z)) are ∙ x.turns_done) (recursion_from_All (HasEntries number) all.events all.each) in
     record {
       history = is_history;
@@ -65,7 +58,7 @@ each_response honest session seat makes exchanges answers nothing_else = λ star
       adds = all.adds;
       joined = λ one other both j. joined honest (seat (first one)) (seat (last one)) (seat (first other)) (seat (last other)) both (entries_by one all.events) (entries_by other all.events) (all.adds one) (all.adds other) j;
       turns = turns.recorded_turns;
-      in_order = h.waiting ∙ ap (λ (z : List Turn). map (λ turn. turn.order) z ++ orders_in s.waiting) (sym turns.are) ∙ ap (λ (z : List Order). z ++ orders_in s.waiting) (orders_of turns.recorded_turns);
+      in_order = h.waiting ∙ ap (λ (z : List Turn). map (λ turn. turn.order) z ++ orders_in s.waiting) (sym turns.are) ∙ ap (λ (z : List Order). z ++ orders_in s.waiting) (map-map (λ (turn : Turn). turn.order) (λ (r : RecordedTurn). r.turn) turns.recorded_turns);
       all_effects = turns.all_effects;
       each_effect = All-from_recursion (λ (r : RecordedTurn). AreEffects r.turn.order.origin r.events r.turn.done) turns.recorded_turns turns.each_effect;
       answered = λ greatest most. All-from_recursion (IsAnswered greatest) turns.recorded_turns

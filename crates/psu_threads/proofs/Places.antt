@@ -13,6 +13,3 @@ same_place xs i new found e = sym (get_or_from_slice_get (slice_set xs i new) i 
 pub other_place : {A : Type 0} (xs : List A) (i j : ℕ) (new found : A) → j ≢ i → slice_get (slice_set xs i new) j ≡ Some found → slice_get xs j ≡ Some found
 other_place xs i j new found apart e =
     slice_get-get_or xs j new (within_before xs i j new found e) ∙ ap Some (sym (get_or-set_other xs i j new new apart) ∙ get_or_from_slice_get (slice_set xs i new) j found new e)
-
-pub some_inj : {A : Type 0} (x y : A) → Some x ≡ Some y → x ≡ y
-some_inj x y e = cc

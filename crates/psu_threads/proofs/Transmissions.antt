@@ -28,17 +28,9 @@ recorded thread event entries = record { made = record { thread = thread; event 
 -- ---- no effect
 
 none_at : (thread : ℕ) (event : Event) (entries : List Entry) (events : List Recorded) → (seen events ≡ [] → effects_of events ≡ []) → seen (recorded thread event entries ∷ events) ≡ [] → effects_of (recorded thread event entries ∷ events) ≡ []
-none_at thread (BytesReceived side received_bytes) entries events more e = more e
-none_at thread (LockGranted grant) entries events more e = more e
-none_at thread (ServiceRequested request) entries events more e = more e
-none_at thread (LockReleased reply) entries events more e = more e
-none_at thread (Came side message) entries events more e = more e
-none_at thread (DeviceCalled call) entries events more e = more e
-none_at thread (Put Sync frames) entries events more e = more e
-none_at thread (Put Async frames) entries events more e = more e
 none_at thread (Did origin effect frames) entries events more e = absurd (cc (e))
-none_at thread (Took side bytes) entries events more e = more e
-none_at thread (Wrote side) entries events more e = more e
+none_at thread (Put Sync frames) entries events more e = more e
+none_at thread event entries events more e = more e
 
 none_seen : (events : List Recorded) → seen events ≡ [] → effects_of events ≡ []
 none_seen [] e = refl
@@ -78,22 +70,14 @@ module _ (number : ℕ → ℕ) where
       → ((those : List Done) → seen events ≡ seen_of origin those ++ rest → AllByRecursion (HasEntries number) events → Next origin those rest events)
       → seen (recorded thread event entries ∷ events) ≡ seen_of origin (d ∷ done) ++ rest → HasEntries number (recorded thread event entries) → AllByRecursion (HasEntries number) events
       → Next origin (d ∷ done) rest (recorded thread event entries ∷ events)
-  next_at origin rest thread (BytesReceived side received_bytes) entries events d done more e one each = passed origin (d ∷ done) rest (recorded thread (BytesReceived side received_bytes) entries) events refl (more (d ∷ done) e each)
-  next_at origin rest thread (LockGranted grant) entries events d done more e one each = passed origin (d ∷ done) rest (recorded thread (LockGranted grant) entries) events refl (more (d ∷ done) e each)
-  next_at origin rest thread (ServiceRequested request) entries events d done more e one each = passed origin (d ∷ done) rest (recorded thread (ServiceRequested request) entries) events refl (more (d ∷ done) e each)
-  next_at origin rest thread (LockReleased reply) entries events d done more e one each = passed origin (d ∷ done) rest (recorded thread (LockReleased reply) entries) events refl (more (d ∷ done) e each)
-  next_at origin rest thread (Came side message) entries events d done more e one each = passed origin (d ∷ done) rest (recorded thread (Came side message) entries) events refl (more (d ∷ done) e each)
-  next_at origin rest thread (DeviceCalled call) entries events d done more e one each = passed origin (d ∷ done) rest (recorded thread (DeviceCalled call) entries) events refl (more (d ∷ done) e each)
-  next_at origin rest thread (Put Sync frames) entries events d done more e one each = passed origin (d ∷ done) rest (recorded thread (Put Sync frames) entries) events refl (more (d ∷ done) e each)
-  next_at origin rest thread (Put Async frames) entries events d done more e one each = passed origin (d ∷ done) rest (recorded thread (Put Async frames) entries) events refl (more (d ∷ done) e each)
-  next_at origin rest thread (Took side bytes) entries events d done more e one each = passed origin (d ∷ done) rest (recorded thread (Took side bytes) entries) events refl (more (d ∷ done) e each)
-  next_at origin rest thread (Wrote side) entries events d done more e one each = passed origin (d ∷ done) rest (recorded thread (Wrote side) entries) events refl (more (d ∷ done) e each)
   next_at origin rest thread (Did other effect out) entries events d done more e one each =
       let same_origin : other ≡ origin = cc (e) in
       let same_effect : effect ≡ d.effect = cc (e) in
       let same_frames : out ≡ d.frames = cc (e) in
       let others : seen events ≡ seen_of origin done ++ rest = cc (e) in
       begun origin d done rest thread other effect out entries events same_origin same_effect same_frames one (more done others each)
+  next_at origin rest thread (Put Sync frames) entries events d done more e one each = passed origin (d ∷ done) rest (recorded thread (Put Sync frames) entries) events refl (more (d ∷ done) e each)
+  next_at origin rest thread event entries events d done more e one each = passed origin (d ∷ done) rest (recorded thread event entries) events refl (more (d ∷ done) e each)
 
   next : (origin : Origin) (rest : List ExchangeEvent) (events : List Recorded) (done : List Done) → seen events ≡ seen_of origin done ++ rest → AllByRecursion (HasEntries number) events → Next origin done rest events
   next origin rest [] [] e each = record { first = []; later = []; is = refl; are = refl; left = e; each_first = tt; each_later = each }

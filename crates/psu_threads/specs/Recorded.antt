@@ -75,16 +75,8 @@ IsAnswered greatest r = IsOver r.turn.order.source r.turn.progress → AreSent g
 
 -- the event, if it is an effect of a transmission
 abbrev pub if_effect : Event → Recorded → List Recorded
-if_effect (BytesReceived side received_bytes) r = []
-if_effect (LockGranted grant) r = []
-if_effect (ServiceRequested request) r = []
-if_effect (LockReleased reply) r = []
-if_effect (Came side message) r = []
-if_effect (DeviceCalled call) r = []
-if_effect (Put side frames) r = []
 if_effect (Did origin effect frames) r = r ∷ []
-if_effect (Took side bytes) r = []
-if_effect (Wrote side) r = []
+if_effect _ r = []
 
 abbrev pub effects_of : List Recorded → List Recorded
 effects_of events = flat_map (λ r. if_effect r.made.event r) events
@@ -127,23 +119,17 @@ EachResponseIsOfTheHistory {X} honest does session seat = (start : Start) (first
 
 -- ---- a message with one response, as `*OPC?`
 
--- the reply to a unit, or to the settle of one that had to wait, is this response
-abbrev pub HasReply : List ℕ → Entry → Type 0
-HasReply text (Entry.Executed session request reply) = reply ≡ device.Answer text
-HasReply text (Entry.Settled session reply) = reply ≡ device.Answer text
-HasReply text entry = ⊥
+-- this element, of which this one comes
+pub record HasOne {A B : Type 0} (f : A → List B) (all : List A) (b : B) : Type 0 where
+  pub before : List A
+  pub one : A
+  pub after : List A
+  pub is : all ≡ before ++ one ∷ after
+  pub gives : f one ≡ b ∷ []
 
--- one of the entries of a message has this reply
-pub record IsReplied (message : List Recorded) (text : List ℕ) : Type 0 where
-  pub before : List Recorded
-  pub event : Recorded
-  pub after : List Recorded
-  pub is : message ≡ before ++ event ∷ after
-  pub earlier : List Entry
-  pub entry : Entry
-  pub later : List Entry
-  pub entries : event.entries ≡ earlier ++ entry ∷ later
-  pub reply : HasReply text entry
+-- one of the entries of a message has this response in its reply
+abbrev pub IsReplied : List Recorded → List ℕ → Type 0
+IsReplied message text = (event : HasOne (λ r. flat_map responses_in r.entries) message text) × HasOne responses_in event.one.entries text
 
 -- Where one unit of a message has a response, the client is sent the text of that reply and NL.
 abbrev pub OneResponseIsSent : Type 0

@@ -27,15 +27,12 @@ impl Registry {
         }
     }
 
-    /// Registers a session under its number.
-    pub fn put(&mut self, session: Arc<ServedSession>) {
-        let place = usize::from(session.number.number()) - 1;
-        self.sessions[place] = Some(session);
-    }
-
-    /// Removes the session of a number.
-    pub fn remove(&mut self, number: Session) {
-        self.sessions[number.place()] = None;
+    /// Sets which session has a number; none where its session is closed.
+    pub fn set(&mut self, number: Session, session: Option<Arc<ServedSession>>)
+        requires { IfSome session (λ session. (arc_value session).number ≡ number) }
+    {
+        let place = usize::from(number.number()) - 1;
+        self.sessions[place] = session;
     }
 
     /// Returns the session of a number.

@@ -1,6 +1,6 @@
 use Rattle.std.proofs.Common.{ap, ◌∙◌}
 use Rattle.psu_exec.specs.Shown.{over_of}
-use Rattle.psu_bench.specs.Rounds.{ending_of}
+use Rattle.psu_bench.specs.Callers.{ending_of}
 use Rattle.psu_bench.proofs.bench.Bench.round.Goals as goal
 
 pub returns-clause-calls : goal.returns-clause-calls
