@@ -1,5 +1,5 @@
 -- The calls of the bench, each with its reply: those of the device.
-use Rattle.std.specs.Prelude.{ℕ, Option, Some, None, Result, Ok, Err, ⊤}
+use Rattle.std.specs.Prelude.{Option, Some, None, ⊤}
 use Rattle.psu_disk.specs.Disk.{DiskState}
 use Rattle.psu_exec.specs.Device.{State, target}
 use Rattle.psu_exec.specs.Calls.{Entry, JobEnd, Allows}
@@ -16,8 +16,3 @@ HasDisk s entry = EndHasDisk s (accepted_end entry)
 -- a call that the device allows; an end that is accepted is also true of some disk, if the disks of its kind are honest
 abbrev pub AllowsOn : Type 0 → State → Entry → State → Type 0
 AllowsOn honest s entry t = Allows s entry t × (honest → HasDisk s entry)
-
--- the session that opened, or none
-abbrev pub session_of : {E : Type 0} → Result ℕ E → Option ℕ
-session_of (Ok session) = Some session
-session_of (Err crowded) = None

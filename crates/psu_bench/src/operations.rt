@@ -1,8 +1,8 @@
 //! The operations of the device, each with what it does.
+ghost use Rattle.std.specs.Result.{result_ok};
 ghost use Rattle.psu_exec.specs.Calls.Entry.{Took, GaveBack, Opened, Closed, Cleared, Sent, Delivered, Queried, Fetched, Notified, Locked, Released, Ticked, Informed, Due};
 ghost use Rattle.psu_exec.specs.Shown.{outcome_of, over_of};
 ghost use Rattle.psu_exec.specs.Jobs.{finished_of, taken_of};
-ghost use Rattle.psu_bench.specs.Calls.{session_of};
 ghost use Rattle.psu_bench.specs.Tries.{tried};
 
 use crate::operation::{Operation, Silent};
@@ -74,7 +74,7 @@ pub struct OpenSession;
 impl<D: Disk, A: Allocator + Copy> Operation<D, A> for OpenSession {
     type Reply = Result<Session, Crowded>;
 
-    ghost entry = { λ _ reply. Opened (session_of reply) };
+    ghost entry = { λ _ reply. Opened (result_ok reply) };
 
     fn perform(self, exec: &mut Exec<D, A>) -> Result<Session, Crowded> {
         exec.open_session()

@@ -1,6 +1,7 @@
 -- The responses of a transmission, from the entries of its effects.
 use Rattle.std.proofs.Common.{◌≡◌, ◌⊎◌, ℕ, true, List, [], ◌∷◌, ◌++◌, flat_map, refl, sym, ap, ◌∙◌, subst, inl, inr, append-nil}
 use Rattle.std.specs.List.{AllByRecursion}
+use Rattle.std.proofs.lemmas.List.{map-append}
 use Rattle.psu_hislip.specs.Answer.{IsAnswerCutAnywhere}
 use Rattle.psu_hislip.specs.declared.action.Origin.{Origin}
 use Rattle.psu_messages.specs.Response.{are_some, response}
@@ -12,11 +13,17 @@ use Rattle.psu_session.specs.Answered.{AreMessagesAnswered, IsMessageAnswered}
 use Rattle.psu_session.specs.Answered as session
 use Rattle.psu_session.specs.Events.{Event, Did, call_of}
 use Rattle.psu_session.specs.Exchange.{Done, Order, effects, frames}
-use Rattle.psu_session.proofs.Mapped.{none_mapped}
+use Rattle.psu_session.specs.Step.{happened}
+use Rattle.psu_session.proofs.Mapped.{none_mapped, split}
 use Rattle.psu_threads.specs.Called.{AreAllEntries, MayNotify}
 use Rattle.psu_threads.specs.Recorded.{AreEffects, AreSent, IsSent, Recorded, responses, responses_in}
 use Rattle.psu_threads.specs.Recorded.AreSent.{NoMessage, OneMore}
 use Rattle.psu_threads.proofs.Recording.{HasEntries}
+
+-- what holds of each element of two lists holds of each of both
+pub both_of : {X : Type 0} (P : X → Type 0) (xs ys : List X) → AllByRecursion P (xs ++ ys) → AllByRecursion P xs × AllByRecursion P ys
+both_of P [] ys all = (tt, all)
+both_of P (x ∷ xs) ys (one, all) = let more = both_of P xs ys all in ((one, more.0), more.1)
 
 -- ---- replies
 
@@ -50,35 +57,6 @@ module _ (number : ℕ → ℕ) where
 
   -- ---- messages
 
-  record Parted (origin : Origin) (left right : List Done) (events : List Recorded) : Type 0 where
-    first : List Recorded
-    last : List Recorded
-    is : events ≡ first ++ last
-    of_left : AreEffects origin first left
-    of_right : AreEffects origin last right
-    each_first : AllByRecursion (HasEntries number) first
-    each_last : AllByRecursion (HasEntries number) last
-
-  -- one effect more before them
-  parted_more : (origin : Origin) (r : Recorded) (d : Done) (left right : List Done) (events : List Recorded) → r.made.event ≡ Did origin d.effect d.frames → HasEntries number r → Parted origin left right events → Parted origin (d ∷ left) right (r ∷ events)
-  parted_more origin r d left right events here one p = record {
-    first = r ∷ p.first;
-    last = p.last;
-    is = ap (λ (z : List Recorded). r ∷ z) p.is;
-    of_left = cc (here, p.of_left);
-    of_right = p.of_right;
-    each_first = (one, p.each_first);
-    each_last = p.each_last;
-  }
-
-  parted : (origin : Origin) (left right : List Done) (events : List Recorded) → AreEffects origin events (left ++ right) → AllByRecursion (HasEntries number) events → Parted origin left right events
-  parted origin [] right events e each = record { first = []; last = events; is = refl; of_left = refl; of_right = e; each_first = tt; each_last = each }
-  parted origin (d ∷ left) right [] e each = absurd (cc (e))
-  parted origin (d ∷ left) right (r ∷ events) e (one, each) =
-      let here : r.made.event ≡ Did origin d.effect d.frames = cc (e) in
-      let rest : AreEffects origin events (left ++ right) = cc (e) in
-      parted_more origin r d left right events here one (parted origin left right events rest each)
-
   sent : (greatest id : ℕ) (origin : Origin) (message : List Recorded) (done : List Done) → AreEffects origin message done → AllByRecursion (HasEntries number) message → IsMessageAnswered greatest id done → IsSent greatest id message (frames done)
   sent greatest id origin message done are each is =
       subst (λ (z : List (List ℕ)). ((are_some z ≡ true) × IsAnswerCutAnywhere greatest id (response z) (frames done)) ⊎ ((z ≡ []) × (frames done ≡ []))) (responses_are origin message done are each) is
@@ -87,6 +65,7 @@ module _ (number : ℕ → ℕ) where
       → AllByRecursion (HasEntries number) events → AreSent greatest order units events
   all_sent greatest order events session.AreMessagesAnswered.NoMessage e each = subst (λ (z : List Recorded). AreSent greatest order 0 z) (sym (none_mapped (λ (r : Recorded). r.made.event) events e)) NoMessage
   all_sent greatest order events (session.AreMessagesAnswered.OneMore {done = before} earlier to message is answer) e each =
-      let p = parted order.origin before message events e each in
-      subst (λ (z : List Recorded). AreSent greatest order to z) (sym p.is)
-      (OneMore (all_sent greatest order p.first earlier p.of_left p.each_first) to p.last message p.of_right is (sent greatest order.origin.id order.origin p.last message p.of_right p.each_last answer))
+      let s = split (λ (r : Recorded). r.made.event) events (happened order.origin before) (happened order.origin message) (e ∙ map-append (λ (d : Done). Did order.origin d.effect d.frames) before message) in
+      let each_of = both_of (HasEntries number) s.front s.back (subst (λ (z : List Recorded). AllByRecursion (HasEntries number) z) s.is each) in
+      subst (λ (z : List Recorded). AreSent greatest order to z) (sym s.is)
+      (OneMore (all_sent greatest order s.front earlier s.of_left each_of.0) to s.back message s.of_right is (sent greatest order.origin.id order.origin s.back message s.of_right each_of.1 answer))

@@ -90,17 +90,12 @@ impl<'s, 'v, D: StepDevice> SyncReader<'s, 'v, D> {
         }
     }
 
-    // Executes a part of what the session was sent before a connection ended.
-    fn drain_once<R: Wait>(&mut self, rt: &R, token: &mut Token<Synchronous>) -> Drained {
-        let mut session = self.serving.served.session.lock(rt, token);
-        session.drain(&mut self.serving.device)
-    }
-
     // Executes what the session was sent before a connection ended, as far as nothing of it has to wait. The session counts
     // the units that are tried: it is over once they are as many as may be.
     fn drain<R: Wait>(&mut self, rt: &R, token: &mut Token<Synchronous>) {
         for _ in rt.forever() {
-            match self.drain_once(rt, token) {
+            let mut session = self.serving.served.session.lock(rt, token);
+            match session.drain(&mut self.serving.device) {
                 Drained::More => {}
                 Drained::AllDone => return,
             }
