@@ -1,3 +1,3 @@
-mod Quiet
+pub mod Seats
 pub mod Lives
 pub mod Threads

@@ -1,7 +1,7 @@
 //! Access to the device for a thread.
-ghost use Rattle.std.specs.Prelude.{◌≡◌, IfOk};
+ghost use Rattle.std.specs.Prelude.{◌≡◌, IfOk, is_some, true};
 ghost use Rattle.std.specs.Arc.{arc_value};
-ghost use Rattle.psu_turn.specs.Seats.{IsOf, Splits};
+ghost use Rattle.psu_turn.specs.Seats.{Splits};
 
 use crate::{Bench, Seat, ServedDisk};
 use std::alloc::{AllocError, Global};
@@ -17,11 +17,13 @@ pub struct Access<D: ServedDisk> {
     pub seat: Seat,
     /// The gate.
     pub gate: Arc<D::Gate>,
-    ghost own: { IsOf (arc_value bench) seat },
+    ghost same: { seat.turn ≡ arc_value bench },
+    ghost here: { is_some seat.opening ≡ true },
 }
 
 impl<D: ServedDisk> Access<D> {
     /// Creates an access for another thread, whose seat has seen the same.
+    #[tactic(auto, using(crate::proofs::Seats::is_of))]
     pub fn split(&mut self) -> Result<Access<D>, AllocError>
         ensures same { self.new.seat ≡ self.old.seat }
         ensures split { IfOk result (λ other. Splits self.old.seat other.seat) }

@@ -1,7 +1,7 @@
 //! A thread's calls of the device.
-ghost use Rattle.std.specs.Prelude.{◌≡◌, ◌↔◌, [], Ok, IfOk, IsTrue};
+ghost use Rattle.std.specs.Prelude.{◌≡◌, ◌↔◌, [], Ok, IfOk, IsTrue, is_some, true};
 ghost use Rattle.std.specs.Arc.{arc_value};
-ghost use Rattle.psu_turn.specs.Seats.{SeatCalls, IsOf};
+ghost use Rattle.psu_turn.specs.Seats.{SeatCalls};
 ghost use Rattle.psu_exec.specs.Calls.Entry.{Closed, Sent, Locked, Released, Ticked};
 ghost use Rattle.psu_exec.specs.Quiet.{may_cause};
 ghost use Rattle.psu_exec.specs.Shown.{outcome_of};
@@ -34,6 +34,7 @@ pub struct Caller<'b, D: ServedDisk> {
 }
 
 impl<'b, D: ServedDisk> Model for Caller<'b, D> {
+    ghost use Rattle.std.specs.Arc.{arc_value};
     ghost use Rattle.psu_turn.specs.Seats.{Sight, IsOf};
     ghost use Rattle.psu_exec.specs.Device.{State};
     ghost use Rattle.psu_exec.specs.Calls.{Entry};
@@ -54,8 +55,10 @@ fn may_cause(outcome: &Outcome<Global>) -> bool
 
 impl<'b, D: ServedDisk> Caller<'b, D> {
     /// Creates a caller with this seat of a bench.
+    #[tactic(auto, using(crate::proofs::Seats::is_of))]
     pub fn new(bench: &'b Arc<Bench<D, Global>>, seat: Seat, gate: Arc<D::Gate>) -> Caller<'b, D>
-        requires own { IsOf (arc_value bench.now) seat }
+        requires same { seat.turn ≡ arc_value bench.now }
+        requires here { is_some seat.opening ≡ true }
         ensures { result ≡ seat }
     {
         Caller {

@@ -8,10 +8,10 @@ returns-clause-calls g c = record {
   job = c.in_ok-job.job;
   finished = c.run-finished.result.end;
   ran = c.run-finished.ensures.end;
-  given = over_of c.give_back-given.result;
-  mid = c.take.new.seat;
+  given = over_of c.call-given.result;
+  mid = c.call.new.seat;
   took = c.in_ok-job.ensures.call;
-  gave = c.give_back-given.ensures.call;
+  gave = c.call-given.ensures.call;
   ended = c.of-ending.ensures ∙ ap ending_of c.end.ensures;
   are_over = c.sessions_over.ensures;
 }
