@@ -3,7 +3,7 @@ use Rattle.std.proofs.Common.{◌≡◌, Option, Some, None, List, [], ◌∷◌
 use Rattle.psu_disk.specs.Disk.{DiskState}
 use Rattle.psu_exec.specs.Device.{State}
 use Rattle.psu_exec.specs.Calls.{Entry, JobEnd, Allows}
-use Rattle.psu_exec.specs.World.{World, Running, Event, Call, DiskCall, DiskAfter, DiskOfEnd, Happens, Run, accepted_end, recorded}
+use Rattle.psu_exec.specs.World.{World, Running, DiskCall, DiskAfter, DiskOfEnd, Happens, accepted_end, recorded}
 use Rattle.psu_exec.proofs.BrokenLife.{breaks_and_mends}
 use Rattle.psu_exec.proofs.Events.{prefix_is_left}
 use Rattle.psu_turn.specs.History.{HistoryLeads}

@@ -8,7 +8,7 @@ use Rattle.psu_nv.specs.Contents.{items_of}
 use Rattle.psu_exec.specs.Consistent.{IsConsistent}
 use Rattle.psu_exec.specs.Device.{Reply, State, Flush, is_whole, map_held, target}
 use Rattle.psu_exec.specs.Calls.{Entry, JobData, JobEnd, Taken, Allows, Serves, ends_wait, job_out, sessions_over, settled, unparked, with_stored}
-use Rattle.psu_exec.specs.Calls.Entry.{Executed, Settled, Took, GaveBack, Opened, Closed, Cleared, Sent, Delivered, Queried, Fetched, Notified, Locked, Released, Ticked, Informed, Due}
+use Rattle.psu_exec.specs.Calls.Entry.{Executed, Settled, Took, GaveBack, Opened, Closed, Sent, Queried, Fetched, Notified, Locked, Released}
 use Rattle.psu_exec.specs.Jobs.{finished_disk, finished_of, job_data, job_disk}
 use Rattle.psu_exec.specs.World.{World, Running, DiskAfter, DiskOfEnd, IsStart, Moves, recorded}
 use Rattle.psu_exec.proofs.Carrying.{still_either, true_of}

@@ -8,7 +8,7 @@ use Rattle.psu_exec.specs.Device.{State}
 use Rattle.psu_exec.specs.Calls.{Entry, Allows}
 use Rattle.psu_exec.specs.Headline.{IsPrefix}
 use Rattle.psu_exec.specs.Lives.{cleared, broken_life}
-use Rattle.psu_exec.specs.World.{World, Running, Event, Call, DiskCall, Loss, Stop, Restart, Happens, IsStart, Moves, Run, after, answered}
+use Rattle.psu_exec.specs.World.{World, Running, Event, Call, DiskCall, IsStart, Moves, Run, after, answered}
 use Rattle.psu_turn.specs.History.{HistoryLeads, numbered}
 use Rattle.psu_turn.specs.declared.numbered.Numbered.{Numbered}
 use Rattle.psu_bench.specs.Calls.{AllowsOn, HasDisk}

@@ -11,7 +11,7 @@ use Rattle.psu_exec.specs.Calls.{Entry, Taken, Allows, HasWork, JobData, JobEnd,
 use Rattle.psu_exec.specs.Calls.Entry.{Took, GaveBack}
 use Rattle.psu_exec.specs.Headline.{IsPrefix}
 use Rattle.psu_exec.specs.Jobs.{EndStands, finished_disk, finished_of, job_data, job_disk}
-use Rattle.psu_exec.specs.World.{World, Running, Event, Moves, Run, IsStart, IsTrueOf, accepted_end, after}
+use Rattle.psu_exec.specs.World.{World, Running, Moves, IsStart, IsTrueOf, accepted_end, after}
 use Rattle.psu_exec.specs.declared.job.Job.{Job}
 use Rattle.psu_exec.specs.declared.finished.End.{End as EndOf}
 use Rattle.psu_turn.specs.History.{HistoryLeads, numbered}

@@ -1,6 +1,6 @@
 //! What a call causes for other threads.
 ghost use Rattle.std.specs.Prelude.{◌≡◌};
-ghost use Rattle.psu_bench.specs.Reports.{Reports, flusher_reports, reports_of, service_reports};
+ghost use Rattle.psu_bench.specs.Reports.{Reports, reports_of, service_reports};
 
 use crate::Others;
 use psu_exec::{CannotDrop, Notifications, Sessions};
@@ -38,7 +38,9 @@ impl Caused {
         } = self;
         duty.end();
         report_service(others, &requesting);
-        report_work(others, wakes_flusher);
+        if wakes_flusher {
+            others.wake_flusher();
+        }
     }
 }
 
@@ -49,15 +51,5 @@ pub(crate) fn report_service<O: Others>(others: &mut O, requesting: &Sessions)
 {
     if !requesting.is_empty() {
         others.service_requested(requesting);
-    }
-}
-
-// Wakes the flusher, if it has something to do.
-#[inline(always)]
-fn report_work<O: Others>(others: &mut O, wakes_flusher: bool)
-    ensures { Reports O.tells others.old (flusher_reports wakes_flusher) others.new }
-{
-    if wakes_flusher {
-        others.wake_flusher();
     }
 }
