@@ -14,8 +14,8 @@ use Rattle.psu_threads.proofs.Adding.{adds_both, adds_none, adds_one}
 
 module _ {honest : Type 0} where
   made : (old new : Sight State Entry) (entry : Entry) → (caused : Option Caused) × Causes honest old entry caused new → (entries : List Entry) × MayNotify entry entries × Adds (AllowsOn honest) old entries new
-  made old new entry (None, mid, call, same, quiet) = (entry ∷ [], inl refl, adds_both old mid new (entry ∷ []) [] (adds_one old mid entry call) (adds_none mid new same))
-  made old new entry (Some caused, mid, call, notified) = (
+  made old new entry (None, (mid, call, (same, quiet))) = (entry ∷ [], inl refl, adds_both old mid new (entry ∷ []) [] (adds_one old mid entry call) (adds_none mid new same))
+  made old new entry (Some caused, (mid, call, notified)) = (
     entry ∷ Entry.Notified caused.requesting caused.wakes_flusher ∷ [],
     inr (caused.requesting, caused.wakes_flusher, refl),
     adds_both old mid new (entry ∷ []) (Entry.Notified caused.requesting caused.wakes_flusher ∷ []) (adds_one old mid entry call)
