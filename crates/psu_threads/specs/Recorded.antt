@@ -16,7 +16,7 @@ use Rattle.psu_turn.specs.History.{StartsWith, calls_by}
 use Rattle.psu_turn.specs.Seats.{IsLegalFrom, Joins, Sight}
 use Rattle.psu_bench.specs.Calls.{AllowsOn}
 use Rattle.psu_session.specs.Answered.{TakesAtMost, Weaves, pieces}
-use Rattle.psu_session.specs.Events.{Call, Event, BytesReceived, LockGranted, ServiceRequested, LockReleased, Came, DeviceCalled, Put, Did, Took, Wrote, calls_in, exchange_history, taken}
+use Rattle.psu_session.specs.Events.{Call, Event, Did, calls_in, exchange_history, taken}
 use Rattle.psu_session.specs.Exchange.{Done, Order, Turn, effects, frames, orders}
 use Rattle.psu_session.specs.Exchanged.{replied}
 use Rattle.psu_session.specs.State.{Start, SessionState, orders_in}
