@@ -111,7 +111,8 @@ impl ChangedParts {
 
     /// Whether no part but registers is in the set.
     pub(crate) fn are_registers(&self) -> bool
-        ensures { IsTrue result → (self.now.enables ≡ false) × (self.now.user ≡ false) × (self.now.macros ≡ false) × (self.now.files ≡ false) × (self.now.recall ≡ false) }
+        ensures { IsTrue result → (self.now.enables ≡ false) × (self.now.user ≡ false) × (self.now.macros ≡ false)
+            × (self.now.files ≡ false) × (self.now.recall ≡ false) }
     {
         !self.enables && !self.user && !self.macros && !self.files && !self.recall
     }
