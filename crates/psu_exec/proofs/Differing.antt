@@ -80,10 +80,6 @@ pub all_files : (f : Item → List Edit) (files : List Item) (r edits : List Edi
     → edits ≡ r ++ flat_map f (map file_item files)
 all_files f files r edits n list same all seen = seen ∙ ap (λ (l : List Item). r ++ flat_map f (map file_item l)) (take_all n files (subst (λ (l : List Item). length l ≤ n) same all))
 
--- the removals of all items that are gone
-pub all_removals : (target before : List Item) (made : List Edit) (n : ℕ) (list : List Item) → list ≡ before → length list ≤ n → made ≡ flat_map (removal target) (take n before) → made ≡ flat_map (removal target) before
-all_removals target before made n list same all seen = seen ∙ ap (flat_map (removal target)) (take_all n before (subst (λ (l : List Item). length l ≤ n) same all))
-
 -- the edits of all parts, one after another
 pub all_edits : (before : List Item) (c : Contents) (e0 e1 e2 e3 e4 e5 e6 : List Edit) → e0 ≡ flat_map (removal (items_of c)) before
     → e1 ≡ e0 ++ flat_map (assignment before) (enables_items c.enables) → e2 ≡ e1 ++ flat_map (assignment before) (registers_items 0 c.registers) → e3 ≡ e2 ++ flat_map (assignment before) (user_items c.user)

@@ -1,7 +1,8 @@
 -- A part that has not changed needs no edit, and a change leaves each part but its own.
-use Rattle.std.proofs.Common.{◌≡◌, ◌≢◌, ◌⊎◌, ◌&&◌, ◌||◌, is_some, ℕ, zero, suc, ◌<◌, Bool, true, false, cond, Option, Some, None, List, [], ◌∷◌, ◌++◌, length, map, refl, sym, ap, ◌∙◌, subst, inl, inr, append-nil, slice_index_or, slice_set, replicate}
-use Rattle.std.proofs.lemmas.List.{get_or-set_other}
-use Rattle.std.specs.List.{flat_map, AllByRecursion}
+use Rattle.std.proofs.Common.{◌≡◌, ◌≢◌, ◌⊎◌, ◌&&◌, ◌||◌, is_some, ℕ, zero, suc, ◌+◌, ◌-◌, ◌<◌, ◌≤◌, arith, Bool, true, false, cond, Option, Some, None, List, [], ◌∷◌, ◌++◌, length, map, take, drop, get_or, refl, sym, ap, ◌∙◌, subst, inl, inr, append-nil, slice_index_or, slice_set, replicate}
+use Rattle.std.proofs.lemmas.List.{get_or-drop, get_or-set_other, get_or-take, length-drop, length-take}
+use Rattle.std.proofs.lemmas.List.Folds.{list_any_at}
+use Rattle.std.specs.List.{flat_map, list_any, AllByRecursion}
 use Rattle.psu_map.specs.Map.{Item, item_of, get, IsSorted}
 use Rattle.psu_map.specs.Batch.{Edit}
 use Rattle.psu_map.proofs.Keys.{same_true}
@@ -14,8 +15,10 @@ use Rattle.psu_nv.specs.Commands.{Command, ServiceEnable, EventEnable, PowerOnCl
 use Rattle.psu_nv.specs.Contents.{Contents, Macro, enables_items, file_item, items_of, macros_items, macro_bytes, recall_items, register_items, user_items}
 use Rattle.psu_nv.specs.Parts as kept
 use Rattle.psu_nv.specs.Parts.{Part, file_items, key_of, part_items, value_in}
-use Rattle.psu_nv.proofs.Gets.{part_found, value_file}
-use Rattle.psu_exec.specs.Batch.{assignment, is_value}
+use Rattle.psu_nv.specs.Decoding.{has_keys, is_key}
+use Rattle.psu_nv.proofs.Gets.{part_found, value_file, value_register}
+use Rattle.psu_nv.proofs.Kept.{IsPart, PartAt, part_at}
+use Rattle.psu_exec.specs.Batch.{assignment, is_value, removal}
 use Rattle.psu_exec.specs.Changed.{IsUnchanged, KeepsOthers, is_changed, with_change, with_register}
 use Rattle.psu_exec.specs.Consistent.{IsConsistent}
 use Rattle.psu_exec.specs.Device.{Flush, Target, is_broken, map_held, target}
@@ -96,6 +99,68 @@ stays_there p before new n i keeps sorted within at part =
     let kept : get before i.key ≡ get new i.key = subst (λ (k : List ℕ). get before k ≡ get new k) (sym part.1) (keeps part.0 part.2) in
     ap is_some (sym kept ∙ own)
 
+and_false : (a b : Bool) → b ≡ false → a && b ≡ false
+and_false true b e = e
+and_false false b e = refl
+
+both : (a b : Bool) → a && b ≡ true → (a ≡ true) × (b ≡ true)
+both true b e = (refl, e)
+both false b e = absurd cc
+
+-- where no part but registers may have changed, and each of these has an item, no item of a map of parts is gone
+pub none_gone : (p : ChangedParts) (before : List Item) (c : Contents) → has_keys before ≡ true → IsSorted before → KeepsOthers p before (items_of c)
+    → (p.enables ≡ false) × (p.user ≡ false) × (p.macros ≡ false) × (p.files ≡ false) × (p.recall ≡ false)
+    → ((n : ℕ) → n < 100 → is_changed p (kept.Register n) ≡ true → is_reset (settings_at c.registers n) ≡ false) → flat_map (removal (items_of c)) before ≡ []
+none_gone p before c keys sorted keeps others has = each before keys (all_own before sorted)
+  where
+    never : (b : Bool) (part : Part) → b ≡ true → b ≡ false → is_some (get (items_of c) (key_of part)) ≡ true
+    never b part e f = absurd (let bad : true ≡ false = sym e ∙ f in cc)
+
+    changed : (part : Part) → IsPart part → is_changed p part ≡ true → is_some (get (items_of c) (key_of part)) ≡ true
+    changed kept.Enables is e = never p.enables kept.Enables e others.0
+    changed (kept.Register n) is e =
+        let s = settings_at c.registers n in
+        ap is_some (part_found c (kept.Register n) ∙ value_register n s ∙ ap (λ (b : Bool). cond b None (Some (bytes_of s))) (has n is e))
+    changed kept.User is e = never p.user kept.User e others.1
+    changed kept.Macros is e = never p.macros kept.Macros e others.2
+    changed (kept.File name) is e = never p.files (kept.File name) e others.3
+    changed kept.Recall is e = never p.recall kept.Recall e others.4
+
+    stays : (part : Part) (value : List ℕ) (b : Bool) → IsPart part → is_changed p part ≡ b → get before (key_of part) ≡ Some value → is_some (get (items_of c) (key_of part)) ≡ true
+    stays part value true is e own = changed part is e
+    stays part value false is e own = ap is_some (sym (keeps part e) ∙ own)
+
+    one : (i : Item) → PartAt i.key → get before i.key ≡ Some i.value → is_some (get (items_of c) i.key) ≡ true
+    one i at own =
+        subst (λ (k : List ℕ). is_some (get (items_of c) k) ≡ true) (sym at.key_is)
+        (stays at.part i.value (is_changed p at.part) at.is refl (subst (λ (k : List ℕ). get before k ≡ Some i.value) at.key_is own))
+
+    each : (items : List Item) → has_keys items ≡ true → AllByRecursion (λ (i : Item). get before i.key ≡ Some i.value) items → flat_map (removal (items_of c)) items ≡ []
+    each [] keys own = refl
+    each (i ∷ items) keys own =
+        let k = both (is_key i.key) (has_keys items) keys in
+        let gone : List Edit = record { key = i.key; value = None } ∷ [] in
+        ap (λ (b : Bool). cond b [] gone ++ flat_map (removal (items_of c)) items) (one i (part_at i.key k.0) own.0) ∙ each items k.1 own.1
+
+-- where no mark is set from this one on, none of them is
+pub none_set : (p : Bool → Bool) (some : Bool) (marks : List Bool) (from number : ℕ) → p true ≡ true → length marks ≡ 100 → from ≤ number → number < 100 → list_any p (take (100 - from) (drop from marks)) ≡ false
+    → some && slice_index_or marks number true ≡ false
+none_set p some marks from number holds long low high none = and_false some (slice_index_or marks number true) (at (slice_index_or marks number true) refl)
+  where
+    rest : List Bool
+    rest = take (100 - from) (drop from marks)
+
+    here : get_or rest (number - from) true ≡ get_or marks number true
+    here = get_or-take (100 - from) (drop from marks) (number - from) true (omega (arith, low, high)) ∙ get_or-drop from marks (number - from) true
+        ∙ ap (λ (n : ℕ). get_or marks n true) (let same : from + (number - from) ≡ number = omega (arith, low) in same)
+
+    within : number - from < length rest
+    within = let t = length-take (100 - from) (drop from marks) in let d = length-drop from marks in omega (arith, long, low, high)
+
+    at : (b : Bool) → slice_index_or marks number true ≡ b → slice_index_or marks number true ≡ false
+    at false e = e
+    at true e = absurd (let bad : true ≡ false = sym (list_any_at p rest (number - from) true within (ap p (here ∙ e) ∙ holds)) ∙ none in cc)
+
 -- ---- the parts that a change leaves
 
 -- a part that isn't in the larger set was not in the smaller one, and is kept as it was
@@ -153,10 +218,6 @@ module _ (p : ChangedParts) (c : Contents) where
   unset (m ∷ marks) zero (suc n) e = ((λ z. cc), e)
   unset (m ∷ marks) (suc r) zero e = ((λ z. cc), e)
   unset (m ∷ marks) (suc r) (suc n) e = let u = unset marks r n e in ((λ z. u.0 (let same : n ≡ r = cc in same)), u.1)
-
-  and_false : (a b : Bool) → b ≡ false → a && b ≡ false
-  and_false true b e = e
-  and_false false b e = refl
 
   register_alone : (r : ℕ) (settings : List OutputSettings) → LeavesOthers p (with_register p r) c (record c { registers = slice_set c.registers r settings })
   register_alone r settings kept.Enables same = (same, refl)

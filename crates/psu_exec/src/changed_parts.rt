@@ -16,7 +16,7 @@ pub struct ChangedParts {
 }
 
 impl ChangedParts {
-    ghost use Rattle.std.specs.Prelude.{◌≡◌, ◌<◌, ◌≤◌, ℕ, true, false};
+    ghost use Rattle.std.specs.Prelude.{◌≡◌, ◌<◌, ◌≤◌, ℕ, true, false, IsTrue};
     ghost use Rattle.psu_nv.specs.Parts.{Part as Kept, Register as KeptRegister};
     ghost use Rattle.psu_nv.specs.Views.{command_of, part_of};
     ghost use Rattle.psu_exec.specs.Changed.{IsUnchanged, is_changed, with_change, with_register};
@@ -94,7 +94,11 @@ impl ChangedParts {
         ensures first { from ≤ 100 → from ≤ result }
         ensures none { (number : ℕ) → from ≤ number → number < result → is_changed self.now (KeptRegister number) ≡ false }
     {
-        if !self.some_register {
+        if !self.some_register || from >= REGISTERS {
+            return REGISTERS;
+        }
+        // All at once: mostly there is none.
+        if !self.registers[from..].contains(&true) {
             return REGISTERS;
         }
         for number in from..REGISTERS {
@@ -103,6 +107,14 @@ impl ChangedParts {
             }
         }
         REGISTERS
+    }
+
+    /// Whether no part but registers is in the set.
+    pub(crate) fn are_registers(&self) -> bool
+        ensures { IsTrue result → (self.now.enables ≡ false) × (self.now.user ≡ false) × (self.now.macros ≡ false)
+            × (self.now.files ≡ false) × (self.now.recall ≡ false) }
+    {
+        !self.enables && !self.user && !self.macros && !self.files && !self.recall
     }
 
     /// Whether the files are in the set.

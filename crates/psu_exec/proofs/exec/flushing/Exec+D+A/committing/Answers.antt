@@ -2,10 +2,13 @@ use Rattle.std.proofs.Common.{◌≡◌, ◌∙◌, ap, sym, ℕ, Some, List}
 use Rattle.psu_map.specs.Batch.{changed}
 use Rattle.psu_map.specs.Map.{Item}
 use Rattle.psu_nv.specs.Contents.{fits}
+use Rattle.psu_nv.specs.Decoding.{has_keys}
+use Rattle.psu_nv.proofs.Kept.{contents_keys}
 use Rattle.psu_exec.specs.Calls.{Commit, JobData, job_of, job_out}
 use Rattle.psu_exec.specs.Device.{State, is_whole}
 use Rattle.psu_exec.specs.declared.idle_store.IdleStore.TheVariants.{Whole}
 use Rattle.psu_exec.proofs.Acting.{kept_sound}
+use Rattle.psu_exec.proofs.Changes.{sound_first}
 use Rattle.psu_exec.proofs.Seen.{device_is, seen, so_seen}
 use Rattle.psu_exec.proofs.Taking.{commit_is}
 use Rattle.psu_exec.proofs.Touching.{when_idle, keeps_from}
@@ -15,7 +18,9 @@ pub difference-requires : goal.difference-requires
 difference-requires g c =
     let idle_store = ap (λ (s : State). s.flush.out) (device_is c.self.view_is) ∙ c.requires.idle_store in
     let whole = ap (λ (s : State). s.flush.store) (device_is c.self.view_is) ∙ c.requires.whole in
-    record { contents = kept_sound _ c.self.invariant.1; others = keeps_from _ _ _ _ (when_idle _ c.self.invariant.1 idle_store whole) c.self.invariant.2 }
+    let k = c.self.invariant.1 in
+    let keys = ap has_keys k.first_map ∙ contents_keys k.first (sound_first _ k.first k.rest k.sound).sound in
+    record { contents = kept_sound _ k; keys = keys; others = keeps_from _ _ _ _ (when_idle _ k idle_store whole) c.self.invariant.2 }
 
 pub invariant_of-self : goal.invariant_of-self
 invariant_of-self g c = rw c.in_err-set.ensures.err c.self.invariant
