@@ -1,8 +1,8 @@
 -- The sessions with a service request to report, after one more place.
-use Rattle.std.proofs.Common.{◌≡◌, ◌≤◌, ◌<◌, ℕ, suc, ◌+◌, Bool, true, false, List, [], ◌∷◌, ◌++◌, length, take, get_or, refl, sym, ap, ap₂, ◌∙◌, arith, append_assoc}
+use Rattle.std.proofs.Common.{◌≡◌, ◌≤◌, ◌<◌, ℕ, suc, ◌+◌, Bool, true, false, List, [], ◌∷◌, ◌++◌, length, map, take, get_or, refl, sym, ap, ap₂, ◌∙◌, arith, append_assoc}
 use Rattle.std.specs.Prelude.{◌&&◌}
 use Rattle.std.proofs.lemmas.List.{take_more, length-take-le}
-use Rattle.psu_exec.specs.ServiceStates.{named, unreported_from}
+use Rattle.psu_exec.specs.ServiceStates.{named, initial_service_state, reported, unreported_from}
 use Rattle.psu_exec.specs.declared.service_state.ServiceState.{ServiceState}
 
 -- a list with nothing after it
@@ -27,3 +27,25 @@ unreported_more os ms i d e h g =
 pub length-named : (n : ℕ) (b : Bool) → length (named n b) ≤ 1
 length-named n true = omega arith
 length-named n false = omega arith
+
+-- ---- where no session has one
+
+-- no session has a service request to report
+abbrev pub NoneUnreported : List ServiceState → Type 0
+NoneUnreported ms = (i : ℕ) → i < length ms → (get_or ms i initial_service_state).unreported ≡ false
+
+none_behind : (m : ServiceState) (ms : List ServiceState) → NoneUnreported (m ∷ ms) → NoneUnreported ms
+none_behind m ms none i lt = none (suc i) (omega arith)
+
+unnamed : (n : ℕ) (b c : Bool) → c ≡ false → named n (b && c) ≡ []
+unnamed n true c e = ap (named n) e
+unnamed n false c e = refl
+
+pub none_unreported : (n : ℕ) (os : List Bool) (ms : List ServiceState) → NoneUnreported ms → unreported_from n os ms ≡ []
+none_unreported n [] ms none = refl
+none_unreported n (o ∷ os) [] none = refl
+none_unreported n (o ∷ os) (m ∷ ms) none = ap₂ (λ a b. a ++ b) (unnamed n o m.unreported (none 0 (omega arith))) (none_unreported (suc n) os ms (none_behind m ms none))
+
+pub none_reported : (ms : List ServiceState) → NoneUnreported ms → map reported ms ≡ ms
+none_reported [] none = refl
+none_reported (m ∷ ms) none = ap₂ (λ a b. a ∷ b) (ap (λ (b : Bool). record m { unreported = b }) (sym (none 0 (omega arith)))) (none_reported ms (none_behind m ms none))

@@ -1,5 +1,5 @@
 //! The service states of all sessions.
-ghost use Rattle.std.specs.Prelude.{◌≡◌, ◌+◌, ◌<◌, ◌≤◌, ◌&&◌, ◌++◌, length, map};
+ghost use Rattle.std.specs.Prelude.{◌≡◌, ◌+◌, ◌<◌, ◌≤◌, ◌&&◌, ◌++◌, ℕ, false, get_or, length, map};
 ghost use Rattle.psu_exec.specs.ServiceStates.{rqs_updated, rqs_updated_by, named, initial_service_state, reported, unreported_from};
 
 use crate::{Enabled, SESSIONS, ServiceState, Session, Sessions};
@@ -70,8 +70,20 @@ fn follow_each(service_states: &mut [ServiceState; SESSIONS], old: Enabled, new:
     }
 }
 
-/// Marks the service requests of all sessions as reported.
-pub(crate) fn report_all(service_states: &mut [ServiceState; SESSIONS])
+// Whether a session has a service request to report. All are looked at, without a branch: mostly there is none.
+#[inline(always)]
+fn some_unreported(service_states: &[ServiceState; SESSIONS]) -> bool
+    ensures { result ≡ false → (i : ℕ) → i < 16 → (get_or service_states.now i initial_service_state).unreported ≡ false }
+{
+    let mut some = false;
+    for i in 0..SESSIONS {
+        some = some || service_states[i].unreported;
+    }
+    some
+}
+
+// Marks the service requests of all sessions as reported.
+fn report_all(service_states: &mut [ServiceState; SESSIONS])
     ensures { service_states.new ≡ map reported service_states.old }
 {
     for i in 0..SESSIONS {
@@ -104,11 +116,8 @@ fn push_unreported(
     }
 }
 
-/// The open sessions that have a service request to report.
-pub(crate) fn unreported(
-    open_now: &[bool; SESSIONS],
-    service_states: &[ServiceState; SESSIONS],
-) -> Sessions
+// The open sessions that have a service request to report.
+fn unreported(open_now: &[bool; SESSIONS], service_states: &[ServiceState; SESSIONS]) -> Sessions
     ensures { result ≡ unreported_from 1 open_now.now service_states.now }
 {
     let mut sessions = Sessions::new();
@@ -116,4 +125,20 @@ pub(crate) fn unreported(
         push_unreported(&mut sessions, i, open_now[i], service_states[i]);
     }
     sessions
+}
+
+/// Returns the open sessions that have a service request to report, and marks the requests of all as reported.
+pub(crate) fn take_unreported(
+    open_now: &[bool; SESSIONS],
+    service_states: &mut [ServiceState; SESSIONS],
+) -> Sessions
+    ensures requesting { result ≡ unreported_from 1 open_now.now service_states.old }
+    ensures reported { service_states.new ≡ map reported service_states.old }
+{
+    if !some_unreported(service_states) {
+        return Sessions::new();
+    }
+    let requesting = unreported(open_now, service_states);
+    report_all(service_states);
+    requesting
 }

@@ -6,7 +6,7 @@ ghost use Rattle.psu_exec.specs.Calls.Entry.{Opened, Closed, Cleared, Sent, Deli
 ghost use Rattle.psu_exec.specs.ServiceStates.{rqs_updated, opened_service_state, with_available};
 ghost use Rattle.psu_status.specs.Status.{enabled};
 
-use crate::service_states::{initial_service_state, report_all, rqs_updated, unreported};
+use crate::service_states::{initial_service_state, rqs_updated, take_unreported};
 use crate::waits::least_free;
 use crate::{Condition, Crowded, ExecOf, Idle, Notifications, ServiceState, Session, Sessions};
 use std::alloc::Allocator;
@@ -198,8 +198,7 @@ impl<S: Idle, A: Allocator + Copy> ExecOf<S, A> {
         ensures step { Allows self.old.device (Notified result.requesting result.has_work) self.new.device }
         ensures idle_store { self.new.idle_store ≡ self.old.idle_store }
     {
-        let requesting = unreported(&self.open_now, &self.service_states);
-        report_all(&mut self.service_states);
+        let requesting = take_unreported(&self.open_now, &mut self.service_states);
         Notifications {
             requesting,
             has_work: self.has_work(),
