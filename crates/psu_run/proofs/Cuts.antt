@@ -1,13 +1,9 @@
 -- Lemmas on the parts of a text.
 use Rattle.std.proofs.Common.{◌≡◌, ℕ, ◌+◌, ◌-◌, ◌==◌, ◌<◌, ◌≤◌, true, false, List, [], ◌∷◌, ◌++◌, length, take, drop, map, refl, sym, ap, ◌∙◌, arith, slice_index, append_assoc, inl, inr, Some, None, zero, suc, add-one, drop-cons, ◌⊎◌, codes, bytes_eq, if◌then◌else◌}
 use Rattle.std.proofs.lemmas.Bool.{cases_Bool}
-use Rattle.std.proofs.lemmas.List.{get_or-take, take-append-drop}
-use Rattle.std.proofs.lemmas.Grind.{common_steps}
-use Rattle.std.proofs.lemmas.Bool.Decides.{nat_tests}
 use Rattle.memchr.specs.Find.{IsFirstByte, is_byte}
 use Rattle.std.proofs.lemmas.Slice.Eq.{bytes_eq-Decides}
-use Rattle.psu_lex.specs.declared.scpi_error.ScpiError.TheVariants.{TooMuchData}
-use Rattle.psu_run.proofs.Common.{Fault, Message, first_onto, has, message_of, messages, parts_of}
+use Rattle.psu_run.proofs.Common.{Fault, Message, TooMuchData, common_steps, first_onto, get_or-take, has, message_of, messages, nat_tests, parts_of, take-append-drop}
 
 -- the first part, without its end, and what comes after it
 abbrev first_part : ℕ → List ℕ → List ℕ
@@ -73,15 +69,9 @@ found_parts e s at h =
 
 -- ---- lines
 
-not_power : (l : List ℕ) → 65536 < length l → bytes_eq l (codes "!POWER") ≡ false
-not_power l long = elim (cases_Bool (bytes_eq l (codes "!POWER"))) [
-  | inl same ↦ absurd (omega (arith, long, ap length ((bytes_eq-Decides l (codes "!POWER")).0 same)))
-  | inr other ↦ other
-]
-
 long_message : (l : List ℕ) → 65536 < length l → message_of l ≡ Message.Line (Fault TooMuchData)
 long_message l long =
-    let plain = not_power l long in grind (arith, nat_tests, long, plain)
+    let six : bytes_eq l (codes "!POWER") ≡ true → length l ≡ 6 = λ same. ap length ((bytes_eq-Decides l (codes "!POWER")).0 same) in grind (arith, nat_tests, long, six)
 
 over : (p input : List ℕ) → has 10 p ≡ false → 65536 < length p → messages (p ++ input) ≡ Message.Line (Fault TooMuchData) ∷ messages (after_part 10 input)
 over [] input h long = absurd (omega (arith, long))

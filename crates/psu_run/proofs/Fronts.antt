@@ -1,13 +1,8 @@
 -- Prefixes of a text that is written.
-use Rattle.std.proofs.Common.{◌≡◌, ℕ, ◌+◌, ◌≤◌, List, [], ◌++◌, length, take, drop, sym, ap, ◌∙◌, subst, arith, Option, ◌-◌, Result, OnErr, IfErr, IsErrAnd, length-append, ◌≢◌, ◌<◌, refl, append_assoc, append-nil}
-use Rattle.std.proofs.lemmas.Grind.{common_steps}
-use Rattle.std.proofs.Math.Seq.{take-add, take-append-add}
-use Rattle.std.proofs.KnownBytes.{Appends-trans, Appends-nil}
-use Rattle.std.specs.Io.KnownBytes.{Appends}
+use Rattle.std.proofs.Common.{◌≡◌, ℕ, ◌+◌, ◌≤◌, List, [], ◌++◌, length, take, drop, sym, ap, ◌∙◌, subst, arith, Option, ◌-◌, Result, OnErr, length-append, ◌≢◌, ◌<◌, refl, append_assoc, append-nil}
 use Rattle.std.specs.Io.{StartsWith}
 use Rattle.psu_run.proofs.Cuts.{whole_tail}
-use Rattle.std.proofs.lemmas.List.{take-append-le}
-use Rattle.psu_run.proofs.Common.{OutputState, RunCause, Says, SaysUntil, Text, Write, WritesShort, held, nothing}
+use Rattle.psu_run.proofs.Common.{Appends, Appends-nil, Appends-trans, OutputState, RunCause, Says, SaysUntil, Text, Write, WritesShort, common_steps, held, nothing, take-add, take-append-add, take-append-le}
 
 pub starts_after : (t s rest : List ℕ) → StartsWith rest s → StartsWith (t ++ rest) (t ++ s)
 starts_after t s rest h = ap (λ (n : ℕ). take n (t ++ rest)) (length-append t s) ∙ take-append-add t rest (length s) ∙ ap (λ (z : List ℕ). t ++ z) h
@@ -22,10 +17,6 @@ put_step all at n u v w low bound p q =
 
 pub on_err : {A E : Type 0} (r : Result A E) (P : Type 0) → P → OnErr r P
 on_err x0 x1 p = grind arith
-
--- a fault that is propagated
-pub passed : {A E : Type 0} (r : Result A E) (e : E) (P : E → Type 0) → IsErrAnd r (λ reported. reported ≡ e) → P e → IfErr r P
-passed x0 e x2 is p = grind arith
 
 -- ---- the output, one part after another
 

@@ -1,8 +1,6 @@
 -- From a device at rest to a later moment, step by step.
 use Rattle.std.proofs.Common.{◌≡◌, ℕ, ◌≤◌, List, [], ◌∷◌, ◌++◌, refl, sym, ap, ◌∙◌, subst, inl, inr, arith, ⊎_elim, Option}
-use Rattle.psu_run.proofs.Common.{Called, CallsOnWorld, DeviceStops, DiskAfter, DiskState, Entry, Exec, Ghosts, HasFailed, IdleStore, IsAlong, IsOf, Leads, Life, Ran, RunCause, RunStep, Serves, Since, SomeBreak, State, Walks, World, disk_at, disk_in, extent_in, failures_in, failures_of, is_broken, world_of}
-use Rattle.psu_exec.specs.World.{recorded}
-use Rattle.psu_run.specs.Runs.{Breaks, IsSound}
+use Rattle.psu_run.proofs.Common.{Breaks, Called, CallsOnWorld, DeviceStops, DiskAfter, DiskState, Entry, Exec, Ghosts, HasFailed, IdleStore, IsAlong, IsOf, IsSound, Leads, Life, Ran, RunCause, RunStep, Serves, Since, SomeBreak, State, Walks, World, disk_at, disk_in, extent_in, failures_in, failures_of, is_broken, recorded, world_of}
 use Rattle.psu_run.proofs.Moments.{since_idle, since_then}
 use Rattle.psu_run.proofs.OneList.{reached_walk}
 use Rattle.psu_run.proofs.Prefixes.{prefix_of_reached}

@@ -1,8 +1,6 @@
 -- The possible crash images at each moment, one part of a run after another.
 use Rattle.std.proofs.Common.{◌≡◌, ℕ, Option, Some, None, List, arith}
-use Rattle.psu_run.proofs.Common.{Ghosts, IdleStore, IsCrashImage, IsNow, LeavesOnly, Since, disk_at, disk_in, idle_disk, weaken}
-use Rattle.psu_disk.specs.Moments.{and_then, started}
-use Rattle.std.specs.Option.{ForSome}
+use Rattle.psu_run.proofs.Common.{ForSome, Ghosts, IdleStore, IsCrashImage, IsNow, LeavesOnly, Since, and_then, disk_at, disk_in, idle_disk, started, weaken}
 
 -- ---- disks
 

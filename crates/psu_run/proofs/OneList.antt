@@ -1,13 +1,9 @@
 -- The steps of a run, with its power losses, and runs one after another on the same disk, as one list of events of the
 -- theorem on power loss.
 use Rattle.std.proofs.Common.{◌≡◌, ℕ, ◌+◌, false, Some, List, [], ◌∷◌, ◌++◌, length, refl, sym, ◌∙◌, subst, inl, inr, arith, ⊎_elim}
-use Rattle.std.proofs.lemmas.List.{get_or_past}
-use Rattle.psu_run.proofs.Common.{Called, CallsOnWorld, DiskState, EachRepresents, Entry, IsLeftBy, Item, Opened, PowersOn, Reached, Represents, Restarted, RunStep, Running, Walks, World, items_of, power_on, reads_left, without_power}
-use Rattle.psu_disk.specs.Ranges.{left_size}
-use Rattle.psu_items.proofs.Standing.{represents_one}
+use Rattle.psu_run.proofs.Common.{Called, CallsOnWorld, DiskState, EachRepresents, Entry, EventsLead, IsLeftBy, Item, Opened, PowersOn, Reached, Represents, Restarted, RunStep, Running, StepsTo, Walks, World, get_or_past, items_of, left_size, power_on, reads_left, represents_one, without_power}
 use Rattle.psu_exec.specs.World.{Stopped, Restarting, Event, Call, DiskCall, Loss, Stop, Restart, Moves, Writes, Syncs, KeepsMaps, Happens, IsStart, Run}
 use Rattle.psu_exec.proofs.Invariant.{only_left}
-use Rattle.psu_run.specs.Runs.{EventsLead, StepsTo}
 
 -- ---- lists of events
 

@@ -1,10 +1,7 @@
 -- What the images of a world that was reached represent: a prefix of what was executed.
-use Rattle.std.proofs.Common.{◌≡◌, ℕ, zero, suc, List, [], ◌∷◌, ◌++◌, refl, sym, ap, ◌∙◌, subst, append-nil, arith, inl, inr, length, take, ⊎_elim}
-use Rattle.psu_run.proofs.Common.{DiskState, EachRepresents, IsCrashImage, IsEither, IsLeftBy, Item, Reached, Represents, Running, StandsForPrefix, World, count_held, items_of, reads_left, target, without_power}
-use Rattle.psu_items.specs.Image.{EachIsEither}
-use Rattle.psu_items.proofs.Standing.{represents_one}
+use Rattle.std.proofs.Common.{◌≡◌, ℕ, List, [], ◌++◌, sym, ap, ◌∙◌, subst, append-nil, inl, inr, take, ⊎_elim}
+use Rattle.psu_run.proofs.Common.{DiskState, EachIsEither, EachRepresents, IsCrashImage, IsEither, IsLeftBy, Item, Reached, Represents, Running, StandsForPrefix, World, after, count_held, items_of, nil_from_length, reads_left, represents_one, take-nil, target, without_power}
 use Rattle.psu_nv.specs.Commands.{Command as Change, applied}
-use Rattle.psu_exec.specs.World.{after}
 use Rattle.psu_exec.proofs.Events.{other_disk, prefix_is_left, run_keeps, while_running}
 use Rattle.psu_exec.proofs.Invariant.{kept_at_start, left_in_life, only_left}
 
@@ -39,17 +36,9 @@ leaves_prefix w disk r (inr (limit, map, was, is, size)) = same_prefix w disk li
 
 pub flushed_stands : (w : World) → Reached w → w.mode ≡ Running → w.state.flush.unflushed ≡ 0 → EachRepresents w.disk w.limit (items_of w.state.flush.contents)
 flushed_stands w r running none image left =
-    let l = while_running w running (run_keeps r.first w r.events r.run (kept_at_start r.first r.start)) in let empty : l.rest ≡ [] = no_rest l.rest (sym l.count ∙ none) in
+    let l = while_running w running (run_keeps r.first w r.events r.run (kept_at_start r.first r.start)) in let empty : l.rest ≡ [] = nil_from_length l.rest (sym l.count ∙ none) in
     let contents : w.state.flush.contents ≡ applied w.start l.gone = l.contents ∙ ap (λ (cs : List Change). applied w.start (l.gone ++ cs)) empty ∙ ap (applied w.start) (append-nil l.gone) in
-    let taken : take (count_held w.state.flush.held) l.rest ≡ [] = ap (λ (cs : List Change). take (count_held w.state.flush.held) cs) empty ∙ take_none (count_held w.state.flush.held) in
+    let taken : take (count_held w.state.flush.held) l.rest ≡ [] = ap (λ (cs : List Change). take (count_held w.state.flush.held) cs) empty ∙ take-nil (count_held w.state.flush.held) in
     let aim : target w.state.flush ≡ items_of w.state.flush.contents
     = l.aim ∙ ap (λ (cs : List Change). items_of (applied w.start (l.gone ++ cs))) taken ∙ ap (λ (cs : List Change). items_of (applied w.start cs)) (append-nil l.gone) ∙ ap items_of (sym contents) in
     ⊎_elim (λ s. subst (λ (m : List Item). Represents image w.limit m) (l.first_map ∙ ap items_of (sym contents)) s) (λ s. subst (λ (m : List Item). Represents image w.limit m) aim s) (l.disk image left)
-  where
-    no_rest : (rest : List Change) → length rest ≡ 0 → rest ≡ []
-    no_rest [] e = refl
-    no_rest (c ∷ cs) e = absurd (omega (arith, e))
-
-    take_none : (n : ℕ) → take n (let none : List Change = [] in none) ≡ []
-    take_none zero = refl
-    take_none (suc n) = refl

@@ -1,12 +1,7 @@
 -- The steps of a job, of a flush, of a wait and of a unit; the changes that a flush leaves unflushed; and why a unit may be `Later`.
 use Rattle.std.proofs.Common.{true, ◌≡◌, ◌⊎◌, ℕ, suc, ◌≤◌, Bool, Option, Some, List, [], ◌∷◌, ◌++◌, refl, sym, ap, ◌∙◌, subst, inr, arith, append_assoc, ◌<◌, None}
-use Rattle.psu_run.proofs.Common.{Allows, Begins, Called, DeviceStops, Exec, Executed, Flush, GaveBack, Ghosts, HasFailed, IsAlong, IsEither, IsFlush, IsJob, IsOf, IsWait, Job, JobData, Jobs, Later, Leads, MayAnswer, Reopens, Reply, Request, RunCause, RunStep, Serves, Settled, Since, State, Took, Walks, Whole, World, Worn, disk_at, disk_in, is_broken, job_data, job_steps, wait_of, world_of}
-use Rattle.psu_exec.proofs.Ignored.{serves_took}
-use Rattle.psu_exec.specs.Calls.{Cleared, Reopen, Taken, job_of}
-use Rattle.psu_exec.specs.Device.{is_whole}
-use Rattle.psu_exec.specs.Jobs.{job_disk, job_store}
+use Rattle.psu_run.proofs.Common.{Allows, Begins, Called, Cleared, DeviceStops, Exec, Executed, Flush, GaveBack, Ghosts, HasFailed, HasRun, IsAlong, IsEither, IsFlush, IsJob, IsOf, IsTried, IsWait, Job, JobData, Jobs, Later, Leads, MayAnswer, Reopen, Reopens, Reply, Request, RunCause, RunStep, Serves, Settled, Since, State, Taken, Took, Walks, Whole, World, Worn, disk_at, disk_in, is_broken, is_whole, job_data, job_disk, job_of, job_steps, job_store, serves_took, wait_of, world_of}
 use Rattle.psu_exec.specs.declared.job.Job.{Job as AnyJob}
-use Rattle.psu_run.specs.Progress.{HasRun, IsTried}
 use Rattle.psu_run.proofs.Going.{steps_call, steps_then, ran_as}
 use Rattle.psu_run.proofs.Moments.{since_as}
 use Rattle.psu_run.proofs.OneList.{reached_walk}

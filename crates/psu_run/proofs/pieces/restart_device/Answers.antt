@@ -1,5 +1,5 @@
 use Rattle.std.proofs.Common.{◌∙◌, sym}
-use Rattle.psu_run.proofs.Fronts.{passed}
+use Rattle.psu_run.proofs.Common.{passed}
 use Rattle.psu_run.proofs.Stopping.{Ends, power_runs, power_stops, reopen_stops, restart_fails, restarts}
 use Rattle.psu_run.proofs.SessionOne.{still_allowed}
 use Rattle.psu_run.proofs.pieces.restart_device.Goals as goal

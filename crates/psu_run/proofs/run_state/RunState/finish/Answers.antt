@@ -1,6 +1,5 @@
 use Rattle.std.proofs.Common.{◌∙◌, [], arith, sym}
-use Rattle.std.proofs.lemmas.Bool.Decides.{nat_tests}
-use Rattle.psu_run.proofs.Common.{held, messages}
+use Rattle.psu_run.proofs.Common.{held, messages, nat_tests}
 use Rattle.psu_run.proofs.SessionOne.{still_allowed}
 use Rattle.psu_run.proofs.Reading.{answers_flushed, answers_stop}
 use Rattle.psu_run.proofs.Stopping.{flush_stops, unflushed_stops}
