@@ -2,9 +2,8 @@
 use Rattle.std.proofs.Common.{arith, ◌≡◌, ℕ, ◌+◌, ◌-◌, Bool, true, false, List, [], ◌∷◌, ◌++◌, length, take, drop, refl, sym, ap, ◌∙◌, subst, inr, append_assoc, Some, ◌⊎◌, inl, append-nil, bytes_eq, codes}
 use Rattle.memchr.specs.Find.{IsFirstByte, is_byte}
 use Rattle.psu_run.proofs.Common.{Answer, Answers, Begins, DeviceStops, Effect, EndsEarly, Exec, FaultOf, Fed, Ghosts, IsDone, IsFailed, IsStopped, IsTry, IsUnit, Leads, LineBegins, LineRuns, Makes, Memory, Message, OutputState, Request, RunCause, RunFault, RunStep, RunStops, Runs, Says, SaysUntil, Sent, Source, Text, has, held, message_of, messages, never, source_of, text_sent}
-use Rattle.psu_run.proofs.Cuts.{found_parts, line_end, whole_tail}
+use Rattle.psu_run.proofs.Cuts.{found_parts, line_end, whole_tail, says_join, says_none, until_after, until_none, until_rest}
 use Rattle.psu_run.proofs.Going.{device_stops_then, steps_as, steps_none, steps_then}
-use Rattle.psu_run.proofs.Fronts.{says_join, says_none, until_after, until_none, until_rest, until_still}
 use Rattle.psu_run.proofs.Stopping.{runs_join, runs_one, stops_now, stops_then}
 use Rattle.psu_messages.specs.Effects as effects
 use Rattle.psu_messages.specs.Effects.{Executed, Settled}
@@ -161,7 +160,7 @@ module _ {D A : Type 0} {G : Ghosts D} {X : Type 0} (exec : X → Exec D A G) (o
         text_sent a.added ++ c.text.rest,
         device_stops_then (exec x) (exec mid) (exec y) (Makes a.added) (Begins (request ∷ [])) (LineBegins source (text_sent a.added ++ c.text.rest)) cause f.0 d.1 (λ xs ys m b. line x mid c a xs ys m (inr (request, next, b))),
         until_rest cause (output x) (output mid) (output y) (text_sent a.added) c.text.rest f.1
-            (until_still cause (output mid) (output y) d.2 (ap (λ (t : OutputState). t.written) d.0) (ap (λ (t : OutputState). t.gathered) d.0)),
+            (subst (λ (t : OutputState). SaysUntil cause (output mid) t []) (sym d.0) (until_none cause (output mid) d.2)),
       )
   broken_at x mid y cause c a (StoppedBetween unended stops) =
       let f = follow exec output r.does on a.added x mid a.runs in let d = stop mid y cause stops in

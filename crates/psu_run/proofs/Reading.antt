@@ -8,14 +8,11 @@ use Rattle.std.specs.Option.{ForSome}
 use Rattle.psu_exec.proofs.Moments.{keeps_map}
 use Rattle.psu_run.proofs.Common.{Answers, AreCalm, Brings, DiskState, EachRepresents, EndsEarly, Exec, FaultOf, Fed, Ghosts, HasFailed, IsAlong, IsFlush, IsNow, IsOf, IsOfRun, IsOldOrSame, IsScript, IsWrittenBefore, Leads, LeavesOnly, Message, OutputState, PowersOn, Ran, RanAll, RunCause, RunFault, RunStep, RunStops, Runs, RunsUpTo, Says, SaysUntil, ScriptAlone, Since, StopsFor, Walks, World, Write, WritesShort, born, common_steps, disk_in, failures_of, has, held, idle_disk, items_of, message_of, messages, state_in, take-add, world_of}
 use Rattle.psu_run.specs.Runs.{never, RunTo, WritesFirst, WritesRun, disk_of}
-use Rattle.psu_run.proofs.Cuts.{line_end, line_last}
+use Rattle.psu_run.proofs.Cuts.{line_end, line_last, longer, says_join, starts_after, until_none}
 use Rattle.psu_run.proofs.Feeding.{Ends, ends_then, stopped_then}
-use Rattle.psu_run.proofs.Fronts.{longer, says_join, starts_after, until_none}
-use Rattle.psu_run.proofs.Going.{ran_then}
+use Rattle.psu_run.proofs.Going.{ran_then, since_then, since_to}
 use Rattle.psu_run.proofs.Stopping.{IsOther, RunsAll, Stops, behind, runs_whole, stops_for, stops_now, stops_then, whole_up_to}
-use Rattle.psu_run.proofs.Moments.{since_then, since_to}
-use Rattle.psu_run.proofs.OneList.{left_leads, reached_on, reached_walk, run_leads}
-use Rattle.psu_run.proofs.Prefixes.{flushed_stands, leaves_prefix}
+use Rattle.psu_run.proofs.OneList.{left_leads, reached_on, reached_walk, run_leads, flushed_stands, leaves_prefix}
 use Rattle.psu_run.proofs.Walking.{calm_split, flush_begins, walk_running, walks_split}
 
 -- ---- the output of a piece is written

@@ -121,10 +121,6 @@ module _ (some : Somes) where
       let requests = some_asking source in let all = some_line requests.0 r [] requests.1 in let rest = some_script ms all.0.rest in
       (response all.0.answers ++ rest.0, (requests.0, all.0, rest.0, requests.2, all.1, rest.1, refl))
 
--- no body has two expansions
-abbrev pub OneExpansion : Type 0
-OneExpansion = (body : List ℕ) (args : List (List ℕ)) (result other : Result (List ℕ) ScpiError) → ExpandsTo body args result → ExpandsTo body args other → result ≡ other
-
 -- ---- the data of calls
 
 one_tail : (list others : List Datum) (tail : List ℕ) → TailLists tail list → TailLists tail others → list ≡ others
@@ -181,7 +177,8 @@ reply_alike : {a b : Request} (r : Rest) (reply : Reply) → Same a b → after_
 reply_alike r Parked same = ap (λ (s : State). waited (flushed (record r { state = s }))) (unit_alike r.state Parked same)
 reply_alike r reply same = ap (λ (s : State). outcome (record r { state = s }) reply) (unit_alike r.state reply same)
 
-module _ (o : Ones) (one : OneExpansion) where
+-- `one`: no body has two expansions
+module _ (o : Ones) (one : (body : List ℕ) (args : List (List ℕ)) (result other : Result (List ℕ) ScpiError) → ExpandsTo body args result → ExpandsTo body args other → result ≡ other) where
   one_given : (inside : Bool) (body : List ℕ) (args : List (List ℕ)) (given other : Result (List ℕ) ScpiError) → ExpandsAt inside body args given → ExpandsAt inside body args other → given ≡ other
   one_given true body args given other g h = g ∙ sym h
   one_given false body args given other g h = one body args given other g h

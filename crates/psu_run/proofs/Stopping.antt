@@ -18,12 +18,11 @@ use Rattle.psu_messages.specs.Executions.Reaches.{Begins as Beginning}
 use Rattle.psu_run.specs.Progress.{IsHaltedBy, extent_of}
 use Rattle.psu_run.specs.Runs.{IsAtPower, IsByFailure, IsWornOut, NextBegins, NotStarted, cause_of, never}
 use Rattle.psu_run.specs.declared.run_cause.RunCause.TheVariants.{Device, Open, Read, TooLong}
-use Rattle.psu_run.proofs.Going.{failed_before, failed_on, steps_as, steps_none, device_stops_as, ran_then, ran_with, steps_then}
+use Rattle.psu_run.proofs.Going.{failed_before, failed_on, steps_as, steps_none, ran_then, ran_with, steps_then, since_as, since_to}
 use Rattle.psu_run.proofs.Walking.{along_here, breaks_split, flush_begins, job_begins}
 use Rattle.std.specs.Option.{ForSome}
 use Rattle.psu_items.proofs.Opening.{still_represents}
-use Rattle.psu_run.proofs.Moments.{since_as, since_to}
-use Rattle.psu_run.proofs.Prefixes.{prefix_of_map}
+use Rattle.psu_run.proofs.OneList.{prefix_of_map}
 
 -- ---- why
 
@@ -199,7 +198,7 @@ stops_for {D} {A} {G} by_input other old fault cause due text s turn counted = r
 
 -- a flush that stops
 pub flush_stops : {D A : Type 0} {G : Ghosts D} (old new : Exec D A G) (cause : RunCause) (fault : RunFault D) → DeviceStops old new (Begins []) cause → FaultOf new cause fault → RunStops never old fault [] []
-flush_stops old new cause fault s f = halted old new cause fault [] [] (device_stops_as old new (Begins []) (NextBegins [] []) cause s (λ steps b. (b, refl))) f (λ at. at)
+flush_stops old new cause fault s f = halted old new cause fault [] [] (record { leads = steps_as old new (Begins []) (NextBegins [] []) s.leads (λ steps b. (b, refl)); why = s.why }) f (λ at. at)
 
 -- a flush that leaves changes
 pub unflushed_stops : {D A : Type 0} {G : Ghosts D} (old new : Exec D A G) (fault : RunFault D) → Leads old new IsFlush → FaultOf new Device fault
@@ -307,6 +306,6 @@ power_stops {D} {A} {G} old mid disk fault rest p ends rose consistent why by q 
 pub reopen_stops : {D A : Type 0} {G : Ghosts D} (old new : Exec D A G) (cause : RunCause) (fault : RunFault D) (rest : List Message) → DeviceStops old new (Begins []) cause → FaultOf new cause fault
     → (cause ≡ Device → (before : ℕ) → IsTied before old → HasFailed before (failures_of new)) → RunStops never old fault (Message.Power ∷ rest) []
 reopen_stops {D} {A} {G} old new cause fault rest s f failed =
-    stops_at never old new fault (Message.Power ∷ rest) [] (device_stops_as old new (Begins []) (NextBegins (Message.Power ∷ rest) []) cause s (λ steps b. (b, refl))).leads f.disk
+    stops_at never old new fault (Message.Power ∷ rest) [] (steps_as old new (Begins []) (NextBegins (Message.Power ∷ rest) []) s.leads (λ steps b. (b, refl))) f.disk
     (λ h life. let tied : IsTied (failures_of old) old = (omega arith, inl h) in let why = s.why (failures_of old) tied in let broke : cause ≡ Device → HasFailed (failures_of old) (failures_of new) = λ e. failed e (failures_of old) tied in grind arith)
     (λ before t. halted_fails before new cause fault f (s.why before t))

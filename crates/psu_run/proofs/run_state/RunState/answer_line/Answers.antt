@@ -1,5 +1,5 @@
 use Rattle.psu_run.proofs.Feeding.{answers_line}
-use Rattle.psu_run.proofs.Fronts.{told_alone}
+use Rattle.psu_run.proofs.Cuts.{told_alone}
 use Rattle.psu_run.proofs.Common.{passed, source_of}
 use Rattle.psu_run.proofs.run_state.RunState.answer_line.Goals as goal
 

@@ -1,9 +1,8 @@
 use Rattle.std.proofs.Common.{◌∙◌, ◌∷◌, arith, refl, [], subst, sym}
 use Rattle.psu_run.proofs.Common.{Answers, EndsEarly, Message, held, never, output_state, passed, source_of}
-use Rattle.psu_run.proofs.Cuts.{free_all, free_before}
+use Rattle.psu_run.proofs.Cuts.{free_all, free_before, says_none}
 use Rattle.psu_run.proofs.Stopping.{halted}
 use Rattle.psu_run.proofs.Feeding.{fed_none, feed_end, feed_refused, feed_step, feed_stops, line_stops, plain_message, power_message}
-use Rattle.psu_run.proofs.Fronts.{says_none}
 use Rattle.psu_run.proofs.run_state.RunState.execute_lines.Goals as goal
 
 pub loop-at-init : goal.loop-at-init
