@@ -1,7 +1,7 @@
 -- The lines of a piece, one after another, and the pieces of an input.
 use Rattle.std.proofs.Common.{arith, ◌≡◌, ℕ, ◌+◌, ◌-◌, Bool, true, false, List, [], ◌∷◌, ◌++◌, length, take, drop, refl, sym, ap, ◌∙◌, subst, inr, append_assoc, Some, ◌⊎◌, inl, append-nil, bytes_eq, codes}
 use Rattle.memchr.specs.Find.{IsFirstByte, is_byte}
-use Rattle.psu_run.proofs.Common.{Answer, Answers, Begins, DeviceStops, Effect, EndsEarly, Exec, FaultOf, Fed, Ghosts, IsDone, IsFailed, IsStopped, IsTry, IsUnit, Leads, LineBegins, LineRuns, Makes, Memory, Message, OutputState, Request, RunCause, RunFault, RunStep, RunStops, Runs, Says, SaysUntil, Sent, Source, Text, has, held, message_of, messages, never, source_of, text_sent}
+use Rattle.psu_run.proofs.Common.{Answer, Answers, Begins, DeviceStops, Effect, EndsEarly, Exec, FaultOf, Fed, Ghosts, IsDone, IsFailed, IsStopped, IsTry, IsUnit, Leads, LineBegins, LineRuns, Makes, Memory, Message, OutputState, Request, RunCause, RunFault, RunStep, Runs, Says, SaysUntil, Sent, Source, Text, has, held, message_of, messages, never, source_of, text_sent}
 use Rattle.psu_run.proofs.Cuts.{found_parts, line_end, whole_tail, says_join, says_none, until_after, until_none, until_rest}
 use Rattle.psu_run.proofs.Going.{device_stops_then, steps_as, steps_none, steps_then}
 use Rattle.psu_run.proofs.Stopping.{runs_join, runs_one, stops_now, stops_then}

@@ -4,7 +4,7 @@ use Rattle.psu_lex.specs.Bytes.{all_white, is_closed}
 use Rattle.psu_run.proofs.Common.{AskedBy, Called, Contents, Effect, Expand, Fault, GaveBack, HasOutcome, IsAnswered, IsScript, IsSilent, IsTry, IsUnit, Job, LineRuns, Makes, Message, Part, PowersOn, Reopens, Reply, Request, Rest, Restarted, RunStep, Runs, ScriptAlone, Scripted, Sent, Source, Speaks, SpeaksInside, Spoken, State, Took, Walks, World, answer_in, answers, at_start, first_onto, has, items_of, message_of, messages, nat_tests, opened, parts_of, reads_left, represents_one, response, text_sent, with_answer, ⊤}
 use Rattle.psu_lex.specs.Message.{Reads, Token, Separator, Faulty, ended, fault_of, next_first, text_of, units_of}
 use Rattle.psu_run.proofs.Cuts.{has_none}
-use Rattle.psu_messages.specs.Effects.{Executed, Settled, needs}
+use Rattle.psu_messages.specs.Effects.{Executed, Settled}
 use Rattle.psu_messages.specs.Messages.{NoMessage, OneMore, AreMessages, IsAskedIn, OverIsMessages}
 use Rattle.psu_messages.specs.Turns.{NoneInside, OneInside, Untried, Again, NoUnit, Plain, Expanded, Ended, InsideDone, IsInside, Tried, UnitsDone, acts}
 use Rattle.psu_messages.specs.Units.{Text}

@@ -1,7 +1,8 @@
 -- Every input has a script, and only one.
 use Rattle.std.proofs.Common.{arith, ◌≡◌, ℕ, Bool, true, false, List, [], ◌∷◌, ◌++◌, refl, subst, Option, None, Some, Result, Ok, Err, is_ok, sym, ap, ◌∙◌}
 use Rattle.psu_lex.specs.Macros.{ExpandsTo}
-use Rattle.psu_run.proofs.Common.{AreAsked, AreRequests, AskedBy, ByMacro, ByMeaning, Command, Datum, Early, Expand, Fault, HasOutcome, HasOutcomeFrom, HoldsParameters, IsRequest, Later, MacroCall, Message, Parked, Part, Reads, Replies, Reply, Request, Rest, ScpiError, Scripted, Source, Speaks, SpeaksInside, Spoken, State, Syntax, SyntaxCalls, SyntaxGives, SyntaxMoves, SyntaxReads, UnitOutcome, after_reply, after_unit, answer_call, answer_meant, at_start, called, faulty, flushed, here, is_later, meant, path_at, response, with_answer, ⊤}
+use Rattle.psu_run.proofs.Common.{AreAsked, AreRequests, AskedBy, ByMacro, ByMeaning, Command, Datum, Early, Expand, Fault, HasOutcome, HasOutcomeFrom, HoldsParameters, IsRequest, Later, MacroCall, Message, Parked, Part, Reads, Replies, Reply, Request, Rest, ScpiError, Scripted, Source, Speaks, SpeaksInside, Spoken, State, Syntax, SyntaxCalls, SyntaxGives, SyntaxMoves, UnitOutcome, after_reply, after_unit, answer_call, answer_meant, at_start, called, faulty, flushed, here, is_later, meant, path_at, response, with_answer, ⊤}
+use Rattle.psu_tree.specs.Reading.{SyntaxReads}
 use Rattle.psu_lex.specs.Names.{is_label}
 use Rattle.psu_lex.specs.Shown.{HoldsData, TailLists}
 use Rattle.psu_lex.specs.Syntax.{IsBefore, Lists, UnitReads}
@@ -13,7 +14,6 @@ use Rattle.psu_messages.specs.Units as units
 use Rattle.psu_run.specs.Script.{Expands, SpeaksReply, waited}
 use Rattle.psu_run.proofs.Alone.{outcome}
 use Rattle.psu_run.proofs.Readings.{Holds, SomeUnits, held_by, Ones, one_next}
-use Rattle.psu_lex.specs.declared.data.Found.{Found}
 use Rattle.psu_lex.proofs.DataLists.{one_list}
 
 -- Bytes have units, a unit reads in some way at a path, and a body has an expansion, or an error in its place.
