@@ -1,13 +1,10 @@
 -- Where nothing goes wrong, a unit is executed as the script says.
 use Rattle.std.proofs.Common.{◌≡◌, ◌≢◌, ℕ, ◌≤◌, ◌==◌, true, false, List, [], ◌∷◌, ◌++◌, refl, ap, ◌∙◌, subst, subst₂, inl, inr, arith, Some}
-use Rattle.std.proofs.lemmas.Bool.Decides.{nat_tests}
-use Rattle.psu_run.proofs.Common.{Acts, AreCalm, ByMacro, ByMeaning, Called, DiskAfter, EachRepresents, Early, Entry, Executed, Flush, GaveBack, HasOutcome, HasOutcomeFrom, IsContents, IsFlush, IsJob, IsUnit, Item, Job, JobData, JobEnd, Jobs, Later, MayAnswer, Nothing, Parked, Replies, Reply, Request, Rest, RunStep, Serves, Settled, State, Took, UnitOutcome, Walks, Whole, World, after_reply, committed, flushed, items_of, job_out, target, wait_of}
+use Rattle.psu_run.proofs.Common.{Acts, AreCalm, ByMacro, ByMeaning, Called, Commit, DiskAfter, EachRepresents, Early, Entry, Executed, Flush, GaveBack, HasOutcome, HasOutcomeFrom, IsContents, IsFlush, IsJob, IsUnit, Item, Job, JobData, JobEnd, Jobs, Later, MayAnswer, Nothing, Parked, Replies, Reply, Request, Rest, RunStep, Serves, Settled, State, Stored, Took, UnitOutcome, Walks, Whole, World, after_reply, after_settle, committed, flushed, items_of, job_out, nat_tests, settle_answer, settled, target, wait_of, waited, with_flush}
+use Rattle.psu_run.specs.Runs.{EndsJob}
 use Rattle.psu_lex.specs.declared.scpi_error.ScpiError.TheVariants.{OutOfMemory}
 use Rattle.psu_exec.specs.Device.{Error, Held, LockedOut, TooEarly, Runs, Expands, Means, after_unit}
-use Rattle.psu_exec.specs.Calls.{Commit, Stored, settle_answer, after_settle, settled, with_flush}
 use Rattle.psu_exec.proofs.RqsUpdates.{followed_same}
-use Rattle.psu_run.specs.Runs.{EndsJob}
-use Rattle.psu_run.specs.Script.{waited}
 use Rattle.psu_run.proofs.Readings.{Holds}
 use Rattle.psu_run.proofs.Walking.{calm_split, walks_split}
 

@@ -1,37 +1,54 @@
--- The names that most proofs use.
+-- The names that several proofs use.
+use Rattle.std.proofs.Common.{◌≡◌, IfErr, IsErrAnd, Result, arith}
 pub use Rattle.psu_disk.specs.Disk.{DiskState, HasFailed, IsCrashImage, LeavesOnly}
-pub use Rattle.psu_disk.specs.Moments.{weaken}
-pub use Rattle.psu_disk.specs.Ranges.{reads_left}
+pub use Rattle.psu_disk.specs.Moments.{and_then, started, weaken}
+pub use Rattle.psu_disk.specs.Ranges.{left_size, reads_left}
 pub use Rattle.psu_disk.specs.declared.disk.Disk.{Ghosts}
-pub use Rattle.psu_exec.specs.Calls.{Allows, Entry, Executed, GaveBack, Job, JobData, JobEnd, Nothing, Opened, Reopened, Serves, Settled, Took, job_out}
-pub use Rattle.psu_exec.specs.Device.{Expand, Flush, Later, MayAnswer, Parked, Reply, State, count_held, is_broken, power_on, target, wait_of}
+pub use Rattle.psu_exec.proofs.Ignored.{serves_gave_back, serves_opened, serves_took}
+pub use Rattle.psu_exec.specs.Calls.{Allows, Cleared, Commit, Entry, Executed, GaveBack, IsAccepted, Job, JobData, JobEnd, Nothing, Opened, Reopen, Serves, Settled, Stored, Taken, Took, after_settle, job_of, job_out, least_free, opened, settle_answer, settled, wait_cut, wait_less, with_flush}
+pub use Rattle.psu_exec.specs.Device.{Answer, Expand, Flush, Later, MayAnswer, Parked, Reply, State, after_unit, answer_call, answer_meant, called, count_held, here, is_broken, is_denied, is_later, is_open, is_whole, meant, power_on, target, wait_of}
 pub use Rattle.psu_exec.specs.Exec.{Exec}
-pub use Rattle.psu_exec.specs.Jobs.{idle_disk, job_data}
+pub use Rattle.psu_exec.specs.Jobs.{finished_disk, finished_of, idle_disk, job_data, job_disk, job_store}
 pub use Rattle.psu_exec.specs.Shown.{outcome_of}
-pub use Rattle.psu_exec.specs.World.{DiskAfter, Running, World, without_power}
+pub use Rattle.psu_exec.specs.World.{DiskAfter, Running, World, after, recorded, without_power}
 pub use Rattle.psu_exec.specs.declared.condition.Condition.TheVariants.{Whole, Worn}
 pub use Rattle.psu_exec.specs.declared.idle_store.IdleStore.{IdleStore}
 pub use Rattle.psu_instrument.specs.Macros.{HoldsParameters}
+pub use Rattle.psu_items.proofs.Fitting.{represents_readable}
+pub use Rattle.psu_items.proofs.Standing.{represents_one}
 pub use Rattle.psu_items.specs.Finding.{IsOldOrSame}
-pub use Rattle.psu_items.specs.Image.{EachRepresents, IsEither, Represents}
-pub use Rattle.psu_lex.specs.Message.{Part}
-pub use Rattle.psu_lex.specs.Syntax.{Datum, Syntax, SyntaxGives}
+pub use Rattle.psu_items.specs.Image.{EachIsEither, EachRepresents, HasReadableRoot, IsEither, Represents}
+pub use Rattle.psu_lex.specs.Message.{IsMessage, Part}
+pub use Rattle.psu_lex.specs.Syntax.{Datum, HeaderParts, IsHeader, Syntax, SyntaxGives, header_text}
+pub use Rattle.psu_lex.specs.declared.scpi_error.ScpiError.TheVariants.{TooMuchData}
 pub use Rattle.psu_lex.specs.declared.scpi_error.ScpiError.{ScpiError}
 pub use Rattle.psu_map.specs.Map.{Item}
-pub use Rattle.psu_messages.specs.Answers.{text_sent}
+pub use Rattle.psu_messages.specs.Answers.{IsAnswered, IsSilent, answer_in, answers, text_sent}
 pub use Rattle.psu_messages.specs.Effects.{Effect, IsTry, Sent}
 pub use Rattle.psu_messages.specs.Response.{response}
 pub use Rattle.psu_messages.specs.ResponseBuffer.{Text, nothing}
-pub use Rattle.psu_messages.specs.Units.{Fault, IsRequest, Source, path_at}
+pub use Rattle.psu_messages.specs.Units.{Fault, IsRequest, Source, faulty, path_at}
 pub use Rattle.psu_nv.specs.Contents.{Contents, IsContents, items_of}
 pub use Rattle.psu_run.specs.Lines.{AreAsked, AreRequests, AskedBy, Brings, HasRead, Message, first_onto, has, message_of, messages, parts_of, source_of}
-pub use Rattle.psu_run.specs.Progress.{Answers, DeviceStops, EndsEarly, FaultOf, Fed, IsNow, IsOf, IsTied, Leads, Life, OutputState, RanAll, Ran, Reached, RunStops, Says, SaysUntil, Since, born, disk_at, disk_in, extent_in, failures_in, failures_of, held, output_state, state_in, world_of}
-pub use Rattle.psu_run.specs.Runs.{Acts, AreCalm, Begins, Called, CallsOnWorld, IsAlong, IsFlush, IsJob, IsLeftBy, IsOfRun, IsUnit, IsWait, Jobs, LineBegins, LineRuns, Makes, MessageRuns, PowersOn, Reopens, Restarted, RunStep, Runs, RunsUpTo, ScriptAlone, SomeBreak, StandsForPrefix, StopsAt, StopsFor, Walks, WritesShort, job_steps}
-pub use Rattle.psu_run.specs.Script.{ByMacro, ByMeaning, Early, HasOutcome, HasOutcomeFrom, IsScript, Replies, Rest, Scripted, Speaks, SpeaksInside, Spoken, UnitOutcome, after_reply, at_start, committed, flushed, with_answer}
+pub use Rattle.psu_run.specs.Progress.{Answers, DeviceStops, EndsEarly, FaultOf, Fed, HasRun, IsDone, IsFailed, IsNow, IsOf, IsStopped, IsTied, IsTried, IsWornAtLast, IsWrittenBefore, Leads, Life, OutputState, Ran, RanAll, Reached, RunStops, Says, SaysUntil, Since, born, disk_at, disk_in, extent_in, failures_in, failures_of, held, output_state, state_in, world_of}
+pub use Rattle.psu_run.specs.Runs.{Acts, AreCalm, Begins, Breaks, Called, CallsOnWorld, EventsLead, IsAlong, IsFlush, IsJob, IsLeftBy, IsOfRun, IsSound, IsUnit, IsWait, Jobs, LineBegins, LineRuns, Makes, MemoryRefused, MessageRuns, NotStarted, PowersOn, Reopens, Restarted, RunStep, Runs, RunsUpTo, ScriptAlone, SomeBreak, StandsForPrefix, StepsTo, StopsAt, StopsFor, Walks, WritesShort, disk_from, fault_of, job_steps, never}
+pub use Rattle.psu_run.specs.Script.{ByMacro, ByMeaning, Early, HasOutcome, HasOutcomeFrom, IsScript, Replies, Rest, Scripted, Speaks, SpeaksInside, Spoken, UnitOutcome, after_reply, at_start, committed, flushed, waited, with_answer}
+pub use Rattle.psu_run.specs.declared.run_cause.RunCause.TheVariants.{Memory, Read, TooLong, Write}
 pub use Rattle.psu_run.specs.declared.run_cause.RunCause.{RunCause}
-pub use Rattle.psu_run.specs.declared.run_cause.RunCause.TheVariants.{Memory, Write}
 pub use Rattle.psu_run.specs.declared.run_fault.RunFault.{RunFault}
 pub use Rattle.psu_tree.specs.Reading.{Reads, SyntaxCalls, SyntaxMoves}
 pub use Rattle.psu_tree.specs.declared.command.Command.{Command}
 pub use Rattle.psu_tree.specs.declared.command.MacroCall.{MacroCall}
 pub use Rattle.psu_tree.specs.declared.command.Request.{Request}
+pub use Rattle.std.proofs.KnownBytes.{Appends-nil, Appends-trans, Consumes-kept, Consumes-nil, Consumes-trans}
+pub use Rattle.std.proofs.Math.Seq.{take-add, take-append-add, take-nil}
+pub use Rattle.std.proofs.lemmas.Bool.Decides.{nat_tests}
+pub use Rattle.std.proofs.lemmas.Grind.{common_steps}
+pub use Rattle.std.proofs.lemmas.List.{drop-drop, drop_all, get_or-take, get_or_past, nil_from_length, take-append-drop, take-append-le}
+pub use Rattle.std.specs.Io.KnownBytes.{Appends, Consumes, Keeps}
+pub use Rattle.std.specs.Option.{ForSome}
+pub use Rattle.std.specs.Prelude.{⊤}
+
+-- a fault that is propagated
+pub passed : {A E : Type 0} (r : Result A E) (e : E) (P : E → Type 0) → IsErrAnd r (λ reported. reported ≡ e) → P e → IfErr r P
+passed x0 e x2 is p = grind arith

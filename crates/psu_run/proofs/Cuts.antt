@@ -1,13 +1,10 @@
--- Lemmas on the parts of a text.
-use Rattle.std.proofs.Common.{◌≡◌, ℕ, ◌+◌, ◌-◌, ◌==◌, ◌<◌, ◌≤◌, true, false, List, [], ◌∷◌, ◌++◌, length, take, drop, map, refl, sym, ap, ◌∙◌, arith, slice_index, append_assoc, inl, inr, Some, None, zero, suc, add-one, drop-cons, ◌⊎◌, codes, bytes_eq, if◌then◌else◌}
+-- Lemmas on the parts of a text, and on the prefixes that are written of it.
+use Rattle.std.proofs.Common.{◌≡◌, ℕ, ◌+◌, ◌-◌, ◌==◌, ◌<◌, ◌≤◌, true, false, List, [], ◌∷◌, ◌++◌, length, take, drop, map, refl, sym, ap, ◌∙◌, arith, slice_index, append_assoc, inl, inr, Some, None, zero, suc, add-one, drop-cons, ◌⊎◌, codes, bytes_eq, if◌then◌else◌, subst, Option, length-append, ◌≢◌, append-nil}
 use Rattle.std.proofs.lemmas.Bool.{cases_Bool}
-use Rattle.std.proofs.lemmas.List.{get_or-take, take-append-drop}
-use Rattle.std.proofs.lemmas.Grind.{common_steps}
-use Rattle.std.proofs.lemmas.Bool.Decides.{nat_tests}
 use Rattle.memchr.specs.Find.{IsFirstByte, is_byte}
 use Rattle.std.proofs.lemmas.Slice.Eq.{bytes_eq-Decides}
-use Rattle.psu_lex.specs.declared.scpi_error.ScpiError.TheVariants.{TooMuchData}
-use Rattle.psu_run.proofs.Common.{Fault, Message, first_onto, has, message_of, messages, parts_of}
+use Rattle.psu_run.proofs.Common.{Appends, Appends-nil, Appends-trans, Fault, Message, OutputState, RunCause, Says, SaysUntil, Text, TooMuchData, Write, WritesShort, common_steps, first_onto, get_or-take, has, held, message_of, messages, nat_tests, nothing, parts_of, take-add, take-append-add, take-append-drop, take-append-le}
+use Rattle.std.specs.Io.{StartsWith}
 
 -- the first part, without its end, and what comes after it
 abbrev first_part : ℕ → List ℕ → List ℕ
@@ -73,15 +70,9 @@ found_parts e s at h =
 
 -- ---- lines
 
-not_power : (l : List ℕ) → 65536 < length l → bytes_eq l (codes "!POWER") ≡ false
-not_power l long = elim (cases_Bool (bytes_eq l (codes "!POWER"))) [
-  | inl same ↦ absurd (omega (arith, long, ap length ((bytes_eq-Decides l (codes "!POWER")).0 same)))
-  | inr other ↦ other
-]
-
 long_message : (l : List ℕ) → 65536 < length l → message_of l ≡ Message.Line (Fault TooMuchData)
 long_message l long =
-    let plain = not_power l long in grind (arith, nat_tests, long, plain)
+    let six : bytes_eq l (codes "!POWER") ≡ true → length l ≡ 6 = λ same. ap length ((bytes_eq-Decides l (codes "!POWER")).0 same) in grind (arith, nat_tests, long, six)
 
 over : (p input : List ℕ) → has 10 p ≡ false → 65536 < length p → messages (p ++ input) ≡ Message.Line (Fault TooMuchData) ∷ messages (after_part 10 input)
 over [] input h long = absurd (omega (arith, long))
@@ -116,3 +107,75 @@ line_end line input h = ap (map message_of) (parts_at 10 line input h)
 pub line_last : (line : List ℕ) → (line ≡ [] → ⊥) → has 10 line ≡ false → messages line ≡ message_of line ∷ []
 line_last [] begun free = absurd (begun refl)
 line_last (x ∷ p) begun free = ap (map message_of) (parts_last 10 x p free)
+
+-- ---- prefixes of a text that is written
+
+pub starts_after : (t s rest : List ℕ) → StartsWith rest s → StartsWith (t ++ rest) (t ++ s)
+starts_after t s rest h = ap (λ (n : ℕ). take n (t ++ rest)) (length-append t s) ∙ take-append-add t rest (length s) ∙ ap (λ (z : List ℕ). t ++ z) h
+
+-- a write of the rest
+pub put_step : (all : List ℕ) (at n : ℕ) (u v w : Option (List ℕ)) → at ≤ length all → n ≤ length (take (length all - at) (drop at all))
+    → Appends u v (take at all) → Appends v w (take n (take (length all - at) (drop at all))) → (at + n ≤ length all) × Appends u w (take (at + n) all)
+put_step all at n u v w low bound p q =
+    let joined : take (at + n) all ≡ take at all ++ take n (take (length all - at) (drop at all)) = take-add at n all ∙ ap (λ (z : List ℕ). take at all ++ take n z) (sym (whole_tail all at)) in
+    let room : n ≤ length (drop at all) = subst (λ (z : List ℕ). n ≤ length z) (whole_tail all at) bound in
+    (grind (arith, common_steps, low, room), subst (Appends u w) (sym joined) (Appends-trans u v w _ _ p q))
+
+-- ---- the output, one part after another
+
+pub longer : (text front more : List ℕ) → length front < length more → length (text ++ front) < length (text ++ more)
+longer text front more less = grind (arith, common_steps, less)
+
+-- a proper prefix of a text, written after another text
+pub short_behind : (old mid new : Option (List ℕ)) (first second : List ℕ) → Appends old mid first → WritesShort mid new second → WritesShort old new (first ++ second)
+short_behind old mid new first second grows (front, more, starts, less) = (first ++ front, Appends-trans old mid new first front grows more, starts_after first front second starts, longer first front second less)
+
+-- ---- parts of a text
+
+pub says_none : (t : OutputState) → Says t t []
+says_none t = ([], Appends-nil t.written, sym (append-nil t.gathered))
+
+told_on : (a b c : OutputState) (m n : List ℕ) (says : Says a b m) → says.0 ++ (b.gathered ++ n) ≡ a.gathered ++ (m ++ n)
+told_on a b c m n says = sym (append_assoc says.0 b.gathered n) ∙ ap (λ (z : List ℕ). z ++ n) says.2 ∙ append_assoc a.gathered m n
+
+pub says_join : (a b c : OutputState) (m n : List ℕ) → Says a b m → Says b c n → Says a c (m ++ n)
+says_join a b c m n p q = (p.0 ++ q.0, Appends-trans a.written b.written c.written p.0 q.0 p.1 q.1, append_assoc p.0 q.0 c.gathered ∙ ap (λ (z : List ℕ). p.0 ++ z) q.2 ∙ told_on a b c m n p)
+
+pub short_after : (a b c : OutputState) (m n : List ℕ) → Says a b m → WritesShort b.written c.written (b.gathered ++ n) → WritesShort a.written c.written (a.gathered ++ (m ++ n))
+short_after a b c m n p q = (
+  p.0 ++ q.0,
+  Appends-trans a.written b.written c.written p.0 q.0 p.1 q.1,
+  subst (λ (z : List ℕ). StartsWith z (p.0 ++ q.0)) (told_on a b c m n p) (starts_after p.0 q.0 (b.gathered ++ n) q.2),
+  subst (λ (z : List ℕ). length (p.0 ++ q.0) < length z) (told_on a b c m n p) (longer p.0 q.0 (b.gathered ++ n) q.3),
+)
+
+pub until_after : (cause : RunCause) (a b c : OutputState) (m n : List ℕ) → Says a b m → SaysUntil cause b c n → SaysUntil cause a c (m ++ n)
+until_after cause a b c m n p q = record { whole = λ e. says_join a b c m n p (q.whole e); missing = λ e. short_after a b c m n p (q.missing e) }
+
+-- a fault other than a write fault
+pub until_said : (cause : RunCause) (a b : OutputState) (m : List ℕ) → cause ≢ Write → Says a b m → SaysUntil cause a b m
+until_said cause a b m own p = grind arith
+
+pub until_none : (cause : RunCause) (t : OutputState) → cause ≢ Write → SaysUntil cause t t []
+until_none cause t own = until_said cause t t [] own (says_none t)
+
+-- what is missing of a text is also missing of a longer text
+pub short_more : (old new : Option (List ℕ)) (text more : List ℕ) → WritesShort old new text → WritesShort old new (text ++ more)
+short_more old new text more (front, grows, starts, less) =
+    (front, grows, take-append-le (length front) text more (omega (arith, less)) ∙ starts, subst (λ (n : ℕ). length front < n) (sym (length-append text more)) (omega (arith, less)))
+
+-- the rest of a text is buffered after the output, up to a fault
+pub until_rest : (cause : RunCause) (a b c : OutputState) (m rest : List ℕ) → Says a b m → SaysUntil cause b c [] → SaysUntil cause a (held c.written (c.gathered ++ rest)) (m ++ rest)
+until_rest cause a b c m rest p q = record {
+  whole = λ e. says_join a b (held c.written (c.gathered ++ rest)) m rest p (says_join b c (held c.written (c.gathered ++ rest)) [] rest (q.whole e) ([], Appends-nil c.written, refl));
+  missing = λ e. short_after a b (held c.written (c.gathered ++ rest)) m rest p (short_more b.written c.written b.gathered rest (subst (WritesShort b.written c.written) (append-nil b.gathered) (q.missing e)));
+}
+
+-- ---- what is not written
+
+-- no line has begun
+pub told_alone : (output : List ℕ) (t : Text) → t ≡ nothing → output ++ t.rest ≡ output
+told_alone output t fresh = ap (λ (z : Text). output ++ z.rest) fresh ∙ append-nil output
+
+pub none_told : (output : List ℕ) (t : Text) → output ≡ [] → t ≡ nothing → output ++ t.rest ≡ []
+none_told output t none fresh = told_alone output t fresh ∙ none

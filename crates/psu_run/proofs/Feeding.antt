@@ -1,14 +1,10 @@
 -- The lines of a piece, one after another, and the pieces of an input.
 use Rattle.std.proofs.Common.{arith, ◌≡◌, ℕ, ◌+◌, ◌-◌, Bool, true, false, List, [], ◌∷◌, ◌++◌, length, take, drop, refl, sym, ap, ◌∙◌, subst, inr, append_assoc, Some, ◌⊎◌, inl, append-nil, bytes_eq, codes}
 use Rattle.memchr.specs.Find.{IsFirstByte, is_byte}
-use Rattle.psu_run.proofs.Common.{Answers, Begins, DeviceStops, Effect, EndsEarly, Exec, FaultOf, Fed, Ghosts, IsTry, IsUnit, Leads, LineBegins, LineRuns, Makes, Memory, Message, OutputState, Request, RunCause, RunFault, RunStep, RunStops, Runs, Says, SaysUntil, Sent, Source, Text, has, held, message_of, messages, source_of, text_sent}
-use Rattle.psu_run.specs.Progress.{IsDone, IsFailed, IsStopped}
-use Rattle.psu_run.specs.Runs.{never}
-use Rattle.psu_run.proofs.Cuts.{found_parts, line_end, whole_tail}
+use Rattle.psu_run.proofs.Common.{Answer, Answers, Begins, DeviceStops, Effect, EndsEarly, Exec, FaultOf, Fed, Ghosts, IsDone, IsFailed, IsStopped, IsTry, IsUnit, Leads, LineBegins, LineRuns, Makes, Memory, Message, OutputState, Request, RunCause, RunFault, RunStep, Runs, Says, SaysUntil, Sent, Source, Text, has, held, message_of, messages, never, source_of, text_sent}
+use Rattle.psu_run.proofs.Cuts.{found_parts, line_end, whole_tail, says_join, says_none, until_after, until_none, until_rest}
 use Rattle.psu_run.proofs.Going.{device_stops_then, steps_as, steps_none, steps_then}
-use Rattle.psu_run.proofs.Fronts.{says_join, says_none, until_after, until_none, until_rest, until_still}
-use Rattle.psu_run.proofs.Stopping.{halted, runs_join, runs_one, stops_now, stops_then}
-use Rattle.psu_exec.specs.Device.{Answer}
+use Rattle.psu_run.proofs.Stopping.{runs_join, runs_one, stops_now, stops_then}
 use Rattle.psu_messages.specs.Effects as effects
 use Rattle.psu_messages.specs.Effects.{Executed, Settled}
 use Rattle.psu_messages.specs.Executions.{Progress, Interruption, Advances, IsNext, IsOver, StopsAt, beginning}
@@ -105,11 +101,6 @@ line_stops mid rest at begun s1 fault t1 t2 found shifted free stops = λ input.
     = ap (λ (z : List ℕ). messages (mid ++ (z ++ input))) (found_parts 10 rest at found) ∙ ap (λ (z : List ℕ). messages (mid ++ z)) (append_assoc (take at rest) (10 ∷ drop (at + 1) rest) input) ∙ shifted (10 ∷ tail) ∙ line_end begun tail free in
     subst (λ (due : List Message). EndsEarly never s1 fault due t1 t2) (sym first) (stops (messages tail))
 
--- the device stopped in it
-pub broken_stop : {D A : Type 0} {G : Ghosts D} (old new : Exec D A G) (cause : RunCause) (fault : RunFault D) (source : Source) (rest : List Message) (part : List ℕ) → DeviceStops old new (LineBegins source part) cause
-    → FaultOf new cause fault → RunStops never old fault (Message.Line source ∷ rest) part
-broken_stop old new cause fault source rest part s f = halted old new cause fault (Message.Line source ∷ rest) part s f (λ at. at)
-
 -- ---- a line that is executed on a device and its output is executed in steps of the device
 
 -- The effects, faults and stops of an executor are those of a device and its output.
@@ -169,7 +160,7 @@ module _ {D A : Type 0} {G : Ghosts D} {X : Type 0} (exec : X → Exec D A G) (o
         text_sent a.added ++ c.text.rest,
         device_stops_then (exec x) (exec mid) (exec y) (Makes a.added) (Begins (request ∷ [])) (LineBegins source (text_sent a.added ++ c.text.rest)) cause f.0 d.1 (λ xs ys m b. line x mid c a xs ys m (inr (request, next, b))),
         until_rest cause (output x) (output mid) (output y) (text_sent a.added) c.text.rest f.1
-            (until_still cause (output mid) (output y) d.2 (ap (λ (t : OutputState). t.written) d.0) (ap (λ (t : OutputState). t.gathered) d.0)),
+            (subst (λ (t : OutputState). SaysUntil cause (output mid) t []) (sym d.0) (until_none cause (output mid) d.2)),
       )
   broken_at x mid y cause c a (StoppedBetween unended stops) =
       let f = follow exec output r.does on a.added x mid a.runs in let d = stop mid y cause stops in

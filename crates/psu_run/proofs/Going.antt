@@ -1,12 +1,33 @@
 -- From a device at rest to a later moment, step by step.
-use Rattle.std.proofs.Common.{◌≡◌, ℕ, ◌≤◌, List, [], ◌∷◌, ◌++◌, refl, sym, ap, ◌∙◌, subst, inl, inr, arith, ⊎_elim, Option}
-use Rattle.psu_run.proofs.Common.{Called, CallsOnWorld, DeviceStops, DiskAfter, DiskState, Entry, Exec, Ghosts, HasFailed, IdleStore, IsAlong, IsOf, Leads, Life, Ran, RunCause, RunStep, Serves, Since, SomeBreak, State, Walks, World, disk_at, disk_in, extent_in, failures_in, failures_of, is_broken, world_of}
-use Rattle.psu_exec.specs.World.{recorded}
-use Rattle.psu_run.specs.Runs.{Breaks, IsSound}
-use Rattle.psu_run.proofs.Moments.{since_idle, since_then}
-use Rattle.psu_run.proofs.OneList.{reached_walk}
-use Rattle.psu_run.proofs.Prefixes.{prefix_of_reached}
+use Rattle.std.proofs.Common.{◌≡◌, ℕ, ◌≤◌, List, [], ◌∷◌, ◌++◌, refl, sym, ap, ◌∙◌, subst, inl, inr, arith, ⊎_elim, Option, Some, None}
+use Rattle.psu_run.proofs.Common.{Breaks, Called, CallsOnWorld, DeviceStops, DiskAfter, DiskState, Entry, Exec, ForSome, Ghosts, HasFailed, IdleStore, IsAlong, IsCrashImage, IsNow, IsOf, IsSound, Leads, LeavesOnly, Life, Ran, RunCause, RunStep, Serves, Since, SomeBreak, State, Walks, World, and_then, disk_at, disk_in, extent_in, failures_in, failures_of, idle_disk, is_broken, recorded, started, weaken, world_of}
+use Rattle.psu_run.proofs.OneList.{reached_walk, prefix_of_reached}
 use Rattle.psu_run.proofs.Walking.{along_behind, along_here, along_more, breaks_split, walks_join}
+
+-- ---- the possible crash images at each moment, one part of a run after another
+
+pub since_then : {D : Type 0} (G : Ghosts D) (a b c : Option D) (P Q R : List ℕ → Type 0) → Since G a b P → Since G b c Q → ((x : List ℕ) → P x → R x) → ((x : List ℕ) → Q x → R x) → Since G a c R
+since_then G None b c P Q R p q one two = tt
+since_then G (Some a) None c P Q R p q one two = absurd p
+since_then G (Some a) (Some b) None P Q R p q one two = absurd q
+since_then G (Some a) (Some b) (Some c) P Q R p q one two =
+    let first = weaken (Ghosts.moment G) (Ghosts.left_since G) a b P R p one in
+    and_then (Ghosts.moment G) (Ghosts.left_since G) a b c R Q first q two
+
+pub since_as : {D : Type 0} (G : Ghosts D) (a b : Option D) (P R : List ℕ → Type 0) → Since G a b P → ((x : List ℕ) → P x → R x) → Since G a b R
+since_as G None b P R p turn = tt
+since_as G (Some a) None P R p turn = absurd p
+since_as G (Some a) (Some b) P R p turn = weaken (Ghosts.moment G) (Ghosts.left_since G) a b P R p turn
+
+-- the disk of the idle store stays
+pub since_idle : {D A : Type 0} {G : Ghosts D} (there : Option (IdleStore D A G)) (P : List ℕ → Type 0) → IsNow G → ((x : List ℕ) → IsCrashImage (disk_at there) x → P x) → Since G (disk_in there) (disk_in there) P
+since_idle None P now here = tt
+since_idle {D} {A} {G} (Some h) P now here = started (Ghosts.moment G) (Ghosts.left_since G) (idle_disk h) P (λ x since. here x (now (idle_disk h) x since))
+
+-- to the disk of the idle store afterwards
+pub since_to : {D A : Type 0} {G : Ghosts D} (there : Option (IdleStore D A G)) (disk : D) (P : List ℕ → Type 0) → (there ≡ None → ⊥)
+    → ForSome there (λ h. LeavesOnly (Ghosts.moment G) (Ghosts.left_since G) disk (idle_disk h) P) → Since G (Some disk) (disk_in there) P
+since_to x0 disk x2 some p = grind arith
 
 -- ---- failures
 
@@ -48,22 +69,12 @@ steps_then old mid new P Q R p q join = record {
 -- what is known of the steps, in other words
 pub ran_with : {D A : Type 0} {G : Ghosts D} (old : Exec D A G) (to : Option D) (P Q : List RunStep → World → Type 0) → Ran old to P
     → (Ghosts.honest G → (life : Life) (steps : List RunStep) (last : World) → Walks (world_of life old) steps last → (SomeBreak steps → HasFailed (failures_of old) (failures_in G to)) → P steps last → Q steps last) → Ran old to Q
-ran_with old to P Q p turn = record {
-  extent = p.extent;
-  later = p.later;
-  walked = λ h life. let a = p.walked h life in
-      record { steps = a.steps; last = a.last; walks = a.walks; is = turn h life a.steps a.last a.walks a.failed a.is; failed = a.failed; time = a.time };
-}
-
-pub ran_as : {D A : Type 0} {G : Ghosts D} (old : Exec D A G) (to : Option D) (P Q : List RunStep → World → Type 0) → Ran old to P
-    → ((life : Life) (steps : List RunStep) (last : World) → Walks (world_of life old) steps last → P steps last → Q steps last) → Ran old to Q
-ran_as old to P Q p turn = ran_with old to P Q p (λ h life steps last walks failed is. turn life steps last walks is)
+ran_with old to P Q p turn =
+    record { extent = p.extent; later = p.later; walked = λ h life. let a = p.walked h life in record { steps = a.steps; last = a.last; walks = a.walks; is = turn h life a.steps a.last a.walks a.failed a.is; failed = a.failed; time = a.time } }
 
 pub steps_as : {D A : Type 0} {G : Ghosts D} (old new : Exec D A G) (P Q : List RunStep → Type 0) → Leads old new P → ((steps : List RunStep) → P steps → Q steps) → Leads old new Q
-steps_as old new P Q p turn = record {
-  ran = ran_as old (disk_in new.idle_store) (λ steps last. IsOf new last × P steps) (λ steps last. IsOf new last × Q steps) p.ran (λ life steps last walks a. (a.0, turn steps a.1));
-  tied = p.tied;
-}
+steps_as old new P Q p turn =
+    record { ran = ran_with old (disk_in new.idle_store) (λ steps last. IsOf new last × P steps) (λ steps last. IsOf new last × Q steps) p.ran (λ h life steps last walks failed a. (a.0, turn steps a.1)); tied = p.tied }
 
 -- ---- no step, and one
 
@@ -116,6 +127,3 @@ steps_call {D} {A} {G} old new entry P serves there keeps stays sound calm p =
 pub device_stops_then : {D A : Type 0} {G : Ghosts D} (old mid new : Exec D A G) (P Q R : List RunStep → Type 0) (cause : RunCause) → Leads old mid P → DeviceStops mid new Q cause
     → ((xs ys : List RunStep) → P xs → Q ys → R (xs ++ ys)) → DeviceStops old new R cause
 device_stops_then old mid new P Q R cause p s join = record { leads = steps_then old mid new P Q R p s.leads join; why = λ before t. s.why before (p.tied before t) }
-
-pub device_stops_as : {D A : Type 0} {G : Ghosts D} (old new : Exec D A G) (P Q : List RunStep → Type 0) (cause : RunCause) → DeviceStops old new P cause → ((steps : List RunStep) → P steps → Q steps) → DeviceStops old new Q cause
-device_stops_as old new P Q cause s turn = record { leads = steps_as old new P Q s.leads turn; why = s.why }

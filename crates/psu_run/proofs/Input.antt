@@ -1,10 +1,6 @@
 -- The reads of an input, one after another.
-use Rattle.std.proofs.Common.{◌≡◌, ℕ, ◌+◌, ◌≤◌, List, [], ◌++◌, length, take, refl, subst, sym, arith, Option}
-use Rattle.std.proofs.KnownBytes.{Consumes-nil, Consumes-trans, Consumes-kept}
-use Rattle.std.proofs.lemmas.Grind.{common_steps}
-use Rattle.std.proofs.lemmas.List.{append-nil}
-use Rattle.std.specs.Io.KnownBytes.{Consumes, Keeps}
-use Rattle.psu_run.proofs.Common.{HasRead}
+use Rattle.std.proofs.Common.{◌≡◌, ℕ, ◌+◌, ◌≤◌, List, [], ◌++◌, length, take, refl, subst, sym, arith, append-nil, Option}
+use Rattle.psu_run.proofs.Common.{Consumes, Consumes-kept, Consumes-nil, Consumes-trans, HasRead, Keeps, common_steps}
 use Rattle.psu_run.specs.Lines.{Counts, Reads, ReadsNoFurther}
 
 counts_then : (m f n g : ℕ) (a b c : Option Reads) → Counts m f a b → Counts n g b c → Counts (m + n) (f + g) a c
@@ -45,11 +41,12 @@ pub no_reads : (piece : ℕ) (from : Option (List ℕ)) (r : Option Reads) → R
 no_reads piece from r = (0, 0, [], read_start 0 from r refl, omega arith, omega arith)
 
 -- a run whose last read returns no bytes
-pub further_none : (piece : ℕ) {made : ℕ} {seen : List ℕ} {from left : Option (List ℕ)} {r t : Option Reads} → HasRead (made + 1) made seen from left r t → made + 1 ≤ 1048576 → length seen ≤ 16777216
-    → ReadsNoFurther piece from left r t
-further_none piece {made} {seen} has few short = (made + 1, made, seen, has, few, omega (arith, short))
+pub further_none : (piece bytes next : ℕ) {made : ℕ} {seen : List ℕ} {from left : Option (List ℕ)} {r t : Option Reads} → HasRead (made + 1) made seen from left r t → next ≡ made + 1 → next ≤ 1048576 → length seen ≡ bytes
+    → bytes ≤ 16777216 → ReadsNoFurther piece from left r t
+further_none piece bytes next {made} {seen} has is few taken short = (made + 1, made, seen, has, omega (arith, is, few), omega (arith, taken, short))
 
 -- a run whose last read returns bytes
-pub further_more : (piece n : ℕ) {made : ℕ} (seen buf : List ℕ) {from left : Option (List ℕ)} {r t : Option Reads} → HasRead made made (seen ++ take n buf) from left r t → made ≤ 1048576
-    → length seen ≤ 16777216 → n ≤ length buf → n ≤ piece → ReadsNoFurther piece from left r t
-further_more piece n {made} seen buf has few short bound fits = (made, made, seen ++ take n buf, has, few, grind (arith, common_steps, short, bound, fits))
+pub further_more : {made : ℕ} (piece n bytes next : ℕ) (seen buf : List ℕ) {from to left : Option (List ℕ)} {r s t : Option Reads} → HasRead made made seen from to r s → Consumes to left (take n buf) → (1 ≤ n → Counts 1 1 s t) → (n ≡ 0 → ⊥)
+    → n ≤ length buf → next ≡ made + 1 → next ≤ 1048576 → length seen ≡ bytes → bytes ≤ 16777216 → length buf ≡ piece → ReadsNoFurther piece from left r t
+further_more piece n bytes next seen buf has took counts some bound is few taken short fits =
+    (next, next, seen ++ take n buf, read_more n buf has took counts some bound is, few, grind (arith, common_steps, taken, short, bound, fits))

@@ -3,8 +3,6 @@ pub mod Alone
 pub mod MessagesAlone
 pub mod Walking
 pub mod OneList
-pub mod Prefixes
-pub mod Moments
 pub mod Going
 pub mod SessionOne
 pub mod UnitEnds
@@ -13,6 +11,5 @@ pub mod Feeding
 pub mod Input
 pub mod Reading
 pub mod Cuts
-pub mod Fronts
 pub mod Readings
 pub mod Scripts

@@ -1,13 +1,10 @@
 -- Where nothing goes wrong, the messages of an input have one text, the script's.
 use Rattle.std.proofs.Common.{◌≡◌, ℕ, zero, suc, ◌||◌, ◌&&◌, Bool, true, false, List, [], ◌∷◌, ◌++◌, drop, refl, sym, ap, subst, append-nil, if◌then◌else◌, None, Some, ◌⊎◌, ◌==◌, ◌∙◌, subst₂, inl, inr, arith, append_assoc, map}
 use Rattle.psu_lex.specs.Bytes.{all_white, is_closed}
-use Rattle.psu_run.proofs.Common.{AskedBy, Called, Contents, Effect, Expand, Fault, GaveBack, HasOutcome, IsScript, IsTry, IsUnit, Job, LineRuns, Makes, Message, Part, PowersOn, Reopens, Reply, Request, Rest, Restarted, RunStep, Runs, ScriptAlone, Scripted, Sent, Source, Speaks, SpeaksInside, Spoken, State, Took, Walks, World, at_start, first_onto, has, items_of, message_of, messages, parts_of, reads_left, response, text_sent, with_answer}
+use Rattle.psu_run.proofs.Common.{AskedBy, Called, Contents, Effect, Expand, Fault, GaveBack, HasOutcome, IsAnswered, IsScript, IsSilent, IsTry, IsUnit, Job, LineRuns, Makes, Message, Part, PowersOn, Reopens, Reply, Request, Rest, Restarted, RunStep, Runs, ScriptAlone, Scripted, Sent, Source, Speaks, SpeaksInside, Spoken, State, Took, Walks, World, answer_in, answers, at_start, first_onto, has, items_of, message_of, messages, nat_tests, opened, parts_of, reads_left, represents_one, response, text_sent, with_answer, ⊤}
 use Rattle.psu_lex.specs.Message.{Reads, Token, Separator, Faulty, ended, fault_of, next_first, text_of, units_of}
 use Rattle.psu_run.proofs.Cuts.{has_none}
-use Rattle.std.proofs.lemmas.Bool.Decides.{nat_tests}
-use Rattle.std.specs.Prelude.{⊤}
-use Rattle.psu_messages.specs.Answers.{IsAnswered, IsSilent, answer_in, answers}
-use Rattle.psu_messages.specs.Effects.{Executed, Settled, needs}
+use Rattle.psu_messages.specs.Effects.{Executed, Settled}
 use Rattle.psu_messages.specs.Messages.{NoMessage, OneMore, AreMessages, IsAskedIn, OverIsMessages}
 use Rattle.psu_messages.specs.Turns.{NoneInside, OneInside, Untried, Again, NoUnit, Plain, Expanded, Ended, InsideDone, IsInside, Tried, UnitsDone, acts}
 use Rattle.psu_messages.specs.Units.{Text}
@@ -15,9 +12,7 @@ use Rattle.psu_messages.proofs.Answering.{answers_append}
 use Rattle.psu_run.proofs.Alone.{Calmly, Still, calmly_as, outcome, parted, unit_alone, take_alone}
 use Rattle.psu_run.proofs.Readings.{AreLeft, AskedFrom, Holds, Ones, SomeUnits, asked_all, asked_next, asked_none, held_by, left_all, left_next, left_none}
 use Rattle.std.proofs.lemmas.Bool.{cases_Bool}
-use Rattle.psu_items.proofs.Standing.{represents_one}
 use Rattle.psu_nv.proofs.Determining.{same_contents}
-use Rattle.psu_exec.specs.Calls.{opened}
 use Rattle.psu_messages.specs.Effects as effects
 use Rattle.psu_messages.specs.Units as units
 
@@ -179,9 +174,9 @@ start_still image new p =
     subst (Still (at_start p.on.limit p.on.start)) (sym p.opens.1.4) (record { state = state; whole = refl; kept = sound; sound = sound; disk = rw p.opens.1.3 p.start.disk })
 
 -- or powered on again
-restart_alone : (r : Rest) (w new : World) → Still r w → PowersOn w.disk.bytes new → Still (restarted r) new
-restart_alone r w new q p =
-    let same = represents_one p.on.limit r.state.flush.limit (items_of p.on.start) (items_of r.stored) w.disk.bytes p.found (q.disk w.disk.bytes (reads_left w.disk)) in
+restart_alone : (r : Rest) (w new : World) → Still r w → Walks w (Restarted ∷ []) new → Still (restarted r) new
+restart_alone r w new q (on, (whole, at), here) =
+    let p = subst (PowersOn w.disk.bytes) (sym here) at in let same = represents_one p.on.limit r.state.flush.limit (items_of p.on.start) (items_of r.stored) w.disk.bytes p.found (q.disk w.disk.bytes (reads_left w.disk)) in
     subst₂ (λ (n : ℕ) (c : Contents). Still (at_start n c) new) same.0 (same_contents p.on.start r.stored p.start.sound q.kept same.1) (start_still w.disk.bytes new p)
 
 -- the store is not broken, so it is not reopened
@@ -269,10 +264,7 @@ module _ (ones : Ones) (some : SomeUnits) (over_is_messages : OverIsMessages) wh
   messages_alone (Message.Power ∷ ms) r w last text steps whole q (first, more, made, others, (none, reopening, reopens, all), rest, is, both) c =
       let a = parted made others both c in let b = parted reopening (Restarted ∷ []) all a.1 in
       subst (Scripted (restarted r) ms) (sym (is ∙ ap (λ (z : List ℕ). z ++ more) none))
-      (messages_alone ms (restarted r) a.0 last more others whole (power b.0 a.0 (subst (λ (z : World). Still r z) (sym (reopened_alone q reopens b.1)) q) b.2.walks) rest a.2)
-    where
-      power : (mid new : World) → Still r mid → Walks mid (Restarted ∷ []) new → Still (restarted r) new
-      power mid new q (on, (whole, p), here) = restart_alone r mid new q (subst (PowersOn mid.disk.bytes) (sym here) p)
+      (messages_alone ms (restarted r) a.0 last more others whole (restart_alone r b.0 a.0 (subst (λ (z : World). Still r z) (sym (reopened_alone q reopens b.1)) q) b.2.walks) rest a.2)
   messages_alone (Message.Line source ∷ ms) r w last text steps whole q (first, more, made, others, one, rest, is, both) c =
       let a = parted made others both c in let s = line_alone r source w a.0 first made whole.0 q one a.1 in
       (s.0, s.1, more, s.2, s.3, messages_alone ms s.1.rest a.0 last more others whole.1 s.5 rest a.2, is ∙ ap (λ (z : List ℕ). z ++ more) s.4)

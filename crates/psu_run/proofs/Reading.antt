@@ -1,24 +1,18 @@
 -- The output of a piece is written, one piece after another, up to the end of the input.
 use Rattle.std.proofs.Common.{◌≡◌, ◌≢◌, ℕ, ◌+◌, ◌-◌, ◌<◌, ◌≤◌, false, List, [], ◌∷◌, ◌++◌, length, take, drop, refl, sym, ap, ◌∙◌, subst, inr, arith, append_assoc, Some, None, Option, length-append, IfSome, IsErrAnd, Result, inl}
-use Rattle.std.proofs.lemmas.Grind.{common_steps}
-use Rattle.std.proofs.lemmas.List.{append-nil}
-use Rattle.std.proofs.Math.Seq.{take-add}
+use Rattle.std.proofs.lemmas.List.{append-nil, nil_from_length}
 use Rattle.std.proofs.KnownBytes.{Appends-trans, Consumes-trans, Consumes-nil}
 use Rattle.std.specs.Io.KnownBytes.{Appends, Consumes, IsAtEnd}
 use Rattle.std.specs.Io.{StartsWith}
 use Rattle.std.specs.Option.{ForSome}
 use Rattle.psu_exec.proofs.Moments.{keeps_map}
-use Rattle.psu_run.proofs.Common.{Answers, AreCalm, Brings, DiskState, EachRepresents, EndsEarly, Exec, FaultOf, Fed, Ghosts, HasFailed, IsAlong, IsFlush, IsNow, IsOf, IsOfRun, IsOldOrSame, IsScript, Leads, LeavesOnly, Message, OutputState, PowersOn, Ran, RanAll, RunCause, RunFault, RunStep, RunStops, Runs, RunsUpTo, Says, SaysUntil, ScriptAlone, Since, StopsFor, Walks, World, Write, WritesShort, born, disk_in, failures_of, has, held, idle_disk, items_of, message_of, messages, state_in, world_of}
-use Rattle.psu_run.specs.Progress.{IsWrittenBefore}
-use Rattle.psu_run.specs.Runs.{never, RunTo, WritesFirst, WritesRun, WritesUntil, disk_of}
-use Rattle.psu_run.proofs.Cuts.{line_end, line_last}
+use Rattle.psu_run.proofs.Common.{Answers, AreCalm, Brings, DiskState, EachRepresents, EndsEarly, Exec, FaultOf, Fed, Ghosts, HasFailed, IsAlong, IsFlush, IsNow, IsOf, IsOfRun, IsOldOrSame, IsScript, IsWrittenBefore, Leads, LeavesOnly, Message, OutputState, PowersOn, Ran, RanAll, RunCause, RunFault, RunStep, RunStops, Runs, RunsUpTo, Says, SaysUntil, ScriptAlone, Since, StopsFor, Walks, World, Write, WritesShort, born, common_steps, disk_in, failures_of, has, held, idle_disk, items_of, message_of, messages, state_in, take-add, world_of}
+use Rattle.psu_run.specs.Runs.{never, RunTo, WritesFirst, WritesRun, disk_of}
+use Rattle.psu_run.proofs.Cuts.{line_end, line_last, longer, says_join, starts_after, until_none}
 use Rattle.psu_run.proofs.Feeding.{Ends, ends_then, stopped_then}
-use Rattle.psu_run.proofs.Fronts.{longer, says_join, starts_after, until_none}
-use Rattle.psu_run.proofs.Going.{ran_then}
+use Rattle.psu_run.proofs.Going.{ran_then, since_then, since_to}
 use Rattle.psu_run.proofs.Stopping.{IsOther, RunsAll, Stops, behind, runs_whole, stops_for, stops_now, stops_then, whole_up_to}
-use Rattle.psu_run.proofs.Moments.{since_then, since_to}
-use Rattle.psu_run.proofs.OneList.{left_leads, reached_on, reached_walk, run_leads}
-use Rattle.psu_run.proofs.Prefixes.{flushed_stands, leaves_prefix}
+use Rattle.psu_run.proofs.OneList.{left_leads, reached_on, reached_walk, run_leads, flushed_stands, leaves_prefix}
 use Rattle.psu_run.proofs.Walking.{calm_split, flush_begins, walk_running, walks_split}
 
 -- ---- the output of a piece is written
@@ -78,11 +72,7 @@ last_done line next done begun free none is =
     let one : message_of line ∷ [] ≡ done ++ messages (next ++ []) = sym (line_end line [] free) ∙ is [] in
     let many : 2 ≡ length done + 1 = ap length two ∙ length-append done (message_of next ∷ []) in
     let few : 1 ≡ length done + length (messages (next ++ [])) = ap length one ∙ length-append done (messages (next ++ [])) in
-    line_last line begun free ∙ one ∙ ap (λ (z : List Message). done ++ z) (nothing (messages (next ++ [])) (omega (arith, many, few))) ∙ append-nil done
-  where
-    nothing : (l : List Message) → length l ≡ 0 → l ≡ []
-    nothing [] e = refl
-    nothing (m ∷ l) e = absurd (omega (arith, e))
+    line_last line begun free ∙ one ∙ ap (λ (z : List Message). done ++ z) (nil_from_length (messages (next ++ [])) (omega (arith, many, few))) ∙ append-nil done
 
 pub last_answered : {D A : Type 0} {G : Ghosts D} (line next : List ℕ) (s s1 : Exec D A G) (a b : OutputState) → (line ≡ [] → ⊥) → has 10 line ≡ false → has 10 next ≡ false → Fed line (10 ∷ []) next s s1 a b → Answers (messages line) s s1 a b
 last_answered line next s s1 a b begun free none p = subst (λ (m : List Message). Answers m s s1 a b) (sym (last_done line next p.0 begun free none p.1)) p.2
@@ -209,12 +199,7 @@ module _ {D A : Type 0} {G : Ghosts D} (line seen : List ℕ) {s s1 : Exec D A G
 
 -- all of the input was taken
 pub read_all : (most : ℕ) (seen : List ℕ) (from to next : Option (List ℕ)) → Consumes from to seen → Consumes to next [] → IsAtEnd next → length seen ≤ most → IfSome from (λ input. length input ≤ most)
-read_all most seen None to next p q e le = tt
-read_all most seen (Some x) None next p q e le = absurd p
-read_all most seen (Some x) (Some y) None p q e le = absurd q
-read_all most seen (Some x) (Some y) (Some z) p q e le =
-    let is : x ≡ seen = p ∙ ap (λ (l : List ℕ). seen ++ l) (q ∙ e) ∙ append-nil seen in
-    subst (λ (l : List ℕ). length l ≤ most) (sym is) le
+read_all most seen x0 to next p q e le = let all = append-nil seen in grind arith
 
 pub taken_more : (seen buf : List ℕ) (count a b c : ℕ) → length seen ≡ a → count ≤ length buf → b ≡ a → c ≡ b + count → length (seen ++ take count buf) ≡ c
 taken_more seen buf count a b c taken bound same more = grind (arith, common_steps, taken, bound, same, more)
@@ -224,10 +209,6 @@ taken_more seen buf count a b c taken bound same more = grind (arith, common_ste
 -- the disk of a fault that is propagated
 pub passed_disk : {D : Type 0} (r : Result D (RunFault D)) (fault : RunFault D) (P : D → Type 0) → IsErrAnd r (λ reported. reported ≡ fault) → P fault.disk → P (disk_of r)
 passed_disk x0 fault x2 is x4 = grind arith
-
--- the text that was output is written
-wrote : (cause : RunCause) (u v : Option (List ℕ)) (text : List ℕ) → SaysUntil cause (held u []) (held v []) text → WritesUntil cause u v text
-wrote cause u v text s = record { whole = λ e. let p = s.whole e in subst (Appends u v) (sym (append-nil p.0) ∙ p.2) p.1; missing = s.missing }
 
 -- the text that is written for a known input where nothing goes wrong
 script_of : ScriptAlone → (from : Option (List ℕ)) (image : List ℕ) (due : List Message) (text : List ℕ) (steps : List RunStep) (first last : World) → Brings from due → PowersOn image first → Runs due text steps → Walks first steps last → AreCalm steps
@@ -248,7 +229,7 @@ module _ {D A : Type 0} {G : Ghosts D} (s : Exec D A G) (image : List ℕ) (befo
       let ended = left_leads a.last (Ghosts.state G fault.disk) p.left in record {
         run = run_to due text brought a.steps a.last a.walks;
         stops = p;
-        wrote = wrote fault.cause u v text said;
+        wrote = record { whole = λ e. let p = said.whole e in subst (Appends u v) (sym (append-nil p.0) ∙ p.2) p.1; missing = said.missing };
         kept = leaves_prefix a.last (Ghosts.state G fault.disk) (reached_walk a.steps (world_of (born s) s) a.last a.walks (reached_on image (world_of (born s) s) starts)) p.left;
         stopped = ended.0;
         behind = ended.1;

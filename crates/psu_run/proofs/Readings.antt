@@ -1,11 +1,7 @@
 -- The readings of units, and the requests of what is executed, from a place on.
 use Rattle.std.proofs.Common.{◌≡◌, ℕ, Bool, List, [], refl, sym, ap, ◌∙◌, Option, None, Some, Result, Ok, Err, ◌+◌, false, ◌∷◌, ◌++◌, take, drop, subst, arith}
-use Rattle.psu_run.proofs.Common.{AreAsked, AreRequests, AskedBy, Command, Datum, Fault, HoldsParameters, IsRequest, MacroCall, Part, Reads, Request, ScpiError, Source, Syntax, SyntaxCalls, SyntaxGives, SyntaxMoves, path_at}
-use Rattle.psu_lex.specs.Message.{IsMessage}
-use Rattle.psu_lex.specs.Syntax.{HeaderParts, IsHeader, header_text}
+use Rattle.psu_run.proofs.Common.{AreAsked, AreRequests, AskedBy, Command, Datum, Fault, HeaderParts, HoldsParameters, IsHeader, IsMessage, IsRequest, MacroCall, Part, Reads, Request, ScpiError, Source, Syntax, SyntaxCalls, SyntaxGives, SyntaxMoves, drop-drop, drop_all, header_text, path_at, take-add}
 use Rattle.psu_messages.specs.Units.{Root, Behind, Asks, HasNone, IsBehind, IsUnit, LeadsToPath, faulty}
-use Rattle.std.proofs.lemmas.List.{drop-drop, drop_all}
-use Rattle.std.proofs.Math.Seq.{take-add}
 use Rattle.psu_messages.specs.Units as units
 
 -- every list of bytes has units

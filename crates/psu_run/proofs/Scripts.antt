@@ -1,23 +1,19 @@
 -- Every input has a script, and only one.
 use Rattle.std.proofs.Common.{arith, ◌≡◌, ℕ, Bool, true, false, List, [], ◌∷◌, ◌++◌, refl, subst, Option, None, Some, Result, Ok, Err, is_ok, sym, ap, ◌∙◌}
-use Rattle.std.specs.Prelude.{⊤}
 use Rattle.psu_lex.specs.Macros.{ExpandsTo}
-use Rattle.psu_run.proofs.Common.{AreAsked, AreRequests, AskedBy, ByMacro, ByMeaning, Command, Datum, Early, Expand, Fault, HasOutcome, HasOutcomeFrom, HoldsParameters, IsRequest, Later, MacroCall, Message, Parked, Part, Reads, Replies, Reply, Request, Rest, ScpiError, Scripted, Source, Speaks, SpeaksInside, Spoken, State, Syntax, SyntaxCalls, SyntaxGives, SyntaxMoves, UnitOutcome, after_reply, at_start, flushed, path_at, response, with_answer}
+use Rattle.psu_run.proofs.Common.{AreAsked, AreRequests, AskedBy, ByMacro, ByMeaning, Command, Datum, Early, Expand, Fault, HasOutcome, HasOutcomeFrom, HoldsParameters, IsRequest, Later, MacroCall, Message, Parked, Part, Reads, Replies, Reply, Request, Rest, ScpiError, Scripted, Source, Speaks, SpeaksInside, Spoken, State, Syntax, SyntaxCalls, SyntaxGives, SyntaxMoves, UnitOutcome, after_reply, after_unit, answer_call, answer_meant, at_start, called, faulty, flushed, here, is_later, meant, path_at, response, with_answer, ⊤}
+use Rattle.psu_tree.specs.Reading.{SyntaxReads}
 use Rattle.psu_lex.specs.Names.{is_label}
-use Rattle.psu_lex.specs.Shown.{HoldsData, TailLists, HoldsFound}
+use Rattle.psu_lex.specs.Shown.{HoldsData, TailLists}
 use Rattle.psu_lex.specs.Syntax.{IsBefore, Lists, UnitReads}
 use Rattle.psu_lex.specs.declared.data.Data.{Data}
 use Rattle.psu_lex.specs.declared.scpi_error.ScpiError.TheVariants.{MacroRecursionError}
 use Rattle.psu_tree.specs.Path.{path_after}
-use Rattle.psu_tree.specs.Reading.{SyntaxReads}
 use Rattle.psu_instrument.specs.Macros.{ExpandsAt, written, label_in}
-use Rattle.psu_exec.specs.Device.{after_unit, answer_call, answer_meant, called, here, is_later, meant}
-use Rattle.psu_messages.specs.Units.{faulty}
 use Rattle.psu_messages.specs.Units as units
 use Rattle.psu_run.specs.Script.{Expands, SpeaksReply, waited}
 use Rattle.psu_run.proofs.Alone.{outcome}
 use Rattle.psu_run.proofs.Readings.{Holds, SomeUnits, held_by, Ones, one_next}
-use Rattle.psu_lex.specs.declared.data.Found.{Found}
 use Rattle.psu_lex.proofs.DataLists.{one_list}
 
 -- Bytes have units, a unit reads in some way at a path, and a body has an expansion, or an error in its place.
@@ -125,10 +121,6 @@ module _ (some : Somes) where
       let requests = some_asking source in let all = some_line requests.0 r [] requests.1 in let rest = some_script ms all.0.rest in
       (response all.0.answers ++ rest.0, (requests.0, all.0, rest.0, requests.2, all.1, rest.1, refl))
 
--- no body has two expansions
-abbrev pub OneExpansion : Type 0
-OneExpansion = (body : List ℕ) (args : List (List ℕ)) (result other : Result (List ℕ) ScpiError) → ExpandsTo body args result → ExpandsTo body args other → result ≡ other
-
 -- ---- the data of calls
 
 one_tail : (list others : List Datum) (tail : List ℕ) → TailLists tail list → TailLists tail others → list ≡ others
@@ -136,12 +128,9 @@ one_tail [] [] tail l k = refl
 one_tail (d ∷ list) (e ∷ more) tail (rest, is, l) (text, is_too, k) = let same : text ≡ rest = cc in one_list (d ∷ list) (e ∷ more) rest l (subst (λ (z : List ℕ). Lists z (e ∷ more)) same k)
 one_tail list others tail l k = cc
 
-one_found : (found : Option Found) (list others : List Datum) → HoldsFound found list → HoldsFound found others → list ≡ others
-one_found found list others l k = grind (arith, one_tail)
-
 same_data : (given : Result Syntax ScpiError) (a b : Option MacroCall) → SyntaxCalls given a → SyntaxCalls given b → label_in a ≡ label_in b → (list others : List Datum) → HoldsParameters a list → HoldsParameters b others
     → list ≡ others
-same_data given a b c d label list others l k = grind (arith, one_found)
+same_data given a b c d label list others l k = grind (arith, one_tail)
 
 -- ---- requests that read alike
 
@@ -177,11 +166,8 @@ one_asking o (units.Text bytes) requests others a b = one_asked o false bytes re
 
 -- ---- replies
 
-called_same : {a b : Request} (s : State) → Same a b → called s a ≡ called s b
-called_same s same = grind arith
-
-later_same : {a b : Request} (s : State) → Same a b → is_later s 1 a ≡ is_later s 1 b
-later_same s same = grind arith
+asked_same : {a b : Request} (s : State) → Same a b → (called s a ≡ called s b) × (is_later s 1 a ≡ is_later s 1 b)
+asked_same s same = (grind arith, grind arith)
 
 -- the result of a unit depends only on its reading and its reply
 unit_alike : {a b : Request} (s : State) (reply : Reply) → Same a b → after_unit s 1 a reply ≡ after_unit s 1 b reply
@@ -191,7 +177,8 @@ reply_alike : {a b : Request} (r : Rest) (reply : Reply) → Same a b → after_
 reply_alike r Parked same = ap (λ (s : State). waited (flushed (record r { state = s }))) (unit_alike r.state Parked same)
 reply_alike r reply same = ap (λ (s : State). outcome (record r { state = s }) reply) (unit_alike r.state reply same)
 
-module _ (o : Ones) (one : OneExpansion) where
+-- `one`: no body has two expansions
+module _ (o : Ones) (one : (body : List ℕ) (args : List (List ℕ)) (result other : Result (List ℕ) ScpiError) → ExpandsTo body args result → ExpandsTo body args other → result ≡ other) where
   one_given : (inside : Bool) (body : List ℕ) (args : List (List ℕ)) (given other : Result (List ℕ) ScpiError) → ExpandsAt inside body args given → ExpandsAt inside body args other → given ≡ other
   one_given true body args given other g h = g ∙ sym h
   one_given false body args given other g h = one body args given other g h
@@ -203,14 +190,14 @@ module _ (o : Ones) (one : OneExpansion) where
 
   one_reply : {s : State} {a b : Request} {x y : Reply} → Same a b → Replies s a x → Replies s b y → x ≡ y
   one_reply same (Early p) (Early q) = refl
-  one_reply {s} same (Early p) (ByMacro q body g h) = cc (p, q, later_same s same)
-  one_reply {s} same (Early p) (ByMeaning q g h) = cc (p, q, later_same s same)
-  one_reply {s} same (ByMacro p body f e) (Early q) = cc (p, q, later_same s same)
+  one_reply {s} same (Early p) (ByMacro q body g h) = cc (p, q, (asked_same s same).1)
+  one_reply {s} same (Early p) (ByMeaning q g h) = cc (p, q, (asked_same s same).1)
+  one_reply {s} same (ByMacro p body f e) (Early q) = cc (p, q, (asked_same s same).1)
   one_reply {s} {a} {b} {x} {y} same (ByMacro p body f e) (ByMacro q other g h) =
-      let is : other ≡ body = cc (f, g, called_same s same) in one_call same e (subst (λ (z : List ℕ). Expands b z y) is h)
-  one_reply {s} same (ByMacro p body f e) (ByMeaning q g h) = cc (f, g, called_same s same)
-  one_reply {s} same (ByMeaning p f e) (Early q) = cc (p, q, later_same s same)
-  one_reply {s} same (ByMeaning p f e) (ByMacro q body g h) = cc (f, g, called_same s same)
+      let is : other ≡ body = cc (f, g, (asked_same s same).0) in one_call same e (subst (λ (z : List ℕ). Expands b z y) is h)
+  one_reply {s} same (ByMacro p body f e) (ByMeaning q g h) = cc (f, g, (asked_same s same).0)
+  one_reply {s} same (ByMeaning p f e) (Early q) = cc (p, q, (asked_same s same).1)
+  one_reply {s} same (ByMeaning p f e) (ByMacro q body g h) = cc (f, g, (asked_same s same).0)
   one_reply same (ByMeaning p f e) (ByMeaning q g h) = let reading = same.reading in grind arith
 
   -- ---- units

@@ -18,20 +18,13 @@ use Rattle.psu_messages.specs.Executions.Reaches.{Begins as Beginning}
 use Rattle.psu_run.specs.Progress.{IsHaltedBy, extent_of}
 use Rattle.psu_run.specs.Runs.{IsAtPower, IsByFailure, IsWornOut, NextBegins, NotStarted, cause_of, never}
 use Rattle.psu_run.specs.declared.run_cause.RunCause.TheVariants.{Device, Open, Read, TooLong}
-use Rattle.psu_run.proofs.Going.{failed_before, failed_on, steps_as, steps_none, device_stops_as, ran_then, ran_with, steps_then}
+use Rattle.psu_run.proofs.Going.{failed_before, failed_on, steps_as, steps_none, ran_then, ran_with, steps_then, since_as, since_to}
 use Rattle.psu_run.proofs.Walking.{along_here, breaks_split, flush_begins, job_begins}
 use Rattle.std.specs.Option.{ForSome}
 use Rattle.psu_items.proofs.Opening.{still_represents}
-use Rattle.psu_run.proofs.Moments.{since_as, since_to}
-use Rattle.psu_run.proofs.Prefixes.{prefix_of_map}
+use Rattle.psu_run.proofs.OneList.{prefix_of_map}
 
 -- ---- why
-
--- contents that an image represents fit
-fits_on : (image : List ℕ) (limit : ℕ) (contents : Contents) → IsContents contents → Represents image limit (items_of contents) → fits limit contents ≡ true
-fits_on image limit contents sound stands =
-    let cheap = represents_within image limit (items_of contents) stands in
-    let few = sound.most_macros in grind (arith, nat_tests, cheap, few)
 
 -- an image that represents contents powers on, unless a call failed or memory ran out
 stands_stops : (since before now : ℕ) (rest : List Message) (last : World) (image left : List ℕ) (limit : ℕ) (contents : Contents) (why : StartFault) → since ≤ before → IsContents contents
@@ -42,7 +35,8 @@ stands_stops since before now rest last image left limit contents (Start start.B
 stands_stops since before now rest last image left limit contents (Start start.BadVersion) later sound stands why = absurd (represents_unrefused image limit (items_of contents) BadImage.BadVersion stands why)
 stands_stops since before now rest last image left limit contents (Start start.BadItems) later sound stands why =
     let one = represents_one limit why.limit (items_of contents) why.map image stands why.stands in
-    absurd (why.none contents sound (subst (λ (n : ℕ). fits n contents ≡ true) one.0 (fits_on image limit contents sound stands)) one.1)
+    let cheap = represents_within image limit (items_of contents) stands in let few = sound.most_macros in let fitting : fits limit contents ≡ true = grind (arith, nat_tests, cheap, few) in
+    absurd (why.none contents sound (subst (λ (n : ℕ). fits n contents ≡ true) one.0 fitting) one.1)
 stands_stops since before now rest last image left limit contents start_fault.Memory later sound stands why = tt
 
 pub restart_stops : (since before now : ℕ) (rest : List Message) (last : World) (disk : DiskState) (left : List ℕ) (why : StartFault) (f : Flush) → since ≤ before → IsConsistent f
@@ -64,10 +58,6 @@ halted_fails {D} {A} {G} before new cause fault f why = record {
     by : (cause : RunCause) → IsHaltedBy before new cause → cause ≡ Open start.Device → ⊥
     by (Open c) why e = why
     by cause why e = cc
-
--- since an earlier count
-pub since_earlier : {D : Type 0} {G : Ghosts D} (since before : ℕ) (fault : RunFault D) → since ≤ before → IsByFailure G before fault → IsByFailure G since fault
-since_earlier since before fault later w = record { opening = λ e. failed_before _ _ _ later (w.opening e); device = λ e whole. failed_before _ _ _ later (w.device e whole); worn = w.worn }
 
 -- the device gives no such cause
 abbrev pub IsOther : (RunCause → Type 0) → RunCause → Type 0
@@ -199,17 +189,8 @@ pub stops_for : {D A : Type 0} {G : Ghosts D} (by_input other : RunCause → Typ
     → StopsFor other before (Ghosts.failures G fault.disk) rest last (Ghosts.state G fault.disk).bytes cause)
     → ((before : ℕ) → IsByFailure G before fault → IsByFailure G before (record fault { cause = cause })) → RunStops other old (record fault { cause = cause }) due text
 stops_for {D} {A} {G} by_input other old fault cause due text s turn counted = record {
-  ran = ran_with old (Some fault.disk) (Stops G by_input (failures_of old) fault due text) (Stops G other (failures_of old) (record fault { cause = cause }) due text) s.ran (λ h life steps last walks failed p. record {
-    rest = p.rest;
-    runs = p.runs;
-    count = p.count;
-    later = p.later;
-    failed = p.failed;
-    later_then = p.later_then;
-    failed_then = p.failed_then;
-    why = turn p.count p.rest last p.why;
-    left = p.left;
-  });
+  ran = ran_with old (Some fault.disk) (Stops G by_input (failures_of old) fault due text) (Stops G other (failures_of old) (record fault { cause = cause }) due text) s.ran
+      (λ h life steps last walks failed p. record { rest = p.rest; runs = p.runs; count = p.count; later = p.later; failed = p.failed; later_then = p.later_then; failed_then = p.failed_then; why = turn p.count p.rest last p.why; left = p.left });
   counted = λ before t. counted before (s.counted before t);
 }
 
@@ -217,7 +198,7 @@ stops_for {D} {A} {G} by_input other old fault cause due text s turn counted = r
 
 -- a flush that stops
 pub flush_stops : {D A : Type 0} {G : Ghosts D} (old new : Exec D A G) (cause : RunCause) (fault : RunFault D) → DeviceStops old new (Begins []) cause → FaultOf new cause fault → RunStops never old fault [] []
-flush_stops old new cause fault s f = halted old new cause fault [] [] (device_stops_as old new (Begins []) (NextBegins [] []) cause s (λ steps b. (b, refl))) f (λ at. at)
+flush_stops old new cause fault s f = halted old new cause fault [] [] (record { leads = steps_as old new (Begins []) (NextBegins [] []) s.leads (λ steps b. (b, refl)); why = s.why }) f (λ at. at)
 
 -- a flush that leaves changes
 pub unflushed_stops : {D A : Type 0} {G : Ghosts D} (old new : Exec D A G) (fault : RunFault D) → Leads old new IsFlush → FaultOf new Device fault
@@ -305,7 +286,7 @@ pub power_stops : {D A : Type 0} {G : Ghosts D} (old mid : Exec D A G) (disk : D
 power_stops {D} {A} {G} old mid disk fault rest p ends rose consistent why by q =
     let same : failures_of mid ≡ Ghosts.failures G disk = ap (λ (z : Option D). failures_in G z) ends.same in
     let low : failures_of old ≤ Ghosts.failures G disk = let one = p.ran.later in omega (arith, one, same) in record {
-      counted = λ before t. let u = (p.tied before t).0 in since_earlier before (Ghosts.failures G disk) fault (omega (arith, u, same)) by;
+      counted = λ before t. let u = (p.tied before t).0 in let earlier : before ≤ Ghosts.failures G disk = omega (arith, u, same) in record { opening = λ e. failed_before _ _ _ earlier (by.opening e); device = λ e whole. failed_before _ _ _ earlier (by.device e whole); worn = by.worn };
       ran = ran_then old mid (Some fault.disk) Reopens (λ steps last. Ghosts.honest G × (steps ≡ []) × IsLeftBy last (Ghosts.state G fault.disk)) (Stops G never (failures_of old) fault (Message.Power ∷ rest) []) p q
           (λ xs ys last broke r e. record {
             rest = Message.Power ∷ rest;
@@ -325,6 +306,6 @@ power_stops {D} {A} {G} old mid disk fault rest p ends rose consistent why by q 
 pub reopen_stops : {D A : Type 0} {G : Ghosts D} (old new : Exec D A G) (cause : RunCause) (fault : RunFault D) (rest : List Message) → DeviceStops old new (Begins []) cause → FaultOf new cause fault
     → (cause ≡ Device → (before : ℕ) → IsTied before old → HasFailed before (failures_of new)) → RunStops never old fault (Message.Power ∷ rest) []
 reopen_stops {D} {A} {G} old new cause fault rest s f failed =
-    stops_at never old new fault (Message.Power ∷ rest) [] (device_stops_as old new (Begins []) (NextBegins (Message.Power ∷ rest) []) cause s (λ steps b. (b, refl))).leads f.disk
+    stops_at never old new fault (Message.Power ∷ rest) [] (steps_as old new (Begins []) (NextBegins (Message.Power ∷ rest) []) s.leads (λ steps b. (b, refl))) f.disk
     (λ h life. let tied : IsTied (failures_of old) old = (omega arith, inl h) in let why = s.why (failures_of old) tied in let broke : cause ≡ Device → HasFailed (failures_of old) (failures_of new) = λ e. failed e (failures_of old) tied in grind arith)
     (λ before t. halted_fails before new cause fault f (s.why before t))

@@ -1,16 +1,9 @@
 -- The steps of a job, of a flush, of a wait and of a unit; the changes that a flush leaves unflushed; and why a unit may be `Later`.
 use Rattle.std.proofs.Common.{true, ◌≡◌, ◌⊎◌, ℕ, suc, ◌≤◌, Bool, Option, Some, List, [], ◌∷◌, ◌++◌, refl, sym, ap, ◌∙◌, subst, inr, arith, append_assoc, ◌<◌, None}
-use Rattle.psu_run.proofs.Common.{Allows, Begins, Called, DeviceStops, Exec, Executed, Flush, GaveBack, Ghosts, HasFailed, IsAlong, IsEither, IsFlush, IsJob, IsOf, IsWait, Job, JobData, Jobs, Later, Leads, MayAnswer, Reopens, Reply, Request, RunCause, RunStep, Serves, Settled, Since, State, Took, Walks, Whole, World, Worn, disk_at, disk_in, is_broken, job_data, job_steps, wait_of, world_of}
-use Rattle.psu_exec.proofs.Ignored.{serves_took}
-use Rattle.psu_exec.specs.Calls.{Cleared, Reopen, Taken, job_of}
-use Rattle.psu_exec.specs.Device.{is_whole}
-use Rattle.psu_exec.specs.Jobs.{job_disk, job_store}
+use Rattle.psu_run.proofs.Common.{Allows, Begins, Called, Cleared, DeviceStops, Exec, Executed, Flush, GaveBack, Ghosts, HasFailed, HasRun, IsAlong, IsEither, IsFlush, IsJob, IsOf, IsTried, IsWait, Job, JobData, Jobs, Later, Leads, MayAnswer, Reopen, Reopens, Reply, Request, RunCause, RunStep, Serves, Settled, Since, State, Taken, Took, Walks, Whole, World, Worn, disk_at, disk_in, is_broken, is_whole, job_data, job_disk, job_of, job_steps, job_store, serves_took, wait_of, world_of}
 use Rattle.psu_exec.specs.declared.job.Job.{Job as AnyJob}
-use Rattle.psu_run.specs.Progress.{HasRun, IsTried}
-use Rattle.psu_run.proofs.Going.{steps_call, steps_then, ran_as}
-use Rattle.psu_run.proofs.Moments.{since_as}
-use Rattle.psu_run.proofs.OneList.{reached_walk}
-use Rattle.psu_run.proofs.Prefixes.{prefix_of_either}
+use Rattle.psu_run.proofs.Going.{steps_call, steps_then, ran_with, since_as}
+use Rattle.psu_run.proofs.OneList.{reached_walk, prefix_of_either}
 use Rattle.psu_run.proofs.Walking.{begins_behind, begins_idle, flush_begins, job_begins}
 
 -- ---- a take and a job as steps
@@ -53,8 +46,8 @@ steps_job {D} {A} {G} old taken new j short P given there run p =
 pub job_reopens : {D A : Type 0} {G : Ghosts D} (old new : Exec D A G) → is_broken old.device.flush.store ≡ true → Leads old new IsJob → Leads old new Reopens
 job_reopens {D} {A} {G} old new broken goes = record {
   tied = goes.tied;
-  ran = ran_as old (disk_in new.idle_store) (λ steps last. IsOf new last × IsJob steps) (λ steps last. IsOf new last × Reopens steps) goes.ran
-      (λ life steps last walks a. (a.0, inr (a.1, by (world_of life old) last a.1 broken (rw a.1.are at walks))));
+  ran = ran_with old (disk_in new.idle_store) (λ steps last. IsOf new last × IsJob steps) (λ steps last. IsOf new last × Reopens steps) goes.ran
+      (λ h life steps last walks failed a. (a.0, inr (a.1, by (world_of life old) last a.1 broken (rw a.1.are at walks))));
 }
   where
     by : (w last : World) {steps : List RunStep} (is : IsJob steps) → is_broken w.state.flush.store ≡ true → Walks w (job_steps is.job is.finished is.over) last → is.job.kind ≡ Reopen

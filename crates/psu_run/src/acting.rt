@@ -32,6 +32,7 @@ fn is_final<A: Allocator + Copy>(outcome: &Outcome<A>) -> bool
 }
 
 // Flushes, and returns the outcome of the session's wait, which is over then, also where the flush or the wait fails.
+#[tactic(auto, using(crate::proofs::SessionOne::no_wait))]
 fn wait<D: Disk, A: Allocator + Copy>(
     exec: &mut Exec<D, A>,
     session: Session,

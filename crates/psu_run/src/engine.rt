@@ -35,6 +35,7 @@ impl<D: Disk, A: Allocator + Copy> RunState<D, A> {
     }
 
     // Executes the last line of the input, which has no line feed, writes its response, and flushes.
+    #[tactic(auto, using(crate::proofs::SessionOne::still_allowed))]
     fn finish<W: Write>(self, writer: &mut W) -> Result<D, RunFault<D>>
         requires none { self.responder.output.items ≡ [] }
         requires fresh { self.responder.gathered ≡ nothing }

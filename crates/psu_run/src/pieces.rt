@@ -18,6 +18,7 @@ use std::io::Write;
 
 // Simulates a power loss at rest and a restart: changes that are not flushed are lost. A broken store is reopened
 // before it.
+#[tactic(auto, using(crate::proofs::SessionOne::still_allowed))]
 fn restart_device<D: Disk, A: Allocator + Copy>(
     alloc: A,
     powered: PoweredDevice<D, A>,

@@ -1,6 +1,5 @@
 use Rattle.std.proofs.Common.{◌≡◌, List, [], ◌∷◌, ◌++◌, ap, arith, inr, refl}
-use Rattle.psu_run.proofs.Common.{Called, Executed, Parked, RunStep, Serves, outcome_of}
-use Rattle.psu_run.proofs.Fronts.{passed}
+use Rattle.psu_run.proofs.Common.{Called, Executed, Parked, RunStep, Serves, outcome_of, passed}
 use Rattle.psu_run.proofs.Going.{steps_call, steps_then, device_stops_then}
 use Rattle.psu_run.proofs.UnitEnds.{late_full}
 use Rattle.psu_run.proofs.acting.act.Goals as goal

@@ -1,6 +1,5 @@
 use Rattle.std.proofs.Common.{List, [], ◌++◌, ap, arith, inl, inr}
-use Rattle.psu_run.proofs.Common.{RunStep}
-use Rattle.psu_run.proofs.Fronts.{passed}
+use Rattle.psu_run.proofs.Common.{RunStep, passed}
 use Rattle.psu_run.proofs.Going.{steps_as, steps_then, device_stops_then}
 use Rattle.psu_run.proofs.UnitEnds.{steps_late, late_begins, late_idle}
 use Rattle.psu_run.proofs.Walking.{begins_behind, begins_none}

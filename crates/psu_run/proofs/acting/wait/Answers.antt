@@ -1,6 +1,5 @@
 use Rattle.std.proofs.Common.{arith}
 use Rattle.psu_run.proofs.Common.{Serves, Settled, outcome_of}
-use Rattle.psu_run.proofs.SessionOne.{no_wait}
 use Rattle.psu_run.proofs.Going.{steps_as}
 use Rattle.psu_run.proofs.UnitEnds.{steps_wait, device_stops_cleared}
 use Rattle.psu_run.proofs.Walking.{wait_begins}
@@ -21,6 +20,3 @@ returns-clause-stops g c =
       leads = steps_as _ _ _ _ waits (λ steps w. wait_begins reply steps w);
       why = λ before t. let left = c.in-Ok.ensures.clean before t in grind arith;
     }) (grind arith) c.clear-2.ensures.idle_store
-
-pub returns-then-is_final-clause-free : goal.returns-then-is_final-clause-free
-returns-then-is_final-clause-free g c = let none = no_wait c.flush.new.exec.device.flush.waits in grind arith

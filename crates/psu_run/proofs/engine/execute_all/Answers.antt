@@ -1,8 +1,6 @@
 use Rattle.std.proofs.Common.{[]}
-use Rattle.std.proofs.KnownBytes.{Consumes-nil}
-use Rattle.psu_run.proofs.Common.{Memory, held}
+use Rattle.psu_run.proofs.Common.{Consumes-nil, Memory, held, passed}
 use Rattle.psu_run.proofs.Feeding.{fed_none}
-use Rattle.psu_run.proofs.Fronts.{passed}
 use Rattle.psu_run.proofs.Input.{no_reads}
 use Rattle.psu_run.proofs.Reading.{read_front}
 use Rattle.psu_run.proofs.engine.execute_all.Goals as goal

@@ -1,8 +1,6 @@
 use Rattle.std.proofs.Common.{◌≤◌, ◌∙◌, ◌+◌, ◌++◌, [], take, inl, inr, refl, sym, arith}
-use Rattle.psu_run.proofs.Common.{held}
-use Rattle.psu_run.specs.declared.run_cause.RunCause.TheVariants.{Read, TooLong}
+use Rattle.psu_run.proofs.Common.{Read, TooLong, held, passed}
 use Rattle.psu_run.proofs.Feeding.{fed_none, fed_then}
-use Rattle.psu_run.proofs.Fronts.{passed}
 use Rattle.psu_run.proofs.Reading.{cut_after, cut_front, end_stop, read_all, read_end, read_fault, read_front, taken_more}
 use Rattle.psu_run.proofs.Input.{further_more, further_none, read_failed, read_more, read_none, read_start}
 use Rattle.psu_run.proofs.engine.execute_pieces.Goals as goal
@@ -85,36 +83,33 @@ returns-then-count-eq0-clause-ends g c = (
 
 pub returns-in_default-clause-reads : goal.returns-in_default-clause-reads
 returns-in_default-clause-reads g c =
-    further_none _ (read_failed c.reading.invariant.has c.in_default.ensures.bytes c.in_default.ensures.counted)
-    (omega (arith, c.count_read.new.self.few, c.count_read.ensures.reads)) (omega (arith, c.reading.invariant.taken, c.reading.intake.short))
+    further_none _ _ _ (read_failed c.reading.invariant.has c.in_default.ensures.bytes c.in_default.ensures.counted)
+    c.count_read.ensures.reads c.count_read.new.self.few c.reading.invariant.taken c.reading.intake.short
 
 pub returns-then-count-eq0-clause-reads : goal.returns-then-count-eq0-clause-reads
 returns-then-count-eq0-clause-reads g c =
-    further_none _ (read_none c.reading.invariant.has (rw c.if-count-eq0.true at c.in-Ok.ensures.bytes.0) (c.in-Ok.ensures.counted.0 c.if-count-eq0.true))
-    (omega (arith, c.count_read.new.self.few, c.count_read.ensures.reads)) (omega (arith, c.reading.invariant.taken, c.reading.intake.short))
+    further_none _ _ _ (read_none c.reading.invariant.has (rw c.if-count-eq0.true at c.in-Ok.ensures.bytes.0) (c.in-Ok.ensures.counted.0 c.if-count-eq0.true))
+    c.count_read.ensures.reads c.count_read.new.self.few c.reading.invariant.taken c.reading.intake.short
 
 pub returns-in_err-disk-clause-reads : goal.returns-in_err-disk-clause-reads
 returns-in_err-disk-clause-reads g c =
-    further_none _ (read_none c.reading.invariant.has (rw c.if-count-eq0.true at c.in-Ok.ensures.bytes.0) (c.in-Ok.ensures.counted.0 c.if-count-eq0.true))
-    (omega (arith, c.count_read.new.self.few, c.count_read.ensures.reads)) (omega (arith, c.reading.invariant.taken, c.reading.intake.short))
+    further_none _ _ _ (read_none c.reading.invariant.has (rw c.if-count-eq0.true at c.in-Ok.ensures.bytes.0) (c.in-Ok.ensures.counted.0 c.if-count-eq0.true))
+    c.count_read.ensures.reads c.count_read.new.self.few c.reading.invariant.taken c.reading.intake.short
 
 pub returns-in_err-run-clause-reads : goal.returns-in_err-run-clause-reads
 returns-in_err-run-clause-reads g c =
-    further_more _ c.in-Ok.count c.reading.invariant.seen c.read_into.new.piece
-    (read_more c.in-Ok.count c.read_into.new.piece c.reading.invariant.has c.in-Ok.ensures.bytes.0 c.in-Ok.ensures.counted.1 c.if-count-eq0.false c.in-Ok.ensures.bound.0 c.count_read.ensures.reads)
-    c.count_read.new.self.few (omega (arith, c.reading.invariant.taken, c.reading.intake.short)) c.in-Ok.ensures.bound.0 (omega (arith, c.in-Ok.ensures.bound.0, c.reading.auto.piece, c.read_into.auto.piece))
+    further_more _ c.in-Ok.count _ _ c.reading.invariant.seen c.read_into.new.piece c.reading.invariant.has c.in-Ok.ensures.bytes.0 c.in-Ok.ensures.counted.1 c.if-count-eq0.false
+    c.in-Ok.ensures.bound.0 c.count_read.ensures.reads c.count_read.new.self.few c.reading.invariant.taken c.reading.intake.short (c.read_into.auto.piece ∙ c.reading.auto.piece)
 
 pub returns-then-count-room-clause-reads : goal.returns-then-count-room-clause-reads
 returns-then-count-room-clause-reads g c =
-    further_more _ c.in-Ok.count c.reading.invariant.seen c.read_into.new.piece
-    (read_more c.in-Ok.count c.read_into.new.piece c.reading.invariant.has c.in-Ok.ensures.bytes.0 c.in-Ok.ensures.counted.1 c.if-count-eq0.false c.in-Ok.ensures.bound.0 c.count_read.ensures.reads)
-    c.count_read.new.self.few (omega (arith, c.reading.invariant.taken, c.reading.intake.short)) c.in-Ok.ensures.bound.0 (omega (arith, c.in-Ok.ensures.bound.0, c.reading.auto.piece, c.read_into.auto.piece))
+    further_more _ c.in-Ok.count _ _ c.reading.invariant.seen c.read_into.new.piece c.reading.invariant.has c.in-Ok.ensures.bytes.0 c.in-Ok.ensures.counted.1 c.if-count-eq0.false
+    c.in-Ok.ensures.bound.0 c.count_read.ensures.reads c.count_read.new.self.few c.reading.invariant.taken c.reading.intake.short (c.read_into.auto.piece ∙ c.reading.auto.piece)
 
 pub returns-in_err-run-2-clause-reads : goal.returns-in_err-run-2-clause-reads
 returns-in_err-run-2-clause-reads g c =
-    further_more _ c.in-Ok.count c.reading.invariant.seen c.read_into.new.piece
-    (read_more c.in-Ok.count c.read_into.new.piece c.reading.invariant.has c.in-Ok.ensures.bytes.0 c.in-Ok.ensures.counted.1 c.if-count-eq0.false c.in-Ok.ensures.bound.0 c.count_read.ensures.reads)
-    c.count_read.new.self.few (omega (arith, c.reading.invariant.taken, c.reading.intake.short)) c.in-Ok.ensures.bound.0 (omega (arith, c.in-Ok.ensures.bound.0, c.reading.auto.piece, c.read_into.auto.piece))
+    further_more _ c.in-Ok.count _ _ c.reading.invariant.seen c.read_into.new.piece c.reading.invariant.has c.in-Ok.ensures.bytes.0 c.in-Ok.ensures.counted.1 c.if-count-eq0.false
+    c.in-Ok.ensures.bound.0 c.count_read.ensures.reads c.count_read.new.self.few c.reading.invariant.taken c.reading.intake.short (c.read_into.auto.piece ∙ c.reading.auto.piece)
 
 pub returns-clause-reads : goal.returns-clause-reads
 returns-clause-reads g c = (_, _, _, c.reading.invariant.has, c.reading.intake.few, omega (arith, c.reading.invariant.taken, c.reading.intake.short))

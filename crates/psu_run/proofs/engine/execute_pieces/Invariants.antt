@@ -1,6 +1,5 @@
 use Rattle.std.proofs.Common.{◌≡◌, List, [], ℕ, length, ◌-◌}
-use Rattle.psu_messages.specs.ResponseBuffer.{nothing}
-use Rattle.psu_run.proofs.Common.{Fed, HasRead, held}
+use Rattle.psu_run.proofs.Common.{Fed, HasRead, held, nothing}
 use Rattle.psu_run.proofs.engine.execute_pieces.Given as goal
 
 -- Each read so far returned bytes, and the lines that end in them were answered.

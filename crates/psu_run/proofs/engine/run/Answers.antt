@@ -1,11 +1,8 @@
 use Rattle.std.proofs.Common.{inl, inr, refl}
-use Rattle.std.proofs.KnownBytes.{Appends-nil}
-use Rattle.psu_run.proofs.Common.{IsOfRun, IsOldOrSame, LeavesOnly, weaken}
+use Rattle.psu_run.proofs.Common.{Appends-nil, IsOfRun, IsOldOrSame, LeavesOnly, disk_from, passed, weaken}
 use Rattle.psu_exec.proofs.Moments.{keeps_map}
-use Rattle.psu_run.proofs.Fronts.{passed}
 use Rattle.psu_run.proofs.Input.{no_reads}
 use Rattle.psu_run.proofs.Reading.{early_moments, passed_disk, run_early, run_whole, whole_moments}
-use Rattle.psu_run.specs.Runs.{disk_from}
 use Rattle.psu_run.proofs.engine.run.Goals as goal
 
 -- ---- it does not power on

@@ -1,7 +1,6 @@
 use Rattle.std.proofs.Common.{◌≤◌, ◌≡◌, ℕ, suc, ◌+◌, ◌-◌, [], rules, arith, refl, sym, inl, subst, append-nil}
-use Rattle.psu_run.proofs.Common.{IsFlush, IsTied, Jobs, failures_of}
+use Rattle.psu_run.proofs.Common.{IsFlush, IsTied, Jobs, failures_of, passed}
 use Rattle.psu_run.proofs.UnitEnds.{IsFlushAfter, IsFlushed, one_more}
-use Rattle.psu_run.proofs.Fronts.{passed}
 use Rattle.psu_run.proofs.Going.{steps_as, steps_none, steps_then, device_stops_then}
 use Rattle.psu_run.proofs.Walking.{begins_behind}
 use Rattle.psu_run.proofs.jobs.flush.Goals as goal

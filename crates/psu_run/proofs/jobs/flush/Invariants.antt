@@ -1,7 +1,5 @@
 use Rattle.std.proofs.Common.{◌≡◌, ℕ, false, None, ◌-◌, ◌≤◌}
-use Rattle.psu_run.proofs.Common.{IsTied, Leads, failures_of, wait_of}
-use Rattle.psu_exec.specs.Device.{is_open}
-use Rattle.psu_run.specs.Progress.{IsWornAtLast}
+use Rattle.psu_run.proofs.Common.{IsTied, IsWornAtLast, Leads, failures_of, is_open, wait_of}
 use Rattle.psu_run.proofs.UnitEnds.{IsFlushAfter, IsFlushed}
 use Rattle.psu_run.proofs.jobs.flush.Given as goal
 

@@ -1,7 +1,5 @@
 use Rattle.std.proofs.Common.{Some, arith}
-use Rattle.psu_run.proofs.Common.{reads_left}
-use Rattle.psu_exec.proofs.Ignored.{serves_gave_back}
-use Rattle.psu_exec.specs.Jobs.{finished_disk, finished_of}
+use Rattle.psu_run.proofs.Common.{finished_disk, finished_of, reads_left, serves_gave_back}
 use Rattle.psu_run.proofs.jobs.run_job.Goals as goal
 
 pub returns : goal.returns

@@ -1,9 +1,8 @@
 use Rattle.std.proofs.Common.{refl, ◌≢◌, Some, arith}
-use Rattle.psu_run.proofs.Common.{Nothing, job_data}
+use Rattle.psu_run.proofs.Common.{MemoryRefused, Nothing, fault_of, job_data}
 use Rattle.psu_exec.specs.Calls.{Memory}
 use Rattle.psu_run.proofs.SessionOne.{job_free}
 use Rattle.psu_run.proofs.UnitEnds.{steps_job, steps_take}
-use Rattle.psu_run.specs.Runs.{MemoryRefused, fault_of}
 use Rattle.psu_run.proofs.jobs.run_next.Goals as goal
 
 pub returns-then-run_job-clause-stops : goal.returns-then-run_job-clause-stops

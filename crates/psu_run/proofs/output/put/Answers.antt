@@ -1,4 +1,4 @@
-use Rattle.psu_run.proofs.Fronts.{put_step}
+use Rattle.psu_run.proofs.Cuts.{put_step}
 use Rattle.psu_run.proofs.output.put.Goals as goal
 
 pub loop-at-preserved : goal.loop-at-preserved

@@ -1,5 +1,6 @@
-use Rattle.psu_run.proofs.Fronts.{on_err, short_behind}
+use Rattle.std.proofs.Common.{arith}
+use Rattle.psu_run.proofs.Cuts.{short_behind}
 use Rattle.psu_run.proofs.output.put_both.Goals as goal
 
 pub returns-in_err-put-2-clause-short : goal.returns-in_err-put-2-clause-short
-returns-in_err-put-2-clause-short g c = on_err c.from_residual-in_err-put-2.result _ (short_behind _ _ _ _ _ c.in_ok-put.ensures.whole c.in_err-put-2.ensures.short)
+returns-in_err-put-2-clause-short g c = let short = short_behind _ _ _ _ _ c.in_ok-put.ensures.whole c.in_err-put-2.ensures.short in grind arith

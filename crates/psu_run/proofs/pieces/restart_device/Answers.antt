@@ -1,7 +1,6 @@
 use Rattle.std.proofs.Common.{◌∙◌, sym}
-use Rattle.psu_run.proofs.Fronts.{passed}
+use Rattle.psu_run.proofs.Common.{passed}
 use Rattle.psu_run.proofs.Stopping.{Ends, power_runs, power_stops, reopen_stops, restart_fails, restarts}
-use Rattle.psu_run.proofs.SessionOne.{still_allowed}
 use Rattle.psu_run.proofs.pieces.restart_device.Goals as goal
 
 pub returns-in-Err-clause-stops : goal.returns-in-Err-clause-stops
@@ -20,13 +19,3 @@ returns-clause-runs g c =
     let on = c.in_ok-powered.ensures in let disk = c.into_disk.ensures in let new = c.in_ok-powered.powered.exec in
     let ends : Ends c.reopen.new.exec c.into_disk.result = record { whole = c.in-Ok.ensures.mended; same = disk.same; stands = λ h. disk.stands h c.in-Ok.ensures.mended } in
     power_runs c.args.powered.exec c.reopen.new.exec new c.in-Ok.ensures.reopens (restarts c.reopen.new.exec c.into_disk.result ends new on.starts on.works on.size on.stored on.whole on.time)
-
-pub invariant_of-powered : goal.invariant_of-powered
-invariant_of-powered g c =
-    let on = c.args.powered in let e = c.reopen.ensures in
-    record { first = on.first; «open» = e.open ∙ on.open; allowed = still_allowed on.exec.device c.reopen.new.exec.device e.locked on.allowed; idle = e.idle; free = e.free on.free; last = e.worn on.last }
-
-pub invariant_of-powered-2 : goal.invariant_of-powered-2
-invariant_of-powered-2 g c =
-    let on = c.args.powered in let e = c.reopen.ensures in
-    record { first = on.first; «open» = e.open ∙ on.open; allowed = still_allowed on.exec.device c.reopen.new.exec.device e.locked on.allowed; idle = e.idle; free = e.free on.free; last = e.worn on.last }

@@ -1,12 +1,9 @@
 use Rattle.std.proofs.Common.{arith, refl, ◌≡◌, ◌∙◌, ℕ, List, IfErr, Result}
 use Rattle.std.proofs.lemmas.Result.{IfOk-weaker}
-use Rattle.psu_items.proofs.Fitting.{represents_readable}
-use Rattle.psu_run.proofs.Common.{Contents, items_of}
+use Rattle.psu_run.proofs.Common.{Contents, HasReadableRoot, NotStarted, items_of, represents_readable}
 use Rattle.psu_exec.specs.declared.idle_store.IdleStore.TheVariants as idle_store
-use Rattle.psu_items.specs.Image.{HasReadableRoot}
 use Rattle.psu_exec.specs.declared.start_cause.StartFault.{StartFault}
 use Rattle.psu_exec.specs.declared.start_cause.StartFault.TheVariants.{Memory}
-use Rattle.psu_run.specs.Runs.{NotStarted}
 use Rattle.psu_status.specs.Status.{first_request}
 use Rattle.psu_run.specs.Recover.{Reports}
 use Rattle.psu_run.proofs.recovery.recover.Goals as goal

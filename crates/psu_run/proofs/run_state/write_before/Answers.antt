@@ -1,4 +1,4 @@
-use Rattle.std.proofs.Common.{arith, refl, sym, ◌∙◌}
+use Rattle.std.proofs.Common.{arith, refl}
 use Rattle.psu_run.proofs.Reading.{none_before, short_before, written_before}
 use Rattle.psu_run.proofs.run_state.write_before.Goals as goal
 

@@ -1,11 +1,8 @@
 use Rattle.std.proofs.Common.{refl, ◌∙◌, ℕ, sym, subst, arith, inl}
 use Rattle.std.proofs.lemmas.Option.{same_Some}
-use Rattle.psu_disk.specs.Moments.{started}
-use Rattle.psu_run.proofs.Common.{IsOldOrSame, LeavesOnly, idle_disk}
-use Rattle.psu_run.specs.Runs.{NotStarted}
+use Rattle.psu_run.proofs.Common.{IsOldOrSame, LeavesOnly, NotStarted, idle_disk, passed, started}
 use Rattle.psu_exec.specs.Starts.{start_of_opening}
 use Rattle.psu_exec.specs.declared.idle_store.IdleStore.TheVariants as idle_store
-use Rattle.psu_run.proofs.Fronts.{passed}
 use Rattle.psu_run.proofs.powered_device.PoweredDevice.on.Goals as goal
 
 -- ---- on a store that is open

@@ -1,7 +1,7 @@
 use Rattle.std.proofs.Common.{[]}
-use Rattle.psu_run.proofs.Common.{held, output_state}
+use Rattle.psu_run.proofs.Common.{held, output_state, passed}
 use Rattle.psu_run.proofs.Reading.{fed_short, fed_written}
-use Rattle.psu_run.proofs.Fronts.{none_told, passed, told_alone}
+use Rattle.psu_run.proofs.Cuts.{none_told, told_alone}
 use Rattle.psu_run.proofs.run_state.RunState.answer.Goals as goal
 
 pub returns-in_err-run-clause-stopped : goal.returns-in_err-run-clause-stopped

@@ -1,6 +1,6 @@
 use Rattle.psu_run.proofs.Feeding.{answers_line}
-use Rattle.psu_run.proofs.Fronts.{passed, told_alone}
-use Rattle.psu_run.proofs.Common.{source_of}
+use Rattle.psu_run.proofs.Cuts.{told_alone}
+use Rattle.psu_run.proofs.Common.{passed, source_of}
 use Rattle.psu_run.proofs.run_state.RunState.answer_line.Goals as goal
 
 pub returns-in_err-execute_line-clause-breaks : goal.returns-in_err-execute_line-clause-breaks

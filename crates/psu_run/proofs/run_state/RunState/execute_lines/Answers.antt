@@ -1,9 +1,8 @@
 use Rattle.std.proofs.Common.{◌∙◌, ◌∷◌, arith, refl, [], subst, sym}
-use Rattle.psu_run.proofs.Common.{Answers, EndsEarly, Message, held, output_state, source_of}
-use Rattle.psu_run.specs.Runs.{never}
-use Rattle.psu_run.proofs.Cuts.{free_all, free_before}
-use Rattle.psu_run.proofs.Feeding.{broken_stop, fed_none, feed_end, feed_refused, feed_step, feed_stops, line_stops, plain_message, power_message}
-use Rattle.psu_run.proofs.Fronts.{passed, says_none}
+use Rattle.psu_run.proofs.Common.{Answers, EndsEarly, Message, held, never, output_state, passed, source_of}
+use Rattle.psu_run.proofs.Cuts.{free_all, free_before, says_none}
+use Rattle.psu_run.proofs.Stopping.{halted}
+use Rattle.psu_run.proofs.Feeding.{fed_none, feed_end, feed_refused, feed_step, feed_stops, line_stops, plain_message, power_message}
 use Rattle.psu_run.proofs.run_state.RunState.execute_lines.Goals as goal
 
 pub loop-at-init : goal.loop-at-init
@@ -45,7 +44,7 @@ returns-in-Err-clause-stopped g c = λ input.
     (line_stops run.lines.line.items c.loop-at.rest.now c.in-Some.at line run.responder.powered.exec fault _ _ c.in-Some.ensures c.in-Ok.ensures c.extend.new.self.free
     (λ later. subst (λ (m : Message). EndsEarly never run.responder.powered.exec fault (m ∷ later) (output_state (g.W.Write.contents c.loop-at.writer) run.responder.output.items run.responder.gathered) (output_state (g.W.Write.contents c.answer_line.new.writer) after.responder.output.items after.responder.gathered))
     (sym (plain_message line (sym c.is_power.ensures ∙ c.if-is_power.false)))
-    (s.0, rw e.1.cause_is s.1, broken_stop run.responder.powered.exec after.responder.powered.exec c.in-Err.cause fault (source_of line) later s.0 s.2 e.1))) input)
+    (s.0, rw e.1.cause_is s.1, halted run.responder.powered.exec after.responder.powered.exec c.in-Err.cause fault (Message.Line (source_of line) ∷ later) s.0 s.2 e.1 (λ at. at)))) input)
 
 pub returns-clause-fed : goal.returns-clause-fed
 returns-clause-fed g c =

@@ -1,6 +1,5 @@
 use Rattle.std.proofs.Common.{◌≡◌, ◌≤◌, length}
-use Rattle.psu_messages.specs.ResponseBuffer.{nothing}
-use Rattle.psu_run.proofs.Common.{output_state}
+use Rattle.psu_run.proofs.Common.{nothing, output_state}
 use Rattle.psu_run.proofs.Feeding.{FedSo}
 use Rattle.psu_run.proofs.run_state.RunState.execute_lines.Given as goal
 

@@ -1,7 +1,5 @@
 use Rattle.std.proofs.Common.{◌∙◌, [], arith, sym}
-use Rattle.std.proofs.lemmas.Bool.Decides.{nat_tests}
-use Rattle.psu_run.proofs.Common.{held, messages}
-use Rattle.psu_run.proofs.SessionOne.{still_allowed}
+use Rattle.psu_run.proofs.Common.{held, messages, nat_tests}
 use Rattle.psu_run.proofs.Reading.{answers_flushed, answers_stop}
 use Rattle.psu_run.proofs.Stopping.{flush_stops, unflushed_stops}
 use Rattle.psu_run.proofs.run_state.RunState.finish.Goals as goal
@@ -23,13 +21,3 @@ returns-clause-whole g c =
     answers_flushed (messages c.args.self.lines.line.items) c.args.self.responder.powered.exec c.in_ok-powered.powered.exec c.flush.new.exec c.into_disk.result
     (held (g.W.Write.contents c.args.writer.now) []) (held (g.W.Write.contents c.last_line.new.writer) [])
     c.in_ok-powered.ensures.whole c.in-Ok.ensures.flushes (grind (arith, nat_tests, c.is_flushed.ensures, c.if-not-is_flushed.false)) c.into_disk.ensures.same
-
-pub invariant_of-powered : goal.invariant_of-powered
-invariant_of-powered g c =
-    let on = c.in_ok-powered.powered in let e = c.flush.ensures in
-    record { first = on.first; «open» = e.open ∙ on.open; allowed = still_allowed on.exec.device c.flush.new.exec.device e.locked on.allowed; idle = e.idle; free = e.free on.free; last = e.worn on.last }
-
-pub invariant_of-powered-2 : goal.invariant_of-powered-2
-invariant_of-powered-2 g c =
-    let on = c.in_ok-powered.powered in let e = c.flush.ensures in
-    record { first = on.first; «open» = e.open ∙ on.open; allowed = still_allowed on.exec.device c.flush.new.exec.device e.locked on.allowed; idle = e.idle; free = e.free on.free; last = e.worn on.last }

@@ -1,6 +1,6 @@
 use Rattle.std.proofs.Common.{[], ◌∷◌}
 use Rattle.psu_run.proofs.Common.{Message, output_state}
-use Rattle.psu_run.proofs.Fronts.{until_none}
+use Rattle.psu_run.proofs.Cuts.{until_none}
 use Rattle.psu_run.proofs.run_state.RunState.restart.Goals as goal
 
 pub returns-in-Err-clause-stops : goal.returns-in-Err-clause-stops
