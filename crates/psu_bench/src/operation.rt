@@ -21,6 +21,6 @@ pub trait Operation<D: Disk, A: Allocator + Copy> {
         ensures { AllowsOn D.honest exec.old.device (entry self result) exec.new.device };
 }
 
-/// An operation that causes nothing for other threads. By their callers (`Caller`) threads perform each other one by a
-/// call of its own, which returns what it has caused.
+/// An operation that causes nothing for other threads. A thread performs it by `Caller::call`, and each other operation by
+/// a method of `Caller` that returns what it has caused. No clause says which operations these are.
 pub trait Silent {}

@@ -27,7 +27,7 @@ same_lanes (x ∷ xs) (y ∷ ys) long full = at (nat_eq x y) refl full (same_lan
         ap (λ (z : ℕ). z ∷ xs) first ∙ ap (λ (l : List ℕ). y ∷ l) (rest (omega (arith, full)))
     at false e full rest = absurd (let bad : ⊥ = omega (arith, full) in bad)
 
--- the mask of a comparison of sixteen lanes tells whether they are the same
+-- whether sixteen lanes are the same, by the mask of their comparison
 pub mask_tells : (m : ℕ) (xs ys : List ℕ) → m ≡ mask_l (zip2 nat_eq xs ys) → length xs ≡ 16 → length ys ≡ 16 → (IsTrue (nat_eq m 65535) → xs ≡ ys) × (xs ≡ ys → IsTrue (nat_eq m 65535))
 mask_tells m xs ys is long as_long = (
   λ t. let full : m ≡ 65535 = grind (arith, nat_tests) in
@@ -38,7 +38,7 @@ mask_tells m xs ys is long as_long = (
       grind (arith, nat_tests),
 )
 
--- where at most the first sixteen and the last sixteen elements are, these tell whether two lists are the same
+-- two lists of sixteen to thirty-two elements are the same if their first sixteen and their last sixteen are
 pub same_by_ends : (xs ys : List ℕ) (n : ℕ) → length xs ≡ n → length ys ≡ n → 16 ≤ n → n ≤ 32 → take 16 xs ≡ take 16 ys → drop (n - 16) xs ≡ drop (n - 16) ys → xs ≡ ys
 same_by_ends xs ys n long as_long least most front back =
     sym (take-append-drop 16 xs) ∙ ap (λ (l : List ℕ). l ++ drop 16 xs) front ∙ ap (λ (l : List ℕ). take 16 ys ++ l) (behind xs ∙ ap (drop (32 - n)) back ∙ sym (behind ys)) ∙ take-append-drop 16 ys
