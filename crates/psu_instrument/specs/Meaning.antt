@@ -1,5 +1,6 @@
 -- The meaning of a command in the situation where it is executed.
-use Rattle.std.specs.Prelude.{◌≡◌, ◌⊎◌, ℕ, ◌<◌, Bool, Option, Some, None, unwrap_or, Result, Ok, Err, List, [], length, decimal, pos}
+use Rattle.std.specs.Prelude.{◌≡◌, ◌⊎◌, ℕ, Bool, Option, Some, None, unwrap_or, Result, Ok, Err, List, [], decimal, pos}
+use Rattle.psu_lex.specs.ByteStorage.{NeedsAllocation}
 use Rattle.psu_lex.specs.Decimals.{fixed3_text}
 use Rattle.psu_lex.specs.declared.scpi_error.ScpiError.{ScpiError}
 use Rattle.psu_lex.specs.declared.scpi_error.ScpiError.TheVariants.{OutOfMemory}
@@ -49,12 +50,12 @@ leaves i = Does None i
 abbrev pub text_of : Option (List ℕ) → List ℕ
 text_of text = unwrap_or text []
 
--- The result of a command that has this meaning: an allocation failure replaces only a response of more than 16 bytes,
+-- The result of a command that has this meaning: an allocation failure replaces only a response that needs an allocation,
 -- and leaves everything unchanged.
 abbrev pub ActsAs : {A : Type 0} → Meaning → Instrument → Result (Act A) ScpiError → Instrument → Type 0
 ActsAs (Refuses error) old result new = (result ≡ Err error) × (new ≡ old)
 ActsAs (Does None after) old result new = (result ≡ Ok act.Done) × (new ≡ after)
-ActsAs (Does (Some text) after) old result new = ((result ≡ Ok (act.Answer text)) × (new ≡ after)) ⊎ ((result ≡ Err OutOfMemory) × (new ≡ old) × (16 < length text))
+ActsAs (Does (Some text) after) old result new = ((result ≡ Ok (act.Answer text)) × (new ≡ after)) ⊎ ((result ≡ Err OutOfMemory) × (new ≡ old) × NeedsAllocation text)
 ActsAs (Keeps change) old (Ok (act.Keep command)) new = (command_of command ≡ change) × (new ≡ old)
 ActsAs (Keeps change) old result new = ⊥
 ActsAs (Completes completion) old result new = (result ≡ Ok (act.Complete completion)) × (new ≡ old)

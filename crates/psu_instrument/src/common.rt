@@ -1,5 +1,6 @@
 //! The common commands, except those of macros.
-ghost use Rattle.std.specs.Prelude.{◌≡◌, ◌<◌, ℕ, Bool, false, Option, Some, None, Ok, IfOk, OnErr, length, decimal, if◌then◌else◌};
+ghost use Rattle.std.specs.Prelude.{◌≡◌, ℕ, Bool, false, Option, Some, None, Ok, IfOk, OnErr, decimal, if◌then◌else◌};
+ghost use Rattle.psu_lex.specs.ByteStorage.{NeedsAllocation};
 ghost use Rattle.psu_nv.specs.Contents.{Contents as Kept};
 ghost use Rattle.psu_outputs.specs.Outputs.{restored};
 ghost use Rattle.psu_outputs.specs.Settings.{reset};
@@ -22,7 +23,7 @@ pub(crate) const IDENTITY: &[u8] = b"EXAMPLE,PSU4,0,1.0";
 // Returns a flag as response data.
 pub(crate) fn flag_response<A: Allocator + Copy>(alloc: A, on: bool) -> Result<Bytes<A>, AllocError>
     ensures ok { IfOk result (λ text. text ≡ decimal (digit on)) }
-    ensures many { OnErr result (16 < length (decimal (digit on))) }
+    ensures many { OnErr result (NeedsAllocation (decimal (digit on))) }
 {
     if on { whole(alloc, 1) } else { whole(alloc, 0) }
 }
@@ -30,7 +31,7 @@ pub(crate) fn flag_response<A: Allocator + Copy>(alloc: A, on: bool) -> Result<B
 // Returns the choice of the power-on settings as response data.
 fn choice<A: Allocator + Copy>(alloc: A, recall: bool) -> Result<Bytes<A>, AllocError>
     ensures ok { IfOk result (λ text. text ≡ choice recall) }
-    ensures many { OnErr result (16 < length (choice recall)) }
+    ensures many { OnErr result (NeedsAllocation (choice recall)) }
 {
     if recall {
         Bytes::of(alloc, b"RCL0")

@@ -1,5 +1,6 @@
 //! Files.
-ghost use Rattle.std.specs.Prelude.{◌≡◌, ◌<◌, ℕ, ◌++◌, Bool, length, IfOk, OnOk, OnErr};
+ghost use Rattle.std.specs.Prelude.{◌≡◌, ℕ, ◌++◌, Bool, IfOk, OnOk, OnErr};
+ghost use Rattle.psu_lex.specs.ByteStorage.{NeedsAllocation};
 ghost use Rattle.psu_nv.specs.Contents.{Contents as Kept};
 ghost use Rattle.psu_instrument.specs.Files.{catalog_text, entries, entry_of, macro_moved, on_name, on_two, state_moved, stored};
 ghost use Rattle.psu_instrument.specs.Instrument.{Instrument as State};
@@ -112,7 +113,7 @@ fn put_entry<A: Allocator + Copy>(
     value: &[u8],
 ) -> Result<(), AllocError>
     ensures ok { OnOk result (text.new ≡ text.old ++ entry_of name.now value.now) }
-    ensures many { OnErr result (16 < length (text.old ++ entry_of name.now value.now)) }
+    ensures many { OnErr result (NeedsAllocation (text.old ++ entry_of name.now value.now)) }
 {
     let [code, bytes @ ..] = value else {
         return Ok(());
@@ -132,7 +133,7 @@ fn put_entries<A: Allocator + Copy>(
     files: &[Pair<A>],
 ) -> Result<(), AllocError>
     ensures ok { OnOk result (text.new ≡ text.old ++ entries files.now) }
-    ensures many { OnErr result (16 < length (text.old ++ entries files.now)) }
+    ensures many { OnErr result (NeedsAllocation (text.old ++ entries files.now)) }
 {
     for file in files {
         put_entry(text, file.key(), file.value())?;
@@ -147,7 +148,7 @@ pub(crate) fn catalog_text<A: Allocator + Copy>(
     contents: &Contents<A>,
 ) -> Result<Bytes<A>, AllocError>
     ensures ok { IfOk result (λ text. text ≡ catalog_text limit contents.now) }
-    ensures many { OnErr result (16 < length (catalog_text limit contents.now)) }
+    ensures many { OnErr result (NeedsAllocation (catalog_text limit contents.now)) }
 {
     let cost = contents.cost();
     let left = (limit as u128).saturating_sub(cost);

@@ -1,5 +1,6 @@
 //! Macros.
-ghost use Rattle.std.specs.Prelude.{◌≡◌, ◌<◌, ℕ, ◌++◌, Bool, length, IfOk, OnOk, OnErr};
+ghost use Rattle.std.specs.Prelude.{◌≡◌, ℕ, ◌++◌, Bool, IfOk, OnOk, OnErr};
+ghost use Rattle.psu_lex.specs.ByteStorage.{NeedsAllocation};
 ghost use Rattle.psu_instrument.specs.Instrument.{Instrument as State};
 ghost use Rattle.psu_instrument.specs.Macros.{labels_text, more_labels, on_label, quoted};
 ghost use Rattle.psu_instrument.specs.Meaning.{ActsAs, situation, text_of};
@@ -45,7 +46,7 @@ pub(crate) fn put_quoted<A: Allocator + Copy>(
     bytes: &[u8],
 ) -> Result<(), AllocError>
     ensures ok { OnOk result (text.new ≡ text.old ++ quoted bytes.now) }
-    ensures many { OnErr result (16 < length (text.old ++ quoted bytes.now)) }
+    ensures many { OnErr result (NeedsAllocation (text.old ++ quoted bytes.now)) }
 {
     text.put(b"\"")?;
     text.put(bytes)?;
@@ -55,7 +56,7 @@ pub(crate) fn put_quoted<A: Allocator + Copy>(
 // Appends labels that follow a first one.
 fn put_more<A: Allocator + Copy>(text: &mut Bytes<A>, labels: &[Label]) -> Result<(), AllocError>
     ensures ok { OnOk result (text.new ≡ text.old ++ more_labels labels.now) }
-    ensures many { OnErr result (16 < length (text.old ++ more_labels labels.now)) }
+    ensures many { OnErr result (NeedsAllocation (text.old ++ more_labels labels.now)) }
 {
     for label in labels {
         text.put(b",")?;
@@ -70,7 +71,7 @@ pub(crate) fn labels_text<A: Allocator + Copy>(
     labels: &[Label],
 ) -> Result<Bytes<A>, AllocError>
     ensures ok { IfOk result (λ text. text ≡ labels_text labels.now) }
-    ensures many { OnErr result (16 < length (labels_text labels.now)) }
+    ensures many { OnErr result (NeedsAllocation (labels_text labels.now)) }
 {
     let mut text = Bytes::new(alloc);
     match labels {

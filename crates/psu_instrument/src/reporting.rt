@@ -1,5 +1,6 @@
 //! Errors and the groups of status registers.
-ghost use Rattle.std.specs.Prelude.{◌≡◌, ◌<◌, ℕ, Bool, length, IfOk, OnErr};
+ghost use Rattle.std.specs.Prelude.{◌≡◌, ℕ, Bool, IfOk, OnErr};
+ghost use Rattle.psu_lex.specs.ByteStorage.{NeedsAllocation};
 ghost use Rattle.psu_nv.specs.Contents.{Contents as Kept};
 ghost use Rattle.psu_status.specs.Registers.{fifteen_bits, with_filter};
 ghost use Rattle.psu_status.specs.Status.{all_preset, with_group};
@@ -19,7 +20,7 @@ fn error_text<A: Allocator + Copy>(
     error: Option<ScpiError>,
 ) -> Result<Bytes<A>, AllocError>
     ensures ok { IfOk result (λ text. text ≡ error_text error) }
-    ensures many { OnErr result (16 < length (error_text error)) }
+    ensures many { OnErr result (NeedsAllocation (error_text error)) }
 {
     let Some(error) = error else {
         return Bytes::of(alloc, b"0,\"No error\"");

@@ -7,7 +7,11 @@ abbrev pub bytes_in : {A : Type 0} → ByteStorage A → List ℕ
 bytes_in (storage.Few alloc few) = few.items
 bytes_in (storage.Many list) = list.items
 
--- Only more than 16 bytes are in allocated memory.
+-- Bytes that need an allocation: more than 24. Fewer are stored in their value.
+abbrev pub NeedsAllocation : List ℕ → Type 0
+NeedsAllocation bytes = 24 < length bytes
+
+-- Only bytes that need it are in allocated memory.
 abbrev pub AllocatesForMany : {A : Type 0} → ByteStorage A → Type 0
 AllocatesForMany (storage.Few alloc few) = ⊤
-AllocatesForMany (storage.Many list) = 16 < length list.items
+AllocatesForMany (storage.Many list) = NeedsAllocation list.items

@@ -1,5 +1,6 @@
 //! Block data.
 ghost use Rattle.std.specs.Prelude.{ℕ, ◌≡◌, ◌==◌, ◌||◌, ◌<◌, ◌^◌, length, IfOk, IfErr, OnErr};
+ghost use Rattle.psu_lex.specs.ByteStorage.{NeedsAllocation};
 ghost use Rattle.psu_lex.specs.Bytes.{starts};
 ghost use Rattle.psu_lex.specs.Data.{IsBlockOf, Refuses, definite_text};
 ghost use Rattle.psu_lex.specs.declared.scpi_error.ScpiError.TheVariants.{InvalidBlockData};
@@ -43,12 +44,12 @@ pub fn block<A: Allocator + Copy>(alloc: A, text: &[u8]) -> Result<Bytes<A>, Scp
 }
 
 /// Returns the bytes as a block of definite length (IEEE 488.2, 8.7.9), with the length in as few digits as possible.
-/// Only a block of more than 16 bytes needs an allocation.
+/// Only a block of more than 24 bytes needs an allocation.
 pub fn definite<A: Allocator + Copy>(alloc: A, bytes: &[u8]) -> Result<Bytes<A>, AllocError>
     requires { length bytes.now < 10 ^ 9 }
     ensures exact { IfOk result (λ text. text ≡ definite_text bytes.now) }
     ensures read { IfOk result (λ text. IsBlockOf text bytes.now) }
-    ensures many { OnErr result (16 < length (definite_text bytes.now)) }
+    ensures many { OnErr result (NeedsAllocation (definite_text bytes.now)) }
 {
     let mut buffer = Buffer::new();
     let digits = buffer.format(bytes.len()).as_bytes();

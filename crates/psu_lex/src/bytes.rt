@@ -1,5 +1,5 @@
 //! Bytes that a call returns, and how they are stored.
-ghost use Rattle.std.specs.Prelude.{◌≡◌, ◌<◌, ◌≤◌, [], ◌++◌, length, decimal, IfOk, OnOk, OnErr};
+ghost use Rattle.std.specs.Prelude.{◌≡◌, ◌≤◌, [], ◌++◌, length, decimal, IfOk, OnOk, OnErr};
 
 use arrayvec::ArrayVec;
 use itoa::Buffer;
@@ -7,7 +7,7 @@ use std::alloc::{AllocError, Allocator};
 use std::marker::Model;
 
 /// The number of bytes that are stored without allocation.
-const INLINE_MOST: usize = 16;
+const INLINE_MOST: usize = 24;
 
 /// Bytes: a few inline, or more in allocated memory.
 #[derive(Drop)]
@@ -44,6 +44,8 @@ fn joined<A: Allocator + Copy>(alloc: A, few: &[u8], more: &[u8]) -> Result<Vec<
 }
 
 impl<A: Allocator + Copy> Bytes<A> {
+    ghost use Rattle.psu_lex.specs.ByteStorage.{NeedsAllocation};
+
     /// Returns no bytes. This does not allocate.
     pub fn new(alloc: A) -> Bytes<A>
         ensures { result ≡ [] }
@@ -55,7 +57,7 @@ impl<A: Allocator + Copy> Bytes<A> {
 
     /// Returns a few bytes. This does not allocate.
     pub fn few(alloc: A, bytes: &[u8]) -> Bytes<A>
-        requires { length bytes.now ≤ 16 }
+        requires { length bytes.now ≤ 24 }
         ensures { result ≡ bytes.now }
     {
         let mut few = ArrayVec::new();
@@ -82,10 +84,10 @@ impl<A: Allocator + Copy> Bytes<A> {
         }
     }
 
-    /// Returns these bytes. Only more than 16 bytes need an allocation.
+    /// Returns these bytes. Only more than 24 bytes need an allocation.
     pub fn of(alloc: A, bytes: &[u8]) -> Result<Bytes<A>, AllocError>
         ensures ok { IfOk result (λ copy. copy ≡ bytes.now) }
-        ensures many { OnErr result (16 < length bytes.now) }
+        ensures many { OnErr result (NeedsAllocation bytes.now) }
     {
         if bytes.len() <= INLINE_MOST {
             return Ok(Bytes::few(alloc, bytes));
@@ -95,12 +97,12 @@ impl<A: Allocator + Copy> Bytes<A> {
         })
     }
 
-    /// Appends bytes. Only where there are then more than 16, it needs an allocation; if that fails, nothing has
+    /// Appends bytes. Only where there are then more than 24, it needs an allocation; if that fails, nothing has
     /// changed.
     pub fn put(&mut self, bytes: &[u8]) -> Result<(), AllocError>
         ensures ok { OnOk result (self.new ≡ self.old ++ bytes.now) }
         ensures err { OnErr result (self.new ≡ self.old) }
-        ensures many { OnErr result (16 < length (self.old ++ bytes.now)) }
+        ensures many { OnErr result (NeedsAllocation (self.old ++ bytes.now)) }
     {
         match &mut self.storage {
             ByteStorage::Few(alloc, few) => {
@@ -118,7 +120,7 @@ impl<A: Allocator + Copy> Bytes<A> {
     pub fn put_number(&mut self, number: u128) -> Result<(), AllocError>
         ensures ok { OnOk result (self.new ≡ self.old ++ decimal number) }
         ensures err { OnErr result (self.new ≡ self.old) }
-        ensures many { OnErr result (16 < length (self.old ++ decimal number)) }
+        ensures many { OnErr result (NeedsAllocation (self.old ++ decimal number)) }
     {
         let mut buffer = Buffer::new();
         self.put(buffer.format(number).as_bytes())

@@ -1,15 +1,16 @@
 //! Numbers as response data.
-ghost use Rattle.std.specs.Prelude.{◌≡◌, ◌<◌, [], ◌∷◌, ◌++◌, length, decimal, if◌then◌else◌, IfOk, OnErr};
+ghost use Rattle.std.specs.Prelude.{◌≡◌, [], ◌∷◌, ◌++◌, decimal, if◌then◌else◌, IfOk, OnErr};
+ghost use Rattle.psu_lex.specs.ByteStorage.{NeedsAllocation};
 ghost use Rattle.psu_lex.specs.Decimals.{fixed3_text};
 
 use crate::Bytes;
 use itoa::Buffer;
 use std::alloc::{AllocError, Allocator};
 
-/// Returns a whole number as response data (NR1; IEEE 488.2, 8.7.2). Only more than 16 digits need an allocation.
+/// Returns a whole number as response data (NR1; IEEE 488.2, 8.7.2). Only more than 24 digits need an allocation.
 pub fn whole<A: Allocator + Copy>(alloc: A, number: u64) -> Result<Bytes<A>, AllocError>
     ensures ok { IfOk result (λ text. text ≡ decimal number) }
-    ensures many { OnErr result (16 < length (decimal number)) }
+    ensures many { OnErr result (NeedsAllocation (decimal number)) }
 {
     let mut buffer = Buffer::new();
     Bytes::of(alloc, buffer.format(number).as_bytes())
@@ -22,7 +23,7 @@ fn signed<A: Allocator + Copy>(
     digits: &[u8],
 ) -> Result<Bytes<A>, AllocError>
     ensures ok { IfOk result (λ text. text ≡ (if negative then 45 ∷ [] else []) ++ digits.now) }
-    ensures many { OnErr result (16 < length ((if negative then 45 ∷ [] else []) ++ digits.now)) }
+    ensures many { OnErr result (NeedsAllocation ((if negative then 45 ∷ [] else []) ++ digits.now)) }
 {
     if !negative {
         return Bytes::of(alloc, digits);
@@ -33,10 +34,10 @@ fn signed<A: Allocator + Copy>(
 }
 
 /// Returns a number of thousandths as response data: the whole part, a point and three decimals (NR2; IEEE 488.2,
-/// 8.7.3), such as `-0.005` for -5. Only more than 16 bytes need an allocation.
+/// 8.7.3), such as `-0.005` for -5. Only more than 24 bytes need an allocation.
 pub fn fixed3<A: Allocator + Copy>(alloc: A, thousandths: i64) -> Result<Bytes<A>, AllocError>
     ensures ok { IfOk result (λ text. text ≡ fixed3_text thousandths) }
-    ensures many { OnErr result (16 < length (fixed3_text thousandths)) }
+    ensures many { OnErr result (NeedsAllocation (fixed3_text thousandths)) }
 {
     let magnitude = thousandths.unsigned_abs();
     let part = magnitude % 1000;
