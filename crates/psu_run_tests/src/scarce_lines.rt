@@ -173,8 +173,8 @@ fn go_with_little_memory(rt: &impl Abort, alloc: Global, cases: &str) {
     }
 }
 
-// An answer of at most 16 bytes is never refused: the lines end as they do with ample memory, or the run ends.
-const ANSWERS: &str = "
+// An answer of at most 24 bytes is never refused: the lines end as they do with ample memory, or the run ends.
+const ANSWERS: &str = r#"
 before: *PSC 0;*SRE 32;*ESE 128;*OPC? / !POWER
 answered before: 1
 line: *STB?;*ESR?;*STB?
@@ -186,11 +186,32 @@ answered before: 1
 line: VOLT?;*RCL 3;VOLT?
 then: SYST:ERR:COUN?;:VOLT?
 - 1 / 0.000;5.250 / 0;5.250
-";
+
+before: *SAV 100;*OPC?
+answered before: 1
+line: SYST:ERR?
+then: SYST:ERR:COUN?
+- 1 / -222,"Data out of range" / 0
+"#;
 
 #[test]
 fn answers_that_are_refused(rt: HostRuntime) {
     go_with_little_memory(&rt, rt.alloc(), ANSWERS);
+}
+
+// One of 25 bytes may be refused: the error that it would report stays in the queue.
+const LONGER_ANSWERS: &str = r#"
+before: VOLT 1E32001;*OPC?
+answered before: 1
+line: SYST:ERR?
+then: SYST:ERR:COUN?
+- 1 / -123,"Exponent too large" / 0
+- 1 / 2
+"#;
+
+#[test]
+fn an_answer_that_needs_memory(rt: HostRuntime) {
+    go_with_little_memory(&rt, rt.alloc(), LONGER_ANSWERS);
 }
 
 // A save takes no memory, and a wait that can't end ends the run.
