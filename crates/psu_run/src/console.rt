@@ -9,7 +9,7 @@ ghost use Rattle.psu_run.specs.Runs.{LineBegins, LineRuns};
 
 use crate::RunCause;
 use crate::acting::unit;
-use crate::lines::Lines;
+use crate::lines::is_too_long;
 use crate::run_state::Responder;
 use crate::writing::append_output;
 use psu_disk::Disk;
@@ -26,23 +26,23 @@ use std::mem;
 #[inline(always)]
 fn proceed<A: Allocator + Copy, F: Executor<A>>(
     executor: &mut F,
-    lines: &Lines<A>,
+    line: &[u8],
     progress: &mut Progress<A, F::Wait>,
 ) -> Result<Option<Need>, F::Stop>
     requires { progress.old.units ≡ 0 }
     ensures goes { OnOk result (Advances F.relations.does
-        (source_of lines.now.line.items) executor.old
+        (source_of line.now) executor.old
         (progress_of progress.old) executor.new (progress_of progress.new)) }
-    ensures over { IfOk result (λ need. need ≡ None → IsOver (source_of lines.now.line.items) (progress_of progress.new)) }
+    ensures over { IfOk result (λ need. need ≡ None → IsOver (source_of line.now) (progress_of progress.new)) }
     ensures waits { IfOk result (λ some. IfSome some (IsAwaited F.relations executor.new)) }
-    ensures stops { IfErr result (λ stop. StopsAt F.relations (source_of lines.now.line.items) executor.old (progress_of progress.old) stop executor.new
+    ensures stops { IfErr result (λ stop. StopsAt F.relations (source_of line.now) executor.old (progress_of progress.old) stop executor.new
         progress.new.gathered) }
 {
-    if lines.is_too_long() {
+    if is_too_long(line) {
         let need = execute_fault(executor, ScpiError::TooMuchData, progress)?;
         return Ok(need);
     }
-    let need = execute_text(executor, lines.line.as_slice(), progress)?;
+    let need = execute_text(executor, line, progress)?;
     Ok(need)
 }
 
@@ -102,12 +102,12 @@ impl<'r, 'w, W: Write, D: Disk, A: Allocator + Copy> Executor<A> for Console<'r,
 
 impl<'r, 'w, W: Write, D: Disk, A: Allocator + Copy> Console<'r, 'w, W, D, A> {
     // Executes the message of a complete line, and outputs its response.
-    fn follow(&mut self, alloc: A, lines: &Lines<A>) -> Result<(), RunCause>
+    fn follow(&mut self, alloc: A, line: &[u8]) -> Result<(), RunCause>
         ensures runs { OnOk result ((text : List ℕ)
-            × Leads self.old.responder.now.powered.exec self.new.responder.now.powered.exec (LineRuns (source_of lines.now.line.items) text)
+            × Leads self.old.responder.now.powered.exec self.new.responder.now.powered.exec (LineRuns (source_of line.now) text)
             × Says (held (W.contents self.old.writer.now) self.old.responder.now.output.items) (held (W.contents self.new.writer.now) self.new.responder.now.output.items) text) }
         ensures breaks { IfErr result (λ cause. (part : List ℕ)
-            × DeviceStops self.old.responder.now.powered.exec self.new.responder.now.powered.exec (LineBegins (source_of lines.now.line.items) part) cause
+            × DeviceStops self.old.responder.now.powered.exec self.new.responder.now.powered.exec (LineBegins (source_of line.now) part) cause
             × SaysUntil cause (held (W.contents self.old.writer.now) self.old.responder.now.output.items)
             (output_state (W.contents self.new.writer.now) self.new.responder.now.output.items self.new.responder.now.gathered) part) }
         ensures responder { self.new.responder.ghost_name ≡ self.old.responder.ghost_name }
@@ -115,7 +115,7 @@ impl<'r, 'w, W: Write, D: Disk, A: Allocator + Copy> Console<'r, 'w, W, D, A> {
     {
         let buffer = ResponseBuffer::new(alloc);
         let mut progress = Progress::new(mem::replace(&mut self.responder.gathered, buffer));
-        let done = proceed(self, lines, &mut progress);
+        let done = proceed(self, line, &mut progress);
         self.responder.gathered = progress.gathered;
         match done {
             Ok(need) => match need {
@@ -132,19 +132,19 @@ impl<'r, 'w, W: Write, D: Disk, A: Allocator + Copy> Console<'r, 'w, W, D, A> {
 pub(crate) fn execute_line<W: Write, D: Disk, A: Allocator + Copy>(
     alloc: A,
     responder: &mut Responder<D, A>,
-    lines: &Lines<A>,
+    line: &[u8],
     writer: &mut W,
 ) -> Result<(), RunCause>
     ensures runs { OnOk result ((text : List ℕ)
-        × Leads responder.old.powered.exec responder.new.powered.exec (LineRuns (source_of lines.now.line.items) text)
+        × Leads responder.old.powered.exec responder.new.powered.exec (LineRuns (source_of line.now) text)
         × Says (held (W.contents writer.old) responder.old.output.items) (held (W.contents writer.new) responder.new.output.items) text) }
     ensures breaks { IfErr result (λ cause. (part : List ℕ)
-        × DeviceStops responder.old.powered.exec responder.new.powered.exec (LineBegins (source_of lines.now.line.items) part) cause
+        × DeviceStops responder.old.powered.exec responder.new.powered.exec (LineBegins (source_of line.now) part) cause
         × SaysUntil cause (held (W.contents writer.old) responder.old.output.items) (output_state (W.contents writer.new) responder.new.output.items responder.new.gathered) part) }
 {
     let mut console = Console {
         responder: &mut *responder,
         writer: &mut *writer,
     };
-    console.follow(alloc, lines)
+    console.follow(alloc, line)
 }

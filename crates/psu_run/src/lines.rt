@@ -1,5 +1,5 @@
 //! The line that is being read.
-ghost use Rattle.std.specs.Prelude.{◌≡◌, ◌↔◌, ◌++◌, [], List, ℕ, IsTrue, OnOk, false, codes, length, nat_lt};
+ghost use Rattle.std.specs.Prelude.{◌≡◌, ◌↔◌, ◌++◌, [], List, ℕ, IsTrue, IfOk, OnOk, false, codes, length, nat_lt};
 ghost use Rattle.std.specs.Str.{bytes_eq};
 ghost use Rattle.psu_run.specs.Lines.{has, messages};
 
@@ -35,25 +35,25 @@ impl<A: Allocator> Lines<A> {
         Ok(())
     }
 
+    /// Ends the line with this part, and returns it. A line that lies whole in the part is not copied.
+    #[inline(always)]
+    pub fn ended<'l>(&'l mut self, part: &'l [u8]) -> Result<&'l [u8], AllocError>
+        requires { has 10 part.now ≡ false }
+        ensures line { IfOk result (λ line. (input : List ℕ) → messages (self.old.line.items ++ (part.now ++ input)) ≡ messages (line.now ++ input)) }
+        ensures free { IfOk result (λ line. has 10 line.now ≡ false) }
+    {
+        if self.is_empty() {
+            return Ok(part);
+        }
+        self.extend(part)?;
+        Ok(self.line.as_slice())
+    }
+
     /// Whether no line has begun.
     pub fn is_empty(&self) -> bool
         ensures { IsTrue result ↔ (self.now.line.items ≡ []) }
     {
         self.line.is_empty()
-    }
-
-    /// Whether the line is that of a power loss.
-    pub fn is_power(&self) -> bool
-        ensures { result ≡ bytes_eq self.now.line.items (codes "!POWER") }
-    {
-        self.line.as_slice() == b"!POWER".as_slice()
-    }
-
-    /// Whether the line has more bytes than a line may have.
-    pub fn is_too_long(&self) -> bool
-        ensures { result ≡ nat_lt 65536 (length self.now.line.items) }
-    {
-        self.line.len() > TEXT_MOST
     }
 
     /// Begins the next line.
@@ -62,4 +62,18 @@ impl<A: Allocator> Lines<A> {
     {
         self.line.clear();
     }
+}
+
+/// Whether a line is that of a power loss.
+pub(crate) fn is_power(line: &[u8]) -> bool
+    ensures { result ≡ bytes_eq line.now (codes "!POWER") }
+{
+    line == b"!POWER".as_slice()
+}
+
+/// Whether a line has more bytes than a line may have.
+pub(crate) fn is_too_long(line: &[u8]) -> bool
+    ensures { result ≡ nat_lt 65536 (length line.now) }
+{
+    line.len() > TEXT_MOST
 }

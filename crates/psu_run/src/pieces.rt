@@ -7,6 +7,7 @@ ghost use Rattle.psu_run.specs.Runs.{LineBegins, Runs, never};
 
 use crate::console::execute_line;
 use crate::jobs::reopen;
+use crate::lines::is_power;
 use crate::output::put;
 use crate::powered_device::PoweredDevice;
 use crate::run_state::{Responder, RunState, write_before};
@@ -35,6 +36,28 @@ fn restart_device<D: Disk, A: Allocator + Copy>(
     powered.exec.contents();
     let powered = PoweredDevice::on(alloc, RunStart::Image(powered.into_disk()))?;
     Ok(powered)
+}
+
+impl<D: Disk, A: Allocator + Copy> Responder<D, A> {
+    // Executes the message of a complete line that is not the one of a power loss, and outputs its response.
+    fn answer_line<W: Write>(
+        &mut self,
+        alloc: A,
+        line: &[u8],
+        writer: &mut W,
+    ) -> Result<(), RunCause>
+        requires fresh { self.old.gathered ≡ nothing }
+        ensures runs { OnOk result (Answers (Message.Line (source_of line.now) ∷ []) self.old.powered.exec self.new.powered.exec
+            (output_state (W.contents writer.old) self.old.output.items self.old.gathered) (output_state (W.contents writer.new) self.new.output.items self.new.gathered)) }
+        ensures fresh { OnOk result (self.new.gathered ≡ nothing) }
+        ensures breaks { IfErr result (λ cause. (part : List ℕ)
+            × SaysUntil cause (output_state (W.contents writer.old) self.old.output.items self.old.gathered) (output_state (W.contents writer.new) self.new.output.items self.new.gathered) part
+            × DeviceStops self.old.powered.exec self.new.powered.exec (LineBegins (source_of line.now) part) cause) }
+    {
+        execute_line(alloc, self, line, writer)?;
+        self.gathered.restart();
+        Ok(())
+    }
 }
 
 impl<D: Disk, A: Allocator + Copy> RunState<D, A> {
@@ -70,24 +93,6 @@ impl<D: Disk, A: Allocator + Copy> RunState<D, A> {
         }
     }
 
-    // Executes the message of a complete line that is not the one of a power loss, outputs its response, and begins the
-    // next line.
-    fn answer_line<W: Write>(&mut self, writer: &mut W) -> Result<(), RunCause>
-        requires fresh { self.old.responder.gathered ≡ nothing }
-        ensures runs { OnOk result (Answers (Message.Line (source_of self.old.lines.line.items) ∷ []) self.old.responder.powered.exec self.new.responder.powered.exec
-            (output_state (W.contents writer.old) self.old.responder.output.items self.old.responder.gathered) (output_state (W.contents writer.new) self.new.responder.output.items self.new.responder.gathered)) }
-        ensures fresh { OnOk result (self.new.responder.gathered ≡ nothing) }
-        ensures empty { OnOk result (self.new.lines.line.items ≡ []) }
-        ensures breaks { IfErr result (λ cause. (part : List ℕ)
-            × SaysUntil cause (output_state (W.contents writer.old) self.old.responder.output.items self.old.responder.gathered) (output_state (W.contents writer.new) self.new.responder.output.items self.new.responder.gathered) part
-            × DeviceStops self.old.responder.powered.exec self.new.responder.powered.exec (LineBegins (source_of self.old.lines.line.items) part) cause) }
-    {
-        execute_line(self.alloc, &mut self.responder, &self.lines, writer)?;
-        self.responder.gathered.restart();
-        self.lines.clear();
-        Ok(())
-    }
-
     // Executes the lines that end in a piece of the input, and outputs their responses. At a fault the output before it
     // is written.
     fn execute_lines<W: Write>(
@@ -105,17 +110,17 @@ impl<D: Disk, A: Allocator + Copy> RunState<D, A> {
         let mut run = self;
         let mut rest = piece;
         while let Some(at) = memchr(b'\n', rest) {
-            let Ok(()) = run.lines.extend(&rest[..at]) else {
+            let Ok(line) = run.lines.ended(&rest[..at]) else {
                 return Err(run.end_early(RunCause::Memory, writer));
             };
             rest = &rest[at + 1..];
-            if run.lines.is_power() {
+            if is_power(line) {
                 run.lines.clear();
                 run = run.restart(writer)?;
                 continue;
             }
-            match run.answer_line(writer) {
-                Ok(()) => {}
+            match run.responder.answer_line(run.alloc, line, writer) {
+                Ok(()) => run.lines.clear(),
                 Err(cause) => return Err(run.end_early(cause, writer)),
             }
         }

@@ -6,7 +6,7 @@ use Rattle.psu_run.proofs.console.Console.follow.Goals as goal
 
 pub returns-clause-breaks : goal.returns-clause-breaks
 returns-clause-breaks g c =
-    broken (λ x. x.responder.now.powered.exec) (λ x. held (g.W.Write.contents x.writer.now) x.responder.now.output.items) _ (source_of c.args.lines.now.line.items)
+    broken (λ x. x.responder.now.powered.exec) (λ x. held (g.W.Write.contents x.writer.now) x.responder.now.output.items) _ (source_of c.args.line.now)
     (λ x y effect d. d.2) (λ x y request cause f. f.2) (λ x y cause s. s.2) _ c.proceed-done.new.executor c.in-Err.cause c.proceed-done.new.progress.gathered _ c.new-progress.ensures c.in-Err.ensures.stops
 
 pub returns-clause-responder : goal.returns-clause-responder
@@ -18,7 +18,7 @@ returns-clause-writer g c = kept_interrupted c.in-Err.ensures.stops (λ x. x.wri
 pub returns-in-None-clause-runs : goal.returns-in-None-clause-runs
 returns-in-None-clause-runs g c =
     whole (λ x. x.responder.now.powered.exec) (λ x. held (g.W.Write.contents x.writer.now) x.responder.now.output.items) _ (λ x y effect d. d.2)
-    (source_of c.args.lines.now.line.items) _ c.proceed-done.new.executor _ (progress_of c.proceed-done.new.progress) c.new-progress.ensures c.in-Ok.ensures.goes (c.in-Ok.ensures.over c.in-None.is)
+    (source_of c.args.line.now) _ c.proceed-done.new.executor _ (progress_of c.proceed-done.new.progress) c.new-progress.ensures c.in-Ok.ensures.goes (c.in-Ok.ensures.over c.in-None.is)
 
 pub returns-in-None-clause-responder : goal.returns-in-None-clause-responder
 returns-in-None-clause-responder g c = kept_advances c.in-Ok.ensures.goes (λ x. x.responder.ghost_name) (λ x y effect d. d.0)
