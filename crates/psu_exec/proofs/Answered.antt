@@ -24,13 +24,11 @@ HasText reply = (text : List ℕ) → reply ≡ Answer text → text ≢ []
 
 complete_told : (c : Completion) → HasText (answer_complete c)
 complete_told completion.Query text is = subst (λ (z : List ℕ). z ≢ []) (let same : decimal 1 ≡ text = cc in same) (some_digit 1)
-complete_told completion.Wait text is = cc
-complete_told completion.Event text is = cc
+complete_told other text is = cc
 
 completing_told : (broken waits : Bool) (c : Completion) → HasText (if broken then Error StorageFault else (if waits then Parked else answer_complete c))
-completing_told true waits c text is = cc
-completing_told false true c text is = cc
 completing_told false false c text is = complete_told c text is
+completing_told other another c text is = cc
 
 kept_silent : (found : Option ScpiError) (whole fitting : Bool) → HasText (kept_unless found whole fitting)
 kept_silent (Some e) whole fitting text is = cc
@@ -43,11 +41,10 @@ abbrev Says : Meaning → Type 0
 Says m = (text : List ℕ) (new : Instrument) → m ≡ Does (Some text) new → text ≢ []
 
 meaning_told : (f : Flush) (m : Meaning) → Says m → HasText (answer_meant f m)
-meaning_told f (Refuses e) some text is = cc
-meaning_told f (Does None new) some text is = cc
 meaning_told f (Does (Some given) new) some text is = subst (λ (z : List ℕ). z ≢ []) (let same : given ≡ text = cc in same) (some given new refl)
 meaning_told f (Keeps change) some text is = kept_silent (nv.refused f.contents change) (is_whole f.store) (fits f.limit (nv.apply f.contents change)) text is
 meaning_told f (Completes c) some text is = completing_told (not (is_whole f.store)) (parks c && not (f.unflushed == 0)) c text is
+meaning_told f other some text is = cc
 
 meant_says : (s : Situation) (reading : Result Command ScpiError) → Says (meant s reading)
 meant_says s (Err e) text new is = cc
@@ -60,19 +57,17 @@ may_told s session request reply (inr (e, wanted)) text is = let bad = sym e ∙
 -- ---- units, and the ends of waits
 
 unit_told : (s : State) (session : ℕ) (request : Request) (reply : Reply) → MayAnswer s session request reply → HasText reply
-unit_told s session request reply (LockedOut denied) text is = cc
-unit_told s session request reply (TooEarly free late) text is = cc
 unit_told s session request reply (Runs run (Expands body calls call)) text is = absurd (answer_is_no_call text call.given (sym is ∙ call.is))
 unit_told s session request reply (Runs run (Means none may)) text is = may_told s session request reply may text is
+unit_told s session request reply other text is = cc
 
 until_told : (flushed : Bool) (c : Completion) → HasText (if flushed then answer_complete c else Parked)
 until_told true c text is = complete_told c text is
 until_told false c text is = cc
 
 wait_told : (w : Option Wait) → HasText (settle_answer w)
-wait_told None text is = cc
-wait_told (Some CutOff) text is = cc
 wait_told (Some (Until c n)) text is = until_told (n == 0) c text is
+wait_told other text is = cc
 
 pub settle_told : (s : State) (session : ℕ) (reply : Reply) → reply ≡ settle_answer (wait_of s.flush session) → HasText reply
 settle_told s session reply e text is = wait_told (wait_of s.flush session) text (sym e ∙ is)

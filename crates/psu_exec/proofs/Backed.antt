@@ -77,10 +77,9 @@ answer_backed s session b h =
 end_backed : (s new : State) (finished : JobEnd) → GivesBack s finished new → AreBacked s.volatile.instrument.status s.volatile.service_states → AreBacked new.volatile.instrument.status new.volatile.service_states
 end_backed s new (Stored limit map) is h = rw is (followed_backed s.volatile.instrument.status (target_flushed s).volatile.instrument.status s.volatile.service_states h)
 end_backed s new (Unstarted limit before edits unstarted.Memory) is h = rw is h
-end_backed s new (Unstarted limit before edits unstarted.Worn) is h = rw is h
-end_backed s new (Failed limit before edits cause) is h = rw is h
 end_backed s new (Reopened limit map) (inl all) h = rw all.1 (followed_backed s.volatile.instrument.status (target_flushed s).volatile.instrument.status s.volatile.service_states h)
 end_backed s new (Reopened limit map) (inr none) h = rw none.1 h
+end_backed s new other is h = rw is h
 
 pub fresh_backed : (status : Reported) (n : ℕ) → AreBacked status (replicate n initial_service_state)
 fresh_backed status zero = tt
@@ -89,14 +88,10 @@ fresh_backed status (suc n) = ((λ set. cc), fresh_backed status n)
 serves_backed : (s new : State) (entry : Entry) → Serves s entry new → AreBacked s.volatile.instrument.status s.volatile.service_states → AreBacked new.volatile.instrument.status new.volatile.service_states
 serves_backed s new (Entry.Executed session request reply) a h = rw a.1.is (followed_backed s.volatile.instrument.status (after_meant s session (meant (here s session) request.reading) reply).volatile.instrument.status s.volatile.service_states h)
 serves_backed s new (Entry.Settled session reply) a h = rw a.2 (followed_backed s.volatile.instrument.status (wait_settled s session reply).volatile.instrument.status s.volatile.service_states h)
-serves_backed s new (Entry.Took taken) a h = rw a.1 h
 serves_backed s new (Entry.GaveBack finished (Some over)) a h = end_backed s new finished a.gives h
-serves_backed s new (Entry.GaveBack finished None) a h = rw a.1 h
-serves_backed s new (Entry.Opened None) a h = rw a.1 h
 serves_backed s new (Entry.Opened (Some session)) a h =
     rw a.1 (set_backed s.volatile.instrument.status s.volatile.service_states (place_of session) (opened_service_state s.volatile.instrument.status) (one_backed s.volatile.instrument.status 0 initial_service_state (λ set. cc)) h)
 serves_backed s new (Entry.Closed session granted) a h = rw a.2 (set_backed s.volatile.instrument.status s.volatile.service_states (place_of session) initial_service_state (λ set. cc) h)
-serves_backed s new (Entry.Cleared session) a h = rw a.1 h
 serves_backed s new (Entry.Sent session sessions work) a h = rw a.1.2 (reported_backed s.volatile.instrument.status (with_answer s session true).volatile.service_states (answer_backed s session true h))
 serves_backed s new (Entry.Delivered session) a h = rw a.1 (answer_backed s session false h)
 serves_backed s new (Entry.Queried session byte) a h = rw a.2 (set_backed s.volatile.instrument.status s.volatile.service_states (place_of session) (released (service_state_of s session)) (λ set. cc) h)
@@ -105,9 +100,7 @@ serves_backed s new (Entry.Fetched session byte) a h =
 serves_backed s new (Entry.Notified sessions work) a h = rw a.2 (reported_backed s.volatile.instrument.status s.volatile.service_states h)
 serves_backed s new (Entry.Locked session kind now timeout result) a h = rw a.2 h
 serves_backed s new (Entry.Released session result) a h = rw a.2 h
-serves_backed s new (Entry.Ticked now failed) a h = rw a.1 h
-serves_backed s new (Entry.Informed info) a h = rw a.1 h
-serves_backed s new (Entry.Due deadline) a h = rw a.1 h
+serves_backed s new other a h = rw a.1 h
 
 pub stays_backed : EachRqsStaysBacked
 stays_backed s new entry (inl a) h = serves_backed s new entry a h

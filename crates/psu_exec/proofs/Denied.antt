@@ -18,13 +18,11 @@ not_kept None true true h = cc
 
 not_complete : (c : Completion) → Held ≡ answer_complete c → ⊥
 not_complete completion.Query h = cc
-not_complete completion.Wait h = cc
-not_complete completion.Event h = cc
+not_complete other h = cc
 
 not_completing : (c : Completion) (broken waits : Bool) → Held ≡ cond broken (Error StorageFault) (cond waits Parked (answer_complete c)) → ⊥
-not_completing c true waits h = cc
-not_completing c false true h = cc
 not_completing c false false h = not_complete c h
+not_completing c other another h = cc
 
 never_meant : (f : Flush) (m : Meaning) → Held ≡ answer_meant f m → ⊥
 never_meant f (Refuses e) h = cc

@@ -13,27 +13,21 @@ FlushGives f (Failed limit before edits cause) new = new ≡ broken f
 FlushGives f (Reopened limit map) new = ((map ≡ target f) × (new ≡ stored f)) ⊎ ((map ≢ target f) × (new ≡ kept f))
 
 pub flush_gives : (s new : State) (finished : JobEnd) → GivesBack s finished new → FlushGives s.flush finished new.flush
-flush_gives s new (Stored limit map) is = ap (λ (t : State). t.flush) is
 flush_gives s new (Unstarted limit before edits unstarted.Memory) is = ap (λ (t : State). t.flush) is
-flush_gives s new (Unstarted limit before edits unstarted.Worn) is = ap (λ (t : State). t.flush) is
-flush_gives s new (Failed limit before edits cause) is = ap (λ (t : State). t.flush) is
 flush_gives s new (Reopened limit map) (inl all) = inl (all.0, ap (λ (t : State). t.flush) all.1)
 flush_gives s new (Reopened limit map) (inr none) = inr (none.0, ap (λ (t : State). t.flush) none.1)
+flush_gives s new other is = ap (λ (t : State). t.flush) is
 
 -- the same sessions are open
 pub open_after : (s new : State) (finished : JobEnd) → GivesBack s finished new → new.volatile.open_now ≡ s.volatile.open_now
-open_after s new (Stored limit map) is = ap (λ (t : State). t.volatile.open_now) is
 open_after s new (Unstarted limit before edits unstarted.Memory) is = ap (λ (t : State). t.volatile.open_now) is
-open_after s new (Unstarted limit before edits unstarted.Worn) is = ap (λ (t : State). t.volatile.open_now) is
-open_after s new (Failed limit before edits cause) is = ap (λ (t : State). t.volatile.open_now) is
 open_after s new (Reopened limit map) (inl all) = ap (λ (t : State). t.volatile.open_now) all.1
 open_after s new (Reopened limit map) (inr none) = ap (λ (t : State). t.volatile.open_now) none.1
+open_after s new other is = ap (λ (t : State). t.volatile.open_now) is
 
 -- and the locks are the same
 pub locks_after : (s new : State) (finished : JobEnd) → GivesBack s finished new → new.volatile.locks ≡ s.volatile.locks
-locks_after s new (Stored limit map) is = ap (λ (t : State). t.volatile.locks) is
 locks_after s new (Unstarted limit before edits unstarted.Memory) is = ap (λ (t : State). t.volatile.locks) is
-locks_after s new (Unstarted limit before edits unstarted.Worn) is = ap (λ (t : State). t.volatile.locks) is
-locks_after s new (Failed limit before edits cause) is = ap (λ (t : State). t.volatile.locks) is
 locks_after s new (Reopened limit map) (inl all) = ap (λ (t : State). t.volatile.locks) all.1
 locks_after s new (Reopened limit map) (inr none) = ap (λ (t : State). t.volatile.locks) none.1
+locks_after s new other is = ap (λ (t : State). t.volatile.locks) is

@@ -77,9 +77,8 @@ opens_the_least s new = (λ session a. opens_least s new session (serves_opened 
 
 -- no two open sessions share a place
 apart : (a b : ℕ) (x y : Bool) → not (a == 0) && x ≡ true → not (b == 0) && y ≡ true → place_of a ≡ place_of b → a ≡ b
-apart zero b x y h g e = cc
-apart (suc a) zero x y h g e = cc
 apart (suc a) (suc b) x y h g e = omega (arith, e)
+apart other another x y h g e = cc
 
 pub places_are_apart : PlacesAreApart
 places_are_apart s one other h g e = apart one other _ _ h g e

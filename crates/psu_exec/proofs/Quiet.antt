@@ -34,10 +34,9 @@ unreported_one old new m none = unreported_at (rises old new) (falls old new) m 
 
 -- where no enabled bit rises, no session requests service
 unreported_same : (old new : Reported) → RaisesNone old new → (n : ℕ) (os : List Bool) (ms : List ServiceState) → unreported_from n os (each_rqs_updated old new ms ms) ≡ unreported_from n os ms
-unreported_same old new none n [] ms = refl
-unreported_same old new none n (o ∷ os) [] = refl
 unreported_same old new none n (o ∷ os) (m ∷ ms) =
     ap₂ (λ (b : Bool) (rest : List ℕ). named n (o && b) ++ rest) (unreported_one (enabled old m.available) (enabled new m.available) m (none m.available)) (unreported_same old new none (suc n) os ms)
+unreported_same old new none n other another = refl
 
 -- ---- what a unit that is answered leaves
 
@@ -58,13 +57,12 @@ never_event true text e = cc
 never_event false text e = cc
 
 leaves : (s : State) (session : ℕ) (command : Command) (text : List ℕ) (m : Meaning) → meaning (here s session) command ≡ m → Answer text ≡ answer_meant s.flush m → Leaves s m
-leaves s session command text (Refuses error) is e = absurd (let bad = e in cc)
-leaves s session command text (Does None new) is e = absurd (let bad = e in cc)
 leaves s session command text (Does (Some given) new) is e = record { bits = (each_answer_is_quiet (here s session) command given new is).1; none = refl }
 leaves s session command text (Keeps change) is e = absurd (never_kept (nv.refused s.flush.contents change) (is_whole s.flush.store) (fits s.flush.limit (nv.apply s.flush.contents change)) text e)
 leaves s session command text (Completes completion.Query) is e = record { bits = none_rises s.volatile.instrument.status; none = refl }
 leaves s session command text (Completes completion.Wait) is e = record { bits = none_rises s.volatile.instrument.status; none = refl }
 leaves s session command text (Completes completion.Event) is e = absurd (never_event (not (is_whole s.flush.store)) text e)
+leaves s session command text other is e = absurd (let bad = e in cc)
 
 means : (s : State) (session : ℕ) (reading : Result Command ScpiError) (text : List ℕ) → MayMean s.flush (meant (here s session) reading) (Answer text) → Leaves s (meant (here s session) reading)
 means s session reading text (inr short) = absurd (let bad = short.0 in cc)
@@ -109,19 +107,12 @@ unit_is_quiet : (s new : State) (session : ℕ) (request : Request) (reply : Rep
 unit_is_quiet s new session request Done quiet a = cc
 unit_is_quiet s new session request (Error e) quiet a = cc
 unit_is_quiet s new session request (Answer text) quiet a = answer_is_quiet s new session request text a
-unit_is_quiet s new session request (Expand text) quiet a = waits_are_quiet s new _ a.1.is
-unit_is_quiet s new session request Parked quiet a = waits_are_quiet s new _ a.1.is
-unit_is_quiet s new session request Held quiet a = waits_are_quiet s new _ a.1.is
-unit_is_quiet s new session request Later quiet a = waits_are_quiet s new _ a.1.is
+unit_is_quiet s new session request other quiet a = waits_are_quiet s new _ a.1.is
 
 wait_is_quiet : (s new : State) (session : ℕ) (reply : Reply) → may_cause reply ≡ false → Serves s (Settled session reply) new → IsQuiet s new
 wait_is_quiet s new session Done quiet a = cc
 wait_is_quiet s new session (Error e) quiet a = cc
-wait_is_quiet s new session (Answer text) quiet a = waits_are_quiet s new _ a.2
-wait_is_quiet s new session (Expand text) quiet a = waits_are_quiet s new _ a.2
-wait_is_quiet s new session Parked quiet a = waits_are_quiet s new _ a.2
-wait_is_quiet s new session Held quiet a = waits_are_quiet s new _ a.2
-wait_is_quiet s new session Later quiet a = waits_are_quiet s new _ a.2
+wait_is_quiet s new session other quiet a = waits_are_quiet s new _ a.2
 
 pub each_unit_is_quiet : EachUnitIsQuiet
 each_unit_is_quiet s new session request reply quiet (inl a) = unit_is_quiet s new session request reply quiet a

@@ -15,9 +15,7 @@ use Rattle.psu_exec.proofs.Giving.{FlushGives}
 
 -- the store of an expected end is that of the device after it
 pub returned : {D A : Type 0} {G : Ghosts D} (f new : Flush) (end : End D A G) → IsExpected f (finished_of end) → FlushGives f (finished_of end) new → IsStoreOf new (idle_store_of end)
-returned f new (finished.Stored store) expected is = rw is (expected.1, expected.0, refl)
 returned f new (finished.Unstarted store edits unstarted.Memory) expected is = rw is (expected.1, expected.0, refl)
-returned f new (finished.Unstarted store edits unstarted.Worn) expected is = rw is (expected.1, expected.0, refl)
 returned f new (finished.Broken store) expected is = rw is (expected.1, expected.0, refl, expected.2)
 returned f new (finished.Reopened store) expected (inl is) = rw is.1 (is.0, expected.0, refl)
 returned f new (finished.Reopened store) expected (inr is) = rw is.1 (before_is expected.1, expected.0, refl)
@@ -25,6 +23,7 @@ returned f new (finished.Reopened store) expected (inr is) = rw is.1 (before_is 
     before_is : (store.items ≡ f.before) ⊎ (store.items ≡ target f) → store.items ≡ f.before
     before_is (inl e) = e
     before_is (inr e) = absurd (is.0 e)
+returned f new other expected is = rw is (expected.1, expected.0, refl)
 
 -- a store that is not broken belongs to a device by its map alone
 pub whole_belongs : {D A : Type 0} {G : Ghosts D} (store : IdleStore D A G) (c : Condition) (limit : ℕ) (plan other : Planned) → is_broken c ≡ false → plan.map ≡ other.map → Belongs store c limit plan → Belongs store c limit other

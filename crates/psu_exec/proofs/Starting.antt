@@ -16,6 +16,5 @@ no_start items decoding.Memory kept e c is same = cc
 
 -- if the cause is memory, the map is that of contents
 pub kept_start : (items own : List Item) (fault : DecodeFault) → IsFault items fault → cause_of fault ≡ Memory → items ≡ own → (c : Contents) × IsContents c × (items_of c ≡ own)
-kept_start items own decoding.BadKey keys e is = absurd cc
-kept_start items own decoding.BadValue value e is = absurd cc
 kept_start items own decoding.Memory kept e is = (kept.contents, kept.are, kept.items_are ∙ is)
+kept_start items own other another e is = absurd cc

@@ -173,11 +173,7 @@ keeps_then p q old c d keeps leaves = λ part same. let e = leaves part same in 
 module _ (p : ChangedParts) (c : Contents) where
   enables_alone : (enables : Option Enables) → LeavesOthers p (record p { enables = true }) c (record c { enables = enables })
   enables_alone enables kept.Enables same = cc
-  enables_alone enables (kept.Register number) same = (same, refl)
-  enables_alone enables kept.User same = (same, refl)
-  enables_alone enables kept.Macros same = (same, refl)
-  enables_alone enables (kept.File name) same = (same, refl)
-  enables_alone enables kept.Recall same = (same, refl)
+  enables_alone enables other same = (same, refl)
 
   user_alone : (bytes : List ℕ) → LeavesOthers p (record p { user = true }) c (record c { user = bytes })
   user_alone bytes kept.Enables same = (same, refl)
@@ -188,48 +184,31 @@ module _ (p : ChangedParts) (c : Contents) where
   user_alone bytes kept.Recall same = (same, refl)
 
   macros_alone : (macros : List Macro) → LeavesOthers p (record p { macros = true }) c (record c { macros = macros })
-  macros_alone macros kept.Enables same = (same, refl)
-  macros_alone macros (kept.Register number) same = (same, refl)
-  macros_alone macros kept.User same = (same, refl)
   macros_alone macros kept.Macros same = cc
-  macros_alone macros (kept.File name) same = (same, refl)
-  macros_alone macros kept.Recall same = (same, refl)
+  macros_alone macros other same = (same, refl)
 
   files_alone : (files : List Item) → LeavesOthers p (record p { files = true }) c (record c { files = files })
-  files_alone files kept.Enables same = (same, refl)
-  files_alone files (kept.Register number) same = (same, refl)
-  files_alone files kept.User same = (same, refl)
-  files_alone files kept.Macros same = (same, refl)
   files_alone files (kept.File name) same = cc
-  files_alone files kept.Recall same = (same, refl)
+  files_alone files other same = (same, refl)
 
   recall_alone : (on : Bool) → LeavesOthers p (record p { recall = true }) c (record c { recall = on })
-  recall_alone on kept.Enables same = (same, refl)
-  recall_alone on (kept.Register number) same = (same, refl)
-  recall_alone on kept.User same = (same, refl)
-  recall_alone on kept.Macros same = (same, refl)
-  recall_alone on (kept.File name) same = (same, refl)
   recall_alone on kept.Recall same = cc
+  recall_alone on other same = (same, refl)
 
   -- a flag that isn't set is another register's, and was not set before
   unset : (marks : List Bool) (r n : ℕ) → slice_index_or (slice_set marks r true) n true ≡ false → (n ≢ r) × (slice_index_or marks n true ≡ false)
-  unset [] r n e = cc
-  unset (m ∷ marks) zero zero e = cc
   unset (m ∷ marks) zero (suc n) e = ((λ z. cc), e)
   unset (m ∷ marks) (suc r) zero e = ((λ z. cc), e)
   unset (m ∷ marks) (suc r) (suc n) e = let u = unset marks r n e in ((λ z. u.0 (let same : n ≡ r = cc in same)), u.1)
+  unset other another third e = cc
 
   register_alone : (r : ℕ) (settings : List OutputSettings) → LeavesOthers p (with_register p r) c (record c { registers = slice_set c.registers r settings })
-  register_alone r settings kept.Enables same = (same, refl)
   register_alone r settings (kept.Register n) same =
       let u = unset p.registers r n same in (
         and_false p.some_register (slice_index_or p.registers n true) u.1,
         ap (λ (s : List OutputSettings). value_in (register_items n s)) (sym (get_or-set_other c.registers r n settings reset u.0)),
       )
-  register_alone r settings kept.User same = (same, refl)
-  register_alone r settings kept.Macros same = (same, refl)
-  register_alone r settings (kept.File name) same = (same, refl)
-  register_alone r settings kept.Recall same = (same, refl)
+  register_alone r settings other same = (same, refl)
 
   leaves : (x : Command) → LeavesOthers p (with_change p x) c (apply c x)
   unfolding apply
@@ -241,15 +220,10 @@ module _ (p : ChangedParts) (c : Contents) where
   leaves (DefineMacro label body) = macros_alone _
   leaves (RemoveMacro label) = macros_alone _
   leaves PurgeMacros = macros_alone []
-  leaves (StoreBytes name bytes) = files_alone _
-  leaves (Delete name) = files_alone _
-  leaves (Copy from to) = files_alone _
-  leaves (Move from to) = files_alone _
-  leaves (StoreState r name) = files_alone _
   leaves (LoadState r name) = register_alone r _
-  leaves (StoreMacro label name) = files_alone _
   leaves (LoadMacro label name) = macros_alone _
   leaves (Recall on) = recall_alone on
+  leaves other = files_alone _
 
 pub change_keeps : (p q : ChangedParts) (old : List Item) (c d : Contents) (x : Command) → KeepsOthers p old (items_of c) → q ≡ with_change p x → d ≡ apply c x → KeepsOthers q old (items_of d)
 change_keeps p q old c d x keeps touched made =
@@ -258,9 +232,8 @@ change_keeps p q old c d x keeps touched made =
 -- ---- all parts, and maps that are the same
 
 pub all_set : (n k : ℕ) → slice_index_or (replicate n true) k true ≡ true
-all_set zero k = refl
-all_set (suc n) zero = refl
 all_set (suc n) (suc k) = all_set n k
+all_set other another = refl
 
 pub all_are : (p : ChangedParts) → p.enables ≡ true → ((k : ℕ) → slice_index_or p.registers k true ≡ true) → p.some_register ≡ true → p.user ≡ true → p.macros ≡ true → p.files ≡ true → p.recall ≡ true
     → (part : Part) → is_changed p part ≡ true

@@ -12,10 +12,9 @@ alone n false = refl
 
 unreported_append : (n m : ℕ) (os : List Bool) (ms : List ServiceState) (o : Bool) (x : ServiceState) → length os ≡ length ms → m ≡ n + length os → unreported_from n (os ++ o ∷ []) (ms ++ x ∷ []) ≡ unreported_from n os ms ++ named m (o && x.unreported)
 unreported_append n m [] [] o x same e = alone n (o && x.unreported) ∙ ap (λ k. named k (o && x.unreported)) (let is : n ≡ m = omega arith in is)
-unreported_append n m [] (y ∷ ms) o x same e = absurd (let bad : ⊥ = omega arith in bad)
-unreported_append n m (p ∷ os) [] o x same e = absurd (let bad : ⊥ = omega arith in bad)
 unreported_append n m (p ∷ os) (y ∷ ms) o x same e =
     ap (λ rest. named n (p && y.unreported) ++ rest) (unreported_append (suc n) m os ms o x (omega arith) (omega arith)) ∙ sym (append_assoc (named n (p && y.unreported)) (unreported_from (suc n) os ms) (named m (o && x.unreported)))
+unreported_append n m other another o x same e = absurd (let bad : ⊥ = omega arith in bad)
 
 pub unreported_more : (os : List Bool) (ms : List ServiceState) (i : ℕ) (d : Bool) (e : ServiceState) → i < length os → i < length ms
     → unreported_from 1 (take (i + 1) os) (take (i + 1) ms) ≡ unreported_from 1 (take i os) (take i ms) ++ named (i + 1) (get_or os i d && (get_or ms i e).unreported)
@@ -42,9 +41,8 @@ unnamed n true c e = ap (named n) e
 unnamed n false c e = refl
 
 pub none_unreported : (n : ℕ) (os : List Bool) (ms : List ServiceState) → NoneUnreported ms → unreported_from n os ms ≡ []
-none_unreported n [] ms none = refl
-none_unreported n (o ∷ os) [] none = refl
 none_unreported n (o ∷ os) (m ∷ ms) none = ap₂ (λ a b. a ++ b) (unnamed n o m.unreported (none 0 (omega arith))) (none_unreported (suc n) os ms (none_behind m ms none))
+none_unreported n other another none = refl
 
 pub none_reported : (ms : List ServiceState) → NoneUnreported ms → map reported ms ≡ ms
 none_reported [] none = refl

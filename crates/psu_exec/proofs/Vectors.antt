@@ -17,8 +17,6 @@ all_same (x ∷ xs) = at (nat_eq x x) refl (all_same xs)
 -- lanes whose mask has each bit set are the same
 pub same_lanes : (xs ys : List ℕ) → length xs ≡ length ys → mask_l (zip2 nat_eq xs ys) + 1 ≡ 2 ^ length xs → xs ≡ ys
 same_lanes [] [] long full = refl
-same_lanes [] (y ∷ ys) long full = absurd cc
-same_lanes (x ∷ xs) [] long full = absurd cc
 same_lanes (x ∷ xs) (y ∷ ys) long full = at (nat_eq x y) refl full (same_lanes xs ys (omega (arith, long)))
   where
     at : (b : Bool) → nat_eq x y ≡ b → (cond b 1 0 + 2 * mask_l (zip2 nat_eq xs ys)) + 1 ≡ 2 ^ suc (length xs) → (mask_l (zip2 nat_eq xs ys) + 1 ≡ 2 ^ length xs → xs ≡ ys) → x ∷ xs ≡ y ∷ ys
@@ -26,6 +24,7 @@ same_lanes (x ∷ xs) (y ∷ ys) long full = at (nat_eq x y) refl full (same_lan
         let first : x ≡ y = grind (arith, nat_tests) in
         ap (λ (z : ℕ). z ∷ xs) first ∙ ap (λ (l : List ℕ). y ∷ l) (rest (omega (arith, full)))
     at false e full rest = absurd (let bad : ⊥ = omega (arith, full) in bad)
+same_lanes other another long full = absurd cc
 
 -- whether sixteen lanes are the same, by the mask of their comparison
 pub mask_tells : (m : ℕ) (xs ys : List ℕ) → m ≡ mask_l (zip2 nat_eq xs ys) → length xs ≡ 16 → length ys ≡ 16 → (IsTrue (nat_eq m 65535) → xs ≡ ys) × (xs ≡ ys → IsTrue (nat_eq m 65535))
