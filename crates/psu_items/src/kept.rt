@@ -3,7 +3,7 @@ ghost use Rattle.std.specs.Prelude.{◌≡◌, ◌<◌, ◌↔◌, ℕ, IfSome, 
 ghost use Rattle.psu_items.specs.Layout.{HasHead};
 ghost use Rattle.psu_map.specs.Target.{item_in};
 
-use psu_map::Entry;
+use psu_map::{Entry, same_key};
 use psu_pages::Head;
 use std::alloc::Allocator;
 
@@ -64,5 +64,5 @@ fn is_of<A: Allocator + Copy>(heads: &[Head<A>], at: usize, entry: &Entry<'_>) -
     ensures { IsTrue result ↔ HasHead heads.now (item_in entry.now) at }
 {
     let head = &heads[at];
-    head.key() == entry.key && head.size() as usize == entry.value.len()
+    same_key(head.key(), entry.key) && head.size() as usize == entry.value.len()
 }

@@ -61,9 +61,9 @@ at_key items key at sorted within same = record {
   same = same;
 }
 
-pub key_found : (items : List Item) (key : List ℕ) (at : ℕ) (found : Item) → IsSorted items → at < length items → found ≡ get_or items at found → bytes_eq found.key key ≡ true → IsAt items key at
+pub key_found : (items : List Item) (key : List ℕ) (at : ℕ) (found : Item) → IsSorted items → at < length items → found ≡ get_or items at found → found.key ≡ key → IsAt items key at
 key_found items key at found sorted within there same =
-    at_key items key at sorted within (key_of_place items at found within ∙ (ap (λ (i : Item). i.key) (sym there) ∙ same_key found.key key same))
+    at_key items key at sorted within (key_of_place items at found within ∙ (ap (λ (i : Item). i.key) (sym there) ∙ same))
 
 -- the item at the index of its key
 pub get-at : (items : List Item) (key : List ℕ) (at : ℕ) (d : Item) → IsAt items key at → get items key ≡ Some (get_or items at d).value

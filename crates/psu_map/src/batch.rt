@@ -59,7 +59,7 @@ impl<A: Allocator + Copy> Batch<A> {
     pub fn copy(&self, alloc: A) -> Result<Self, AllocError>
         ensures { IfOk result (λ copy. copy ≡ self.now) }
     {
-        let mut edits = Vec::new(alloc);
+        let mut edits = Vec::with_capacity(alloc, self.edits.len())?;
         for edit in &self.edits {
             edits.push(edit.copy(alloc)?)?;
         }

@@ -5,7 +5,7 @@ ghost use Rattle.std.specs.Ordering.{nat_cmp};
 ghost use Rattle.std.specs.Cmp.Lexicographic.{slice_cmp};
 ghost use Rattle.psu_map.specs.Place.{key_at, IsPlace, IsAt, IsGap};
 
-use crate::Pair;
+use crate::{Pair, same_key};
 use std::alloc::Allocator;
 use std::cmp::Ordering;
 
@@ -87,7 +87,7 @@ fn is_there<A: Allocator + Copy>(pairs: &[Pair<A>], at: usize, key: &[u8]) -> bo
     requires { IsSorted pairs.now }
     ensures { IsTrue result → IsAt pairs.now key.now at }
 {
-    at < pairs.len() && pairs[at].key() == key
+    at < pairs.len() && same_key(pairs[at].key(), key)
 }
 
 /// Returns the index of the key among pairs, or the index at which it would be inserted.

@@ -33,16 +33,6 @@ impl Page {
         }
     }
 
-    /// Returns a page that begins with these bytes.
-    pub(crate) fn of(bytes: &[u8]) -> Page
-        requires { length bytes.now ≤ 512 }
-        ensures { result ≡ bytes.now }
-    {
-        let mut page = Page::new();
-        page.add(bytes);
-        page
-    }
-
     /// Appends bytes to those that there are.
     pub(crate) fn add(&mut self, bytes: &[u8])
         requires { length self.old + length bytes.now ≤ 512 }

@@ -13,7 +13,8 @@ pub(crate) fn spell_root<A: Allocator + Copy>(limit: u16, number: u64, heads: &[
     requires { length heads.now ≤ 240 }
     ensures { result ≡ 0 ∷ root_contents limit number (names heads.now) }
 {
-    let mut page = Page::of(&[GATE_CLOSED]);
+    let mut page = Page::new();
+    page.add(&[GATE_CLOSED]);
     page.add(b"PSU");
     page.add(&VERSION.to_be_bytes());
     page.add(&limit.to_be_bytes());

@@ -46,7 +46,9 @@ fn write_value<D: Disk>(disk: &mut D, pages: &[u16], value: &[u8]) -> Result<(),
     let mut rest = value;
     for page in pages {
         let (first, after) = first_page(rest);
-        write_page(disk, *page, &Page::of(first))?;
+        let mut filled = Page::new();
+        filled.add(first);
+        write_page(disk, *page, &filled)?;
         rest = after;
     }
     Ok(())

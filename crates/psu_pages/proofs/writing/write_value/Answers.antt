@@ -1,4 +1,4 @@
-use Rattle.std.proofs.Common.{◌≡◌, ◌*◌, ◌+◌, ◌≤◌, ℕ, ◌∙◌, ap, arith, length}
+use Rattle.std.proofs.Common.{◌≡◌, ◌*◌, ◌+◌, ◌++◌, ◌≤◌, List, ℕ, ◌∙◌, ap, arith, length}
 use Rattle.std.specs.List.{AllByRecursion}
 use Rattle.psu_pages.specs.Spelling.{filled}
 use Rattle.psu_pages.proofs.Lists.{all_map}
@@ -32,7 +32,7 @@ loop-page-preserved g c =
           let sized : length (d.state l.disk).bytes ≡ d.extent c.args.disk.now = g.met.D.Disk.sized h l.disk ∙ l.invariant.extent in
           let fits : AllByRecursion (λ (p : ℕ). 512 * p + 512 ≤ length (d.state l.disk).bytes) pages = all_map (λ (p : ℕ). 512 * p + 512 ≤ d.extent c.args.disk.now) (λ (p : ℕ). 512 * p + 512 ≤ length (d.state l.disk).bytes) (λ p le. omega (arith, le, sized)) pages c.requires.room in
           written_more pages c.args.value.now l.rest.now i 0 (d.state l.disk).bytes (d.state c.write_page.new.disk).bytes lt c.requires.apart fits l.invariant.rest (c.write_page.ensures.seen h)
-          (c.in_ok-write_page.ensures.written h ∙ ap (filled 512) (c.of.ensures ∙ c.first_page.ensures.first)) (l.invariant.written h);
+          (c.in_ok-write_page.ensures.written h ∙ ap (filled 512) (c.add.ensures ∙ ap (λ (bytes : List ℕ). bytes ++ c.first_page.result.0.now) c.new-filled.ensures ∙ c.first_page.ensures.first)) (l.invariant.written h);
       seen = λ h. misses_trans pages _ _ _ (l.invariant.seen h) (misses_one pages i 0 _ _ lt (c.write_page.ensures.seen h));
       left = λ h. follows_on pages (λ x y. misses_one pages i 0 x y lt) (l.invariant.left h) (c.write_page.ensures.left.left h);
       time = λ h t. run_on pages (λ x y. misses_one pages i 0 x y lt) (c.write_page.ensures.left.time h t) (l.invariant.time h t) (l.invariant.left h);
