@@ -11,11 +11,11 @@ use Rattle.psu_exec.specs.Calls.{Entry, Job}
 use Rattle.psu_exec.specs.Calls.Entry.{Took, GaveBack, Notified}
 use Rattle.psu_exec.specs.Jobs.{RunsTo, finished_of, job_data}
 use Rattle.psu_exec.specs.Shown.{none_of}
-use Rattle.psu_exec.specs.declared.finished.End.{End}
-use Rattle.psu_exec.specs.declared.finished.End.TheVariants as finished
+use Rattle.psu_exec.specs.declared.job.End.{End}
+use Rattle.psu_exec.specs.declared.job.End.TheVariants as finished
 use Rattle.psu_items.specs.declared.commit.UnstartedCause.TheVariants as unstarted
 use Rattle.psu_exec.specs.declared.job.Job.{Job as AnyJob}
-use Rattle.psu_exec.specs.declared.no_job.NoJob.{NoJob}
+use Rattle.psu_exec.specs.declared.job.NoJob.{NoJob}
 use Rattle.psu_bench.specs.Calls.{AllowsOn}
 use Rattle.psu_bench.specs.declared.caused.Caused.{Caused}
 use Rattle.psu_bench.specs.declared.caused_by_job.CausedByJob.{CausedByJob}

@@ -13,7 +13,7 @@ use Rattle.psu_exec.specs.Headline.{IsPrefix}
 use Rattle.psu_exec.specs.Jobs.{EndStands, finished_disk, finished_of, job_data, job_disk}
 use Rattle.psu_exec.specs.World.{World, Running, Moves, IsStart, IsTrueOf, accepted_end, after}
 use Rattle.psu_exec.specs.declared.job.Job.{Job}
-use Rattle.psu_exec.specs.declared.finished.End.{End as EndOf}
+use Rattle.psu_exec.specs.declared.job.End.{End as EndOf}
 use Rattle.psu_turn.specs.History.{HistoryLeads, numbered}
 use Rattle.psu_turn.specs.declared.numbered.Numbered.{Numbered}
 use Rattle.psu_bench.specs.Calls.{AllowsOn}

@@ -90,10 +90,6 @@ then_done s session m n new reply e same may = rw e (may, ap (λ (i : Instrument
 
 -- ---- changes of the nonvolatile contents
 
--- a change that is not refused fits
-pub fits_of : (limit : ℕ) (c : Contents) (change : nv.Command) → nv.refused c change ≡ None → nv.answer limit c change ≡ None → fits limit (nv.apply c change) ≡ true
-fits_of limit c change found h = elim (cases_Bool (fits limit (nv.apply c change))) [ inl fit ↦ fit | inr full ↦ absurd (let bad = rw (found, full) at h in cc) ]
-
 -- a change that is not made: it doesn't fit, or an allocation fails
 pub not_made : (f : Flush) (change : nv.Command) (e : ScpiError) → nv.refused f.contents change ≡ None → is_whole f.store ≡ true
     → ((e ≡ OutOfMemory) × (fits f.limit (nv.apply f.contents change) ≡ true)) ⊎ ((e ≡ MediaFull) × (fits f.limit (nv.apply f.contents change) ≡ false)) → (e ≡ OutOfMemory → nv.takes_memory change ≡ true)

@@ -13,8 +13,8 @@ use Rattle.psu_instrument.specs.declared.act.Completion.TheVariants as completio
 use Rattle.psu_instrument.proofs.Speaking.{each_answer_is_quiet, some_digit}
 use Rattle.psu_exec.specs.Calls.{Allows, Executed, settle_answer}
 use Rattle.psu_exec.specs.Device.{Reply, Answer, Error, Parked, Later, Flush, State, MayAnswer, MayMean, LockedOut, TooEarly, Runs, Expands, Means, answer_complete, answer_meant, here, is_whole, kept_unless, meant, parks, wait_of}
-use Rattle.psu_exec.specs.declared.wait.Wait.{Wait}
-use Rattle.psu_exec.specs.declared.wait.Wait.TheVariants.{Until, CutOff}
+use Rattle.psu_exec.specs.declared.waits.Wait.{Wait}
+use Rattle.psu_exec.specs.declared.waits.Wait.TheVariants.{Until, CutOff}
 use Rattle.psu_exec.proofs.Answering.{answer_is_no_call}
 
 abbrev HasText : Reply → Type 0

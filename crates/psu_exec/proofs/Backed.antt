@@ -5,7 +5,7 @@ use Rattle.std.specs.Int.Bits.{and_zero_r}
 use Rattle.std.proofs.lemmas.Bool.{eqb-true}
 use Rattle.psu_items.specs.declared.commit.UnstartedCause.TheVariants as unstarted
 use Rattle.psu_status.specs.Status.{Reported, enabled}
-use Rattle.psu_exec.specs.declared.service_state.ServiceState.{ServiceState}
+use Rattle.psu_exec.specs.declared.service_states.ServiceState.{ServiceState}
 use Rattle.psu_exec.specs.ServiceStates.{each_rqs_updated, falls, fetched, rqs_updated, initial_service_state, opened_service_state, released, requested, rises, reported, with_available}
 use Rattle.psu_exec.specs.Device.{State, after_meant, here, service_state_of, meant, place_of}
 use Rattle.psu_exec.specs.Calls.{Entry, JobEnd, Stored, Unstarted, Failed, Reopened, Serves, GivesBack, target_flushed, wait_settled, with_answer}

@@ -13,8 +13,8 @@ use Rattle.psu_exec.specs.Device.{Flush, count_held, target}
 use Rattle.psu_exec.specs.Calls.{IsExpected}
 use Rattle.psu_exec.specs.Jobs.{EndStands, finished_disk, finished_of}
 use Rattle.psu_exec.specs.World.{IsTrueOf}
-use Rattle.psu_exec.specs.declared.finished.End.{End as EndOf}
-use Rattle.psu_exec.specs.declared.finished.End.TheVariants as finished
+use Rattle.psu_exec.specs.declared.job.End.{End as EndOf}
+use Rattle.psu_exec.specs.declared.job.End.TheVariants as finished
 use Rattle.psu_exec.proofs.Batches.{changed-batch}
 use Rattle.psu_exec.proofs.Changes.{sound_after, sound_first, sound_front}
 

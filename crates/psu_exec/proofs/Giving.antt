@@ -24,10 +24,3 @@ open_after s new (Unstarted limit before edits unstarted.Memory) is = ap (λ (t 
 open_after s new (Reopened limit map) (inl all) = ap (λ (t : State). t.volatile.open_now) all.1
 open_after s new (Reopened limit map) (inr none) = ap (λ (t : State). t.volatile.open_now) none.1
 open_after s new other is = ap (λ (t : State). t.volatile.open_now) is
-
--- and the locks are the same
-pub locks_after : (s new : State) (finished : JobEnd) → GivesBack s finished new → new.volatile.locks ≡ s.volatile.locks
-locks_after s new (Unstarted limit before edits unstarted.Memory) is = ap (λ (t : State). t.volatile.locks) is
-locks_after s new (Reopened limit map) (inl all) = ap (λ (t : State). t.volatile.locks) all.1
-locks_after s new (Reopened limit map) (inr none) = ap (λ (t : State). t.volatile.locks) none.1
-locks_after s new other is = ap (λ (t : State). t.volatile.locks) is

@@ -22,14 +22,6 @@ pub serves_executed : (s new : State) (session : ℕ) (request : Request) (reply
 serves_executed s new session request reply here (inl a) = a
 serves_executed s new session request reply here (inr none) = absurd (let bad = sym here ∙ none.0.0 in cc)
 
-pub serves_settled : (s new : State) (session : ℕ) (reply : Reply) → is_open s session ≡ true → Allows s (Entry.Settled session reply) new → Serves s (Entry.Settled session reply) new
-serves_settled s new session reply here (inl a) = a
-serves_settled s new session reply here (inr none) = absurd (let bad = sym here ∙ none.0.0 in cc)
-
-pub serves_cleared : (s new : State) (session : ℕ) → is_open s session ≡ true → Allows s (Entry.Cleared session) new → Serves s (Entry.Cleared session) new
-serves_cleared s new session here (inl a) = a
-serves_cleared s new session here (inr none) = absurd (let bad = sym here ∙ none.0 in cc)
-
 pub serves_took : (s new : State) (taken : Taken) → Allows s (Entry.Took taken) new → Serves s (Entry.Took taken) new
 serves_took s new taken (inl a) = a
 serves_took s new taken (inr none) = absurd none.0

@@ -18,9 +18,9 @@ use Rattle.psu_instrument.proofs.Speaking.{each_answer_is_quiet}
 use Rattle.psu_exec.specs.Calls.{Executed, Settled, Serves, has_work}
 use Rattle.psu_exec.specs.Device.{Reply, Done, Answer, Error, Expand, Parked, Held, Later, State, Flush, followed, MayAnswer, MayMean, Runs, Expands, Means, answer_call, answer_meant, change_in, counted, done_by, here, is_broken, is_whole, kept_unless, meant}
 use Rattle.psu_exec.specs.Quiet.{EachUnitIsQuiet, EachWaitIsQuiet, IsQuiet, may_cause}
-use Rattle.psu_exec.specs.declared.wait.Wait.{Wait}
+use Rattle.psu_exec.specs.declared.waits.Wait.{Wait}
 use Rattle.psu_exec.specs.ServiceStates.{each_rqs_updated, falls, named, released, requested, rises, rqs_updated, unreported_from}
-use Rattle.psu_exec.specs.declared.service_state.ServiceState.{ServiceState}
+use Rattle.psu_exec.specs.declared.service_states.ServiceState.{ServiceState}
 
 -- ---- service requests
 

@@ -4,13 +4,13 @@ use Rattle.psu_map.specs.Plan.{Planned}
 use Rattle.psu_disk.specs.declared.disk.Disk.{Ghosts}
 use Rattle.psu_items.specs.declared.commit.UnstartedCause.TheVariants as unstarted
 use Rattle.psu_exec.specs.Device.{Flush, is_broken, target}
-use Rattle.psu_exec.specs.declared.condition.Condition.{Condition}
+use Rattle.psu_exec.specs.declared.idle_store.Condition.{Condition}
 use Rattle.psu_exec.specs.Calls.{IsExpected}
 use Rattle.psu_exec.specs.Jobs.{Belongs, IsStoreOf, finished_of, idle_store_of}
 use Rattle.psu_exec.specs.declared.idle_store.IdleStore.{IdleStore}
 use Rattle.psu_exec.specs.declared.idle_store.IdleStore.TheVariants as idle_store
-use Rattle.psu_exec.specs.declared.finished.End.{End}
-use Rattle.psu_exec.specs.declared.finished.End.TheVariants as finished
+use Rattle.psu_exec.specs.declared.job.End.{End}
+use Rattle.psu_exec.specs.declared.job.End.TheVariants as finished
 use Rattle.psu_exec.proofs.Giving.{FlushGives}
 
 -- the store of an expected end is that of the device after it

@@ -4,8 +4,8 @@ use Rattle.std.proofs.Common.{◌≡◌, ℕ, zero, suc, Bool, true, false, not,
 use Rattle.std.specs.Prelude.{◌&&◌, bit_and, slice_set}
 use Rattle.std.specs.Int.Bits.{and_zero_l, xor_self}
 use Rattle.psu_status.specs.Status.{Reported, enabled}
-use Rattle.psu_exec.specs.declared.enabled.Enabled.{Enabled}
-use Rattle.psu_exec.specs.declared.service_state.ServiceState.{ServiceState}
+use Rattle.psu_exec.specs.declared.service_states.Enabled.{Enabled}
+use Rattle.psu_exec.specs.declared.service_states.ServiceState.{ServiceState}
 use Rattle.psu_exec.specs.ServiceStates.{bits_of, each_rqs_updated, enabled_of, rqs_updated, rqs_updated_by, initial_service_state, released, requested, rises, with_available}
 use Rattle.psu_exec.specs.Device.{State, followed, service_state_of, place_of}
 use Rattle.psu_exec.specs.Calls.{with_answer, with_service_state, with_service_states}

@@ -7,7 +7,7 @@ use Rattle.psu_nv.specs.declared.decode.DecodeFault.{DecodeFault}
 use Rattle.psu_nv.specs.declared.decode.DecodeFault.TheVariants as decoding
 use Rattle.psu_nv.proofs.Kept.{contents_keys}
 use Rattle.psu_exec.specs.Shown.{cause_of}
-use Rattle.psu_exec.specs.declared.power_fault.PowerCause.TheVariants.{BadItems, Memory}
+use Rattle.psu_exec.specs.declared.start_cause.PowerCause.TheVariants.{BadItems, Memory}
 
 pub no_start : (items : List Item) (fault : DecodeFault) → IsFault items fault → cause_of fault ≡ BadItems → (c : Contents) → IsContents c → items_of c ≡ items → ⊥
 no_start items decoding.BadKey keys e c is same = let good = contents_keys c is in let bad = sym (ap has_keys same) ∙ good in cc

@@ -23,7 +23,7 @@ use Rattle.psu_exec.specs.Changed.{IsUnchanged, KeepsOthers, is_changed, with_ch
 use Rattle.psu_exec.specs.Consistent.{IsConsistent}
 use Rattle.psu_exec.specs.Device.{Flush, Target, is_broken, map_held, target}
 use Rattle.psu_exec.specs.declared.changed_parts.ChangedParts.{ChangedParts}
-use Rattle.psu_exec.specs.declared.condition.Condition.TheVariants.{Whole}
+use Rattle.psu_exec.specs.declared.idle_store.Condition.TheVariants.{Whole}
 
 -- ---- what has not changed
 

@@ -3,7 +3,7 @@ use Rattle.std.proofs.Common.{◌≡◌, ◌≤◌, ◌<◌, ℕ, suc, ◌+◌, 
 use Rattle.std.specs.Prelude.{◌&&◌}
 use Rattle.std.proofs.lemmas.List.{take_more, length-take-le}
 use Rattle.psu_exec.specs.ServiceStates.{named, initial_service_state, reported, unreported_from}
-use Rattle.psu_exec.specs.declared.service_state.ServiceState.{ServiceState}
+use Rattle.psu_exec.specs.declared.service_states.ServiceState.{ServiceState}
 
 -- a list with nothing after it
 alone : (n : ℕ) (b : Bool) → named n b ++ [] ≡ named n b

@@ -2,7 +2,7 @@
 use Rattle.std.specs.Prelude.{◌≡◌, ℕ, ◌==◌, true, false, List, [], ◌∷◌, ⊤}
 use Rattle.psu_status.specs.Status.{Reported, enabled}
 use Rattle.psu_nv.specs.Contents.{Contents}
-use Rattle.psu_exec.specs.declared.service_state.ServiceState.{ServiceState}
+use Rattle.psu_exec.specs.declared.service_states.ServiceState.{ServiceState}
 use Rattle.psu_exec.specs.Device.{State, power_on}
 use Rattle.psu_exec.specs.Calls.{Entry, Allows}
 

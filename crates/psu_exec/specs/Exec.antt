@@ -2,9 +2,9 @@
 use Rattle.std.specs.Prelude.{◌≡◌, true, Some}
 use Rattle.psu_disk.specs.declared.disk.Disk.{Ghosts}
 use Rattle.psu_exec.specs.Device.{ExecOf}
-use Rattle.psu_exec.specs.declared.condition.Condition.TheVariants.{Broken}
-use Rattle.psu_exec.specs.declared.ended.Ended.{Ended}
-use Rattle.psu_exec.specs.declared.ended.Ended.TheVariants as ended
+use Rattle.psu_exec.specs.declared.idle_store.Condition.TheVariants.{Broken}
+use Rattle.psu_exec.specs.declared.idle_store.Ended.{Ended}
+use Rattle.psu_exec.specs.declared.idle_store.Ended.TheVariants as ended
 use Rattle.psu_exec.specs.declared.idle_store.IdleStore.{IdleStore}
 use Rattle.psu_exec.specs.declared.idle_store.IdleStore.TheVariants as idle_store
 

@@ -12,15 +12,15 @@ use Rattle.psu_exec.specs.Batch.{batch}
 use Rattle.psu_exec.specs.Calls.{JobData, JobEnd, Commit, Reopen, Taken}
 use Rattle.psu_exec.specs.Device.{Flush, is_broken, target}
 use Rattle.psu_exec.specs.Shown.{none_of}
-use Rattle.psu_exec.specs.declared.condition.Condition.{Condition}
-use Rattle.psu_exec.specs.declared.condition.Condition.TheVariants as condition
+use Rattle.psu_exec.specs.declared.idle_store.Condition.{Condition}
+use Rattle.psu_exec.specs.declared.idle_store.Condition.TheVariants as condition
 use Rattle.psu_exec.specs.declared.job.Job.{Job}
 use Rattle.psu_exec.specs.declared.job.Job.TheVariants as job
-use Rattle.psu_exec.specs.declared.no_job.NoJob.{NoJob}
+use Rattle.psu_exec.specs.declared.job.NoJob.{NoJob}
 use Rattle.psu_items.specs.declared.broken.Broken.{Broken}
 use Rattle.psu_items.specs.declared.broken.BrokenCause.TheVariants as broken_cause
-use Rattle.psu_exec.specs.declared.finished.End.{End}
-use Rattle.psu_exec.specs.declared.finished.End.TheVariants as finished
+use Rattle.psu_exec.specs.declared.job.End.{End}
+use Rattle.psu_exec.specs.declared.job.End.TheVariants as finished
 use Rattle.psu_exec.specs.declared.idle_store.IdleStore.{IdleStore}
 use Rattle.psu_exec.specs.declared.idle_store.IdleStore.TheVariants as idle_store
 

@@ -4,8 +4,8 @@
 use Rattle.std.specs.Prelude.{ℕ, suc, ◌==◌, ◌&&◌, not, Bool, true, false, if◌then◌else◌, Option, Some, None, List, [], ◌∷◌, ◌++◌}
 use Rattle.psu_status.specs.Registers.{rising}
 use Rattle.psu_status.specs.Status.{Reported, enabled, polled}
-use Rattle.psu_exec.specs.declared.enabled.Enabled.{Enabled}
-use Rattle.psu_exec.specs.declared.service_state.ServiceState.{ServiceState}
+use Rattle.psu_exec.specs.declared.service_states.Enabled.{Enabled}
+use Rattle.psu_exec.specs.declared.service_states.ServiceState.{ServiceState}
 
 -- ---- RQS of a session whose enabled bits were old and are new
 

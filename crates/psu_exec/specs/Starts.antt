@@ -2,8 +2,8 @@
 use Rattle.psu_pages.specs.declared.faults.BadImage.TheVariants as BadImage
 use Rattle.psu_pages.specs.declared.faults.OpenCause.{OpenCause}
 use Rattle.psu_pages.specs.declared.faults.OpenCause.TheVariants as opening
-use Rattle.psu_exec.specs.declared.power_fault.PowerCause.{PowerCause}
-use Rattle.psu_exec.specs.declared.power_fault.PowerCause.TheVariants as power
+use Rattle.psu_exec.specs.declared.start_cause.PowerCause.{PowerCause}
+use Rattle.psu_exec.specs.declared.start_cause.PowerCause.TheVariants as power
 use Rattle.psu_exec.specs.declared.start_cause.StartCause.TheVariants as start
 use Rattle.psu_exec.specs.declared.start_cause.StartFault.{StartFault}
 use Rattle.psu_exec.specs.declared.start_cause.StartFault.TheVariants.{Start, Memory}

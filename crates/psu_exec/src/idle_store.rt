@@ -1,18 +1,28 @@
-//! The store while no job is out.
+//! The store while no job is out, and what remains of an Exec.
 ghost use Rattle.std.specs.Prelude.{◌≡◌, None, Some};
 ghost use Rattle.psu_exec.specs.Jobs.{idle_store_of};
 
-use crate::{CannotDrop, End, Finished};
+use crate::{CannotDrop, End, Exec, Finished};
 use psu_disk::Disk;
 use psu_items::{Broken, Store};
 use std::alloc::Allocator;
 use std::mem;
 
+/// Whether the store can take a commit.
+#[derive(Clone, Copy, Debug, PartialEq, Eq)]
+pub enum Condition {
+    Whole,
+    /// A commit has failed; the store is to be reopened.
+    Broken,
+    /// Its root number has its last value; no further commit is tried.
+    Worn,
+}
+
 /// A store that a device has while no job is out: what the invariant of an `ExecOf` states of it.
 pub trait Idle {
     ghost use Rattle.std.specs.Prelude.{ℕ};
     ghost use Rattle.psu_map.specs.Plan.{Planned};
-    ghost use Rattle.psu_exec.specs.declared.condition.Condition.{Condition};
+    ghost use Rattle.psu_exec.specs.declared.idle_store.Condition.{Condition};
 
     // It is the store of a device with this condition, this limit, and this map with its planned batch.
     ghost belongs: { Self → Condition → ℕ → Planned → Type 0 };
@@ -61,4 +71,13 @@ pub(crate) fn put_store_back<D: Disk, A: Allocator + Copy>(
         None => {}
         Some(_) => unreachable!(),
     }
+}
+
+/// What remains when an Exec ends.
+#[derive(Drop)]
+pub enum Ended<D: Disk, A: Allocator + Copy> {
+    Whole(Store<D, A>),
+    Failed(Broken<D, A>),
+    /// A job is out, so the `Exec` continues.
+    Out(Exec<D, A>),
 }

@@ -1,8 +1,41 @@
-//! The service states of all sessions.
+//! The service states of sessions, and the bits that cause a service request.
 ghost use Rattle.std.specs.Prelude.{◌≡◌, ◌+◌, ◌<◌, ◌≤◌, ◌&&◌, ◌++◌, ℕ, false, get_or, length, map};
 ghost use Rattle.psu_exec.specs.ServiceStates.{rqs_updated, rqs_updated_by, named, initial_service_state, reported, unreported_from};
 
-use crate::{Enabled, SESSIONS, ServiceState, Session, Sessions};
+use crate::{SESSIONS, Session, Sessions};
+
+/// The service state of a session: whether a response was sent that it has not read (MAV), its request for service
+/// (RQS), and whether it has a service request that is not fetched, and one that is not reported by `take_notifications`. That of a
+/// session which isn't open has no meaning.
+#[derive(Clone, Copy, Debug, PartialEq, Eq)]
+pub struct ServiceState {
+    /// MAV: a response was sent that is not known to be delivered.
+    pub available: bool,
+    /// RQS.
+    pub rqs: bool,
+    /// A service request was made that is not fetched.
+    pub unfetched: bool,
+    /// A service request was made since the last call of `take_notifications`.
+    pub unreported: bool,
+}
+
+/// The enabled bits of a session that has read its responses, and of one that has not.
+#[derive(Clone, Copy, Debug, PartialEq, Eq)]
+pub struct Enabled {
+    pub read: u8,
+    pub unread: u8,
+}
+
+impl Enabled {
+    ghost use Rattle.psu_exec.specs.ServiceStates.{bits_of};
+
+    /// The enabled bits of a session, by whether a response was sent that it has not read.
+    pub fn bits(self, available: bool) -> u8
+        ensures { result ≡ bits_of self available }
+    {
+        if available { self.unread } else { self.read }
+    }
+}
 
 /// The service state of a session that was sent no response and has not requested service.
 pub(crate) fn initial_service_state() -> ServiceState

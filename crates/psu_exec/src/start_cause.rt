@@ -1,11 +1,11 @@
-//! The reasons for which a device doesn't start.
+//! Why a device doesn't power on or start.
 ghost use Rattle.std.specs.Prelude.{◌≡◌};
 ghost use Rattle.psu_exec.specs.Starts.{start_of_opening, start_of_power_on};
 ghost use Rattle.psu_exec.specs.declared.start_cause.StartFault.TheVariants.{Memory};
 
-use crate::PowerCause;
-use psu_items::{BadImage, OpenCause};
-use std::alloc::AllocError;
+use psu_disk::Disk;
+use psu_items::{BadImage, OpenCause, Store};
+use std::alloc::{AllocError, Allocator};
 use thiserror::Error;
 
 /// Why a device doesn't start from its disk, other than for an allocation failure.
@@ -70,4 +70,20 @@ impl From<AllocError> for StartFault {
     fn from(_: AllocError) -> Self {
         StartFault::Memory
     }
+}
+
+/// Why a power-on failed.
+#[derive(Clone, Copy, Debug, PartialEq, Eq)]
+pub enum PowerCause {
+    /// The items of the store encode no contents, or contents that an image of its limit cannot store.
+    BadItems,
+    /// An allocation failed.
+    Memory,
+}
+
+/// A failed power-on: its cause and the store.
+#[derive(Drop)]
+pub struct PowerFault<D: Disk, A: Allocator + Copy> {
+    pub cause: PowerCause,
+    pub store: Store<D, A>,
 }

@@ -12,7 +12,7 @@ use Rattle.psu_exec.specs.Device.{Flush, Later, Reply, is_broken, target}
 use Rattle.psu_exec.specs.Exec.{Exec}
 use Rattle.psu_exec.specs.Jobs.{idle_disk, job_data, job_disk}
 use Rattle.psu_exec.specs.World.{Event, IsStart, IsTrueOf, PastUnit, Run, Running, World}
-use Rattle.psu_exec.specs.declared.condition.Condition.TheVariants.{Whole, Worn}
+use Rattle.psu_exec.specs.declared.idle_store.Condition.TheVariants.{Whole, Worn}
 use Rattle.psu_exec.specs.declared.idle_store.IdleStore.{IdleStore}
 use Rattle.psu_exec.specs.declared.idle_store.IdleStore.TheVariants as idle_store
 use Rattle.psu_exec.specs.declared.job.Job.{Job}

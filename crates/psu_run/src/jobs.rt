@@ -4,7 +4,7 @@ ghost use Rattle.psu_disk.specs.Disk.{HasFailed};
 ghost use Rattle.psu_exec.specs.Calls.{HasNone, HasWork, job_of};
 ghost use Rattle.psu_exec.specs.Device.{is_broken, is_open, wait_of};
 ghost use Rattle.psu_exec.specs.Jobs.{finished_of, job_data};
-ghost use Rattle.psu_exec.specs.declared.condition.Condition.TheVariants.{Worn};
+ghost use Rattle.psu_exec.specs.declared.idle_store.Condition.TheVariants.{Worn};
 ghost use Rattle.psu_run.specs.Progress.{DeviceStops, HasRun, IsTied, IsWork, IsWornAtLast, Leads, LeavesStore, failures_of};
 ghost use Rattle.psu_run.specs.Runs.{Begins, IsFlush, MemoryRefused, Reopens, fault_of};
 

@@ -7,7 +7,7 @@ ghost use Rattle.psu_items.specs.Image.{EachRepresents, Represents};
 ghost use Rattle.psu_map.specs.Map.{Item};
 ghost use Rattle.psu_exec.specs.Device.{is_broken, is_denied, is_open, wait_of};
 ghost use Rattle.psu_exec.specs.Jobs.{idle_disk};
-ghost use Rattle.psu_exec.specs.declared.condition.Condition.TheVariants.{Worn};
+ghost use Rattle.psu_exec.specs.declared.idle_store.Condition.TheVariants.{Worn};
 ghost use Rattle.psu_exec.specs.declared.idle_store.IdleStore.TheVariants as when_idle;
 ghost use Rattle.psu_exec.specs.declared.start_cause.StartFault.{StartFault};
 ghost use Rattle.psu_run.specs.Progress.{FaultOf, IsWornAtLast, born, disk_in, extent_of, failures_of, world_of};

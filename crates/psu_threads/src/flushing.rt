@@ -1,6 +1,6 @@
 //! The flusher: it puts changes on the disk, and fails lock requests whose time is over.
 ghost use Rattle.std.specs.Prelude.{◌≡◌, ◌<◌, Result};
-ghost use Rattle.psu_exec.specs.declared.no_job.NoJob.{NoJob as AnyNoJob};
+ghost use Rattle.psu_exec.specs.declared.job.NoJob.{NoJob as AnyNoJob};
 ghost use Rattle.psu_bench.specs.Callers.{CausesByRound};
 ghost use Rattle.psu_bench.specs.Reopenings.{after_job, left_of_second};
 ghost use Rattle.psu_bench.specs.declared.caused_by_job.CausedByJob.{CausedByJob};

@@ -7,12 +7,12 @@ ghost use Rattle.psu_exec.specs.Device.{target};
 ghost use Rattle.psu_exec.specs.Calls.{Allows, broken, ended, job_of, job_out, kept, sessions_over, target_flushed, worn, GivesBack, IsExpected};
 ghost use Rattle.psu_exec.specs.Calls.Entry.{Took, GaveBack};
 ghost use Rattle.psu_exec.specs.Shown.{over_of};
-ghost use Rattle.psu_exec.specs.declared.condition.Condition.TheVariants as Condition;
+ghost use Rattle.psu_exec.specs.declared.idle_store.Condition.TheVariants as Condition;
 
 use crate::comparison::{same_edits, same_pairs};
 use crate::difference::difference;
-use crate::ending::Ending;
 use crate::idle_store::{idle_store_after, put_store_back};
+use crate::job::Ending;
 use crate::leading::leads_to;
 use crate::waits::{all_cut_off, all_less, all_over};
 use crate::{

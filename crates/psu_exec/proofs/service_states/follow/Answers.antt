@@ -1,5 +1,5 @@
 use Rattle.std.proofs.Common.{◌≡◌, map, sym, subst}
-use Rattle.psu_exec.specs.declared.enabled.Enabled.{Enabled}
+use Rattle.psu_exec.specs.declared.service_states.Enabled.{Enabled}
 use Rattle.psu_exec.specs.ServiceStates.{rqs_updated_by}
 use Rattle.psu_exec.proofs.RqsUpdates.{by_same, same_enabled}
 use Rattle.psu_exec.proofs.service_states.follow.Goals as goal

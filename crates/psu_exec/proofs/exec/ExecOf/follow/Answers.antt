@@ -1,5 +1,5 @@
 use Rattle.std.proofs.Common.{map, sym, ap, ◌∙◌}
-use Rattle.psu_exec.specs.declared.enabled.Enabled.{Enabled}
+use Rattle.psu_exec.specs.declared.service_states.Enabled.{Enabled}
 use Rattle.psu_exec.specs.Device.{State, followed, with_device}
 use Rattle.psu_exec.specs.ServiceStates.{enabled_of, rqs_updated_by}
 use Rattle.psu_exec.proofs.RqsUpdates.{followed_by}

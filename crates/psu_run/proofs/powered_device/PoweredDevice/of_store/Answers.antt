@@ -1,8 +1,8 @@
 use Rattle.std.proofs.Common.{◌≡◌, ℕ, List, refl, ap, ◌∙◌, subst, sym, Some, arith}
 use Rattle.psu_run.proofs.Common.{Item, Life, NotStarted, Opened, PowersOn, Represents, Serves, born, least_free, power_on, reads_left, represents_readable, serves_opened, world_of}
 use Rattle.psu_exec.specs.Headline.{AreBad}
-use Rattle.psu_exec.specs.declared.power_fault.PowerCause.{PowerCause}
-use Rattle.psu_exec.specs.declared.power_fault.PowerCause.TheVariants as power
+use Rattle.psu_exec.specs.declared.start_cause.PowerCause.{PowerCause}
+use Rattle.psu_exec.specs.declared.start_cause.PowerCause.TheVariants as power
 use Rattle.psu_exec.specs.Starts.{start_of_power_on}
 use Rattle.psu_run.proofs.Going.{called}
 use Rattle.psu_run.proofs.powered_device.PoweredDevice.of_store.Goals as goal

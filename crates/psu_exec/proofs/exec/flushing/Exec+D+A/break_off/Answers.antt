@@ -3,7 +3,7 @@ use Rattle.psu_map.specs.Batch.{Edit}
 use Rattle.psu_exec.specs.Calls.{broken}
 use Rattle.psu_exec.specs.Device.{State, is_broken}
 use Rattle.psu_exec.specs.Jobs.{Belongs, IsStoreOf}
-use Rattle.psu_exec.specs.declared.condition.Condition.TheVariants.{Broken}
+use Rattle.psu_exec.specs.declared.idle_store.Condition.TheVariants.{Broken}
 use Rattle.psu_exec.proofs.Consistent.{consistent_broken}
 use Rattle.psu_exec.proofs.Plans.{as_planned}
 use Rattle.psu_exec.proofs.Returning.{placed}

@@ -4,7 +4,7 @@ use Rattle.psu_map.specs.Plan.{Planned}
 use Rattle.psu_exec.specs.Calls.{target_flushed}
 use Rattle.psu_exec.specs.Device.{State, held_of, map_held}
 use Rattle.psu_exec.specs.Jobs.{IsStoreOf}
-use Rattle.psu_exec.specs.declared.condition.Condition.TheVariants.{Whole}
+use Rattle.psu_exec.specs.declared.idle_store.Condition.TheVariants.{Whole}
 use Rattle.psu_exec.proofs.Consistent.{consistent_flushed}
 use Rattle.psu_exec.proofs.Returning.{placed, whole_belongs}
 use Rattle.psu_exec.proofs.Seen.{so_seen}

@@ -2,7 +2,7 @@ use Rattle.std.proofs.Common.{refl, sym}
 use Rattle.psu_exec.specs.Calls.{kept}
 use Rattle.psu_exec.specs.Device.{State}
 use Rattle.psu_exec.specs.Jobs.{IsStoreOf}
-use Rattle.psu_exec.specs.declared.condition.Condition.TheVariants.{Whole}
+use Rattle.psu_exec.specs.declared.idle_store.Condition.TheVariants.{Whole}
 use Rattle.psu_exec.proofs.Consistent.{consistent_ended}
 use Rattle.psu_exec.proofs.Returning.{placed, whole_belongs}
 use Rattle.psu_exec.proofs.Seen.{so_seen}
