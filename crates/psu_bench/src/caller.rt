@@ -14,7 +14,7 @@ use crate::operation::{Operation, Silent};
 use crate::operations::{CloseSession, Lock, MarkSent, Notify, Release, Tick, Try, TryUnit};
 use crate::{Bench, Caused, CausedByJob, Gate, Granted, Point, Seat, ServedDisk};
 use psu_exec::{
-    CannotDrop, Freed, Grant, Kind, LockRefusal, NoJob, Outcome, Session, Sessions,
+    CannotDrop, Freed, Grant, Kind, LockRefusal, NoJob, Notifications, Outcome, Session, Sessions,
     units_and_waits_are_quiet,
 };
 use std::alloc::Global;
@@ -191,12 +191,11 @@ impl<'b, D: ServedDisk> Caller<'b, D> {
             timeout,
         };
         let reply = self.perform(rt, operation);
-        let caused = Caused {
+        let notifications = Notifications {
             requesting: Sessions::new(),
-            wakes_flusher: matches!(reply, Ok(Grant::Queued)),
-            duty: CannotDrop::begin(),
+            has_work: matches!(reply, Ok(Grant::Queued)),
         };
-        (reply, caused)
+        (reply, Caused::of(notifications))
     }
 
     /// Releases a lock of a session. Returns also the sessions whose lock requests were then granted.

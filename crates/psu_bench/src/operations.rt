@@ -194,13 +194,7 @@ impl<D: Disk, A: Allocator + Copy> Operation<D, A> for Lock {
     ghost entry = { λ o reply. Locked o.session o.kind o.now o.timeout reply };
 
     fn perform(self, exec: &mut Exec<D, A>) -> Result<Grant, LockRefusal> {
-        let Lock {
-            session,
-            kind,
-            now,
-            timeout,
-        } = self;
-        exec.lock(session, kind, now, timeout)
+        exec.lock(self.session, self.kind, self.now, self.timeout)
     }
 }
 

@@ -107,6 +107,14 @@ impl SharedSession {
         }
     }
 
+    /// Whether what is received on a connection depends on the time: a release waits, or may be requested, as it is on the
+    /// asynchronous connection.
+    pub fn needs_time(&self, side: Side) -> bool
+        ensures { IsTrue result ↔ ((side ≡ Async) ⊎ (self.now.state.releases ≢ [])) }
+    {
+        side == Side::Async || self.has_releases()
+    }
+
     // Receives bytes, for which there is room.
     fn receive_all<'a, S: ConnectionSide, D: Device>(
         &mut self,

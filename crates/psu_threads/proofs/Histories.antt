@@ -16,13 +16,11 @@ use Rattle.psu_session.specs.Exchange.{Order, Turn}
 use Rattle.psu_session.specs.Exchanged.{executions, replied, written}
 use Rattle.psu_session.specs.History.{HistoriesAreExchanges}
 use Rattle.psu_session.specs.State.{orders_in}
-use Rattle.psu_threads.specs.Added.{Adds}
-use Rattle.psu_threads.specs.Called.{IsCalled}
+use Rattle.psu_threads.specs.Called.{Adds, IsCalled}
 use Rattle.psu_threads.specs.Made.{Made, history_of}
 use Rattle.psu_threads.specs.Recorded.{AreEffects, EachResponseIsOfTheHistory, IsAnswered, Recorded, RecordedTurn, Shows, entries_by}
-use Rattle.psu_threads.proofs.Making.{made_history}
-use Rattle.psu_threads.proofs.Recording.{HasEntries, of_all}
-use Rattle.psu_threads.proofs.Transmissions.{all_answered, turns_of}
+use Rattle.psu_threads.proofs.Recording.{HasEntries, made_history, of_all}
+use Rattle.psu_threads.proofs.Responses.{all_answered, turns_of}
 
 -- seats that are joined
 joined : (honest : Type 0) (old_one new_one old_other new_other both : Sight device.State Entry) (one other : List Entry) → Adds (AllowsOn honest) old_one one new_one → Adds (AllowsOn honest) old_other other new_other
