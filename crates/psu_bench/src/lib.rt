@@ -3,7 +3,6 @@
 //! can't be forgotten.
 #![tactic(auto)]
 
-mod access;
 mod bench;
 mod caller;
 mod caused;
@@ -13,16 +12,14 @@ mod gate;
 mod gated;
 mod laws;
 mod machine;
-mod operation;
 pub mod operations;
 mod others;
 mod reopenings;
 mod starting;
 mod working;
 
-pub use access::Access;
 pub use bench::{Bench, Seat};
-pub use caller::Caller;
+pub use caller::{Access, Caller};
 pub use caused::{Caused, CausedByJob, Granted};
 pub use condition_lines::{ConditionLine, ConditionLines, ReportedCondition};
 pub use flushing::{JobEnding, flusher};
