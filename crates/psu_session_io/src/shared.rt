@@ -1,5 +1,6 @@
 //! The value of a session that threads share.
-ghost use Rattle.std.specs.Prelude.{◌≡◌, ◌↔◌, ◌&&◌, not, false, None, IsTrue, IfOk, OnOk, OnErr, IfSome, IsNone};
+ghost use Rattle.std.specs.Prelude.{◌≡◌, ◌≢◌, ◌⊎◌, ◌↔◌, ◌&&◌, not, false, None, [], IsTrue, IfOk, OnOk, OnErr, IfSome, IsNone};
+ghost use Rattle.psu_hislip.specs.declared.side.Side.TheVariants.{Async};
 ghost use Rattle.psu_session.specs.Holding.{IsFull};
 ghost use Rattle.psu_session.specs.Phases.{disconnected, phase_ended};
 ghost use Rattle.psu_session.specs.Stopping.{StopsNext};

@@ -1,4 +1,3 @@
 pub mod Calling
 pub mod Recording
 pub mod Responses
-pub mod Histories

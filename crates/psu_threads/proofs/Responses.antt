@@ -1,4 +1,4 @@
--- The responses to a session's transmissions, from the entries of their effects.
+-- A session's history beside that of its device: the responses to its transmissions are formed from the entries of their effects.
 use Rattle.std.proofs.Common.{◌≡◌, ◌⊎◌, ℕ, true, List, [], ◌∷◌, ◌++◌, flat_map, refl, sym, ap, ◌∙◌, subst, inl, inr, append-nil, map}
 use Rattle.std.specs.List.{AllByRecursion}
 use Rattle.std.proofs.lemmas.List.{map-append}
@@ -6,23 +6,32 @@ use Rattle.psu_hislip.specs.Answer.{IsAnswerCutAnywhere}
 use Rattle.psu_hislip.specs.declared.action.Origin.{Origin}
 use Rattle.psu_messages.specs.Response.{are_some, response}
 use Rattle.psu_exec.specs.Calls.{Entry}
-use Rattle.psu_messages.specs.Answers.{answer_in, answers}
+use Rattle.psu_messages.specs.Answers.{answers}
 use Rattle.psu_messages.specs.Effects as messages
 use Rattle.psu_messages.specs.Effects.{Effect}
-use Rattle.psu_session.specs.Answered.{AreMessagesAnswered, IsMessageAnswered}
-use Rattle.psu_session.specs.Answered as session
-use Rattle.psu_session.specs.Events.{Event, Did, call_of, Put, exchange_history}
+use Rattle.psu_session.specs.Answered.{AreMessagesAnswered, IsMessageAnswered, EachIsAnswered, NothingElseIsSent, Weaves, pieces}
+use Rattle.psu_session.specs.Answered as replies
+use Rattle.psu_session.specs.Events.{Event, Did, call_of, Put, exchange_history, Call, bytes_received}
 use Rattle.psu_session.specs.Exchange.{Done, Order, effects, frames, Turn}
 use Rattle.psu_session.specs.Step.{happened}
 use Rattle.psu_session.proofs.Mapped.{none_mapped, split}
-use Rattle.psu_threads.specs.Called.{AreAllEntries, MayNotify}
-use Rattle.psu_threads.specs.Recorded.{AreEffects, AreSent, IsSent, Recorded, responses, responses_in, IsAnswered, RecordedTurn, effects_of, HasOne, IsReplied, OneResponseIsSent}
+use Rattle.psu_threads.specs.Called.{AreAllEntries, AreEntries, MayNotify, Adds, IsCalled}
+use Rattle.psu_threads.specs.Recorded.{AreEffects, AreSent, IsSent, Recorded, responses, responses_in, IsAnswered, RecordedTurn, effects_of, HasOne, IsReplied, OneResponseIsSent, EachResponseIsOfTheHistory, Shows, entries_by}
 use Rattle.psu_threads.specs.Recorded.AreSent.{NoMessage, OneMore}
-use Rattle.psu_threads.proofs.Recording.{HasEntries}
-use Rattle.psu_hislip.specs.declared.side.Side.TheVariants.{Sync}
+use Rattle.psu_threads.proofs.Recording.{HasEntries, made_history, of_all}
+use Rattle.psu_hislip.specs.declared.side.Side.TheVariants.{Sync, Async}
 use Rattle.psu_session.specs.Exchange as exchange
 use Rattle.psu_session.specs.Exchanged as exchange_events
-use Rattle.psu_session.specs.Exchanged.{ExchangeEvent, executions}
+use Rattle.psu_session.specs.Exchanged.{ExchangeEvent, executions, replied, written}
+use Rattle.std.proofs.lemmas.List.Elements.{All-from_recursion, recursion_from_All}
+use Rattle.std.proofs.lemmas.Simd.{map-map}
+use Rattle.psu_turn.specs.History.{calls_by}
+use Rattle.psu_turn.specs.Seats.{Joins, Sight}
+use Rattle.psu_bench.specs.Calls.{AllowsOn}
+use Rattle.psu_exec.specs.Device as device
+use Rattle.psu_session.specs.History.{HistoriesAreExchanges}
+use Rattle.psu_session.specs.State.{orders_in}
+use Rattle.psu_threads.specs.Made.{Made, history_of}
 
 -- what holds of each element of two lists holds of each of both
 pub both_of : {X : Type 0} (P : X → Type 0) (xs ys : List X) → AllByRecursion P (xs ++ ys) → AllByRecursion P xs × AllByRecursion P ys
@@ -31,21 +40,19 @@ both_of P (x ∷ xs) ys (one, all) = let more = both_of P xs ys all in ((one, mo
 
 -- ---- replies
 
-notified : (entry : Entry) (response : List (List ℕ)) (entries : List Entry) → responses_in entry ≡ response → MayNotify entry entries → flat_map responses_in entries ≡ response
-notified entry response entries is (inl one) = ap (λ (z : List Entry). flat_map responses_in z) one ∙ append-nil (responses_in entry) ∙ is
-notified entry response entries is (inr (requesting, work, two)) = ap (λ (z : List Entry). flat_map responses_in z) two ∙ append-nil (responses_in entry) ∙ is
+notified : (entry : Entry) (entries : List Entry) → MayNotify entry entries → flat_map responses_in entries ≡ responses_in entry
+notified entry entries (inl one) = ap (λ (z : List Entry). flat_map responses_in z) one ∙ append-nil (responses_in entry)
+notified entry entries (inr (requesting, work, two)) = ap (λ (z : List Entry). flat_map responses_in z) two ∙ append-nil (responses_in entry)
 
 -- the response in an effect is that in the reply of its entry
+reply_in : (session : ℕ) (effect : Effect) (entries : List Entry) → AreEntries session (call_of effect) entries → (later : List Effect) → answers (effect ∷ later) ≡ flat_map responses_in entries ++ answers later
+reply_in session (messages.Executed request reply) entries is later = ap (λ (z : List (List ℕ)). z ++ answers later) (sym (notified (Entry.Executed session request reply) entries is))
+reply_in session (messages.Settled reply) entries is later = ap (λ (z : List (List ℕ)). z ++ answers later) (sym (notified (Entry.Settled session reply) entries is))
+reply_in session (messages.Sent text last) entries is later = ap (λ (z : List Entry). flat_map responses_in z ++ answers later) (sym is.2)
+
 reply_is : (session : ℕ) (effect : Effect) (entries : List Entry) → AreAllEntries session (call_of effect ∷ []) entries → (later : List Effect) → answers (effect ∷ later) ≡ flat_map responses_in entries ++ answers later
-reply_is session (messages.Executed request reply) entries (first, rest, are, is, none) later =
-    ap (λ (z : List (List ℕ)). z ++ answers later)
-    (sym (ap (λ (z : List Entry). flat_map responses_in z) (are ∙ ap (λ (z : List Entry). first ++ z) none ∙ append-nil first) ∙ notified (Entry.Executed session request reply) (answer_in reply) first refl is))
-reply_is session (messages.Settled reply) entries (first, rest, are, is, none) later =
-    ap (λ (z : List (List ℕ)). z ++ answers later)
-    (sym (ap (λ (z : List Entry). flat_map responses_in z) (are ∙ ap (λ (z : List Entry). first ++ z) none ∙ append-nil first) ∙ notified (Entry.Settled session reply) (answer_in reply) first refl is))
-reply_is session (messages.Sent text last) entries (first, rest, are, is, none) later =
-    ap (λ (z : List (List ℕ)). z ++ answers later)
-    (sym (ap (λ (z : List Entry). flat_map responses_in z) (are ∙ ap (λ (z : List Entry). first ++ z) none ∙ append-nil first) ∙ ap (λ (z : List Entry). flat_map responses_in z) is.2))
+reply_is session effect entries (first, rest, are, is, none) later =
+    subst (λ (z : List Entry). answers (effect ∷ later) ≡ flat_map responses_in z ++ answers later) (sym (are ∙ ap (λ (z : List Entry). first ++ z) none ∙ append-nil first)) (reply_in session effect first is later)
 
 module _ (number : ℕ → ℕ) where
   -- the responses of effects are those in the replies of their entries
@@ -67,8 +74,8 @@ module _ (number : ℕ → ℕ) where
 
   pub all_sent : (greatest : ℕ) (order : Order) {units : ℕ} {done : List Done} (events : List Recorded) → AreMessagesAnswered greatest order.origin.id order.source units done → AreEffects order.origin events done
       → AllByRecursion (HasEntries number) events → AreSent greatest order units events
-  all_sent greatest order events session.AreMessagesAnswered.NoMessage e each = subst (λ (z : List Recorded). AreSent greatest order 0 z) (sym (none_mapped (λ (r : Recorded). r.made.event) events e)) NoMessage
-  all_sent greatest order events (session.AreMessagesAnswered.OneMore {done = before} earlier to message is answer) e each =
+  all_sent greatest order events replies.AreMessagesAnswered.NoMessage e each = subst (λ (z : List Recorded). AreSent greatest order 0 z) (sym (none_mapped (λ (r : Recorded). r.made.event) events e)) NoMessage
+  all_sent greatest order events (replies.AreMessagesAnswered.OneMore {done = before} earlier to message is answer) e each =
       let s = split (λ (r : Recorded). r.made.event) events (happened order.origin before) (happened order.origin message) (e ∙ map-append (λ (d : Done). Did order.origin d.effect d.frames) before message) in
       let each_of = both_of (HasEntries number) s.front s.back (subst (λ (z : List Recorded). AllByRecursion (HasEntries number) z) s.is each) in
       subst (λ (z : List Recorded). AreSent greatest order to z) (sym s.is)
@@ -86,29 +93,23 @@ as_event _ = []
 abbrev recorded : ℕ → Event → List Entry → Recorded
 recorded thread event entries = record { made = record { thread = thread; event = event }; entries = entries }
 
-seen_at : (thread : ℕ) (event : Event) (entries : List Entry) (events : List Recorded) → map (λ r. r.made.event) (effects_of events) ≡ flat_map as_event (seen events)
-    → map (λ r. r.made.event) (effects_of (recorded thread event entries ∷ events)) ≡ flat_map as_event (seen (recorded thread event entries ∷ events))
-seen_at thread (Did origin effect frames) entries events more = ap (λ (z : List Event). Did origin effect frames ∷ z) more
-seen_at thread (Put Sync frames) entries events more = more
-seen_at thread event entries events more = more
-
-effects_seen : (events : List Recorded) → map (λ r. r.made.event) (effects_of events) ≡ flat_map as_event (seen events)
-effects_seen [] = refl
-effects_seen (r ∷ events) = seen_at r.made.thread r.made.event r.entries events (effects_seen events)
-
 happened_seen : (origin : Origin) (done : List Done) (more : List ExchangeEvent) → flat_map as_event (map (λ d. exchange_events.Did origin d.effect d.frames) done ++ more) ≡ happened origin done ++ flat_map as_event more
 happened_seen origin [] more = refl
 happened_seen origin (d ∷ done) more = ap (λ (z : List Event). Did origin d.effect d.frames ∷ z) (happened_seen origin done more)
 
 module _ (number : ℕ → ℕ) where
-  kept_at : (thread : ℕ) (event : Event) (entries : List Entry) (events : List Recorded) → HasEntries number (recorded thread event entries) → AllByRecursion (HasEntries number) (effects_of events)
-      → AllByRecursion (HasEntries number) (effects_of (recorded thread event entries ∷ events))
-  kept_at thread (Did origin effect frames) entries events one each = (one, each)
-  kept_at thread event entries events one each = each
+  -- the effects among events are those that the laws see, each with the entries of its calls
+  abbrev AreSeen : List Recorded → Type 0
+  AreSeen events = (map (λ r. r.made.event) (effects_of events) ≡ flat_map as_event (seen events)) × AllByRecursion (HasEntries number) (effects_of events)
 
-  each_kept : (events : List Recorded) → AllByRecursion (HasEntries number) events → AllByRecursion (HasEntries number) (effects_of events)
-  each_kept [] each = tt
-  each_kept (r ∷ events) (one, each) = kept_at r.made.thread r.made.event r.entries events one (each_kept events each)
+  seen_at : (thread : ℕ) (event : Event) (entries : List Entry) (events : List Recorded) → HasEntries number (recorded thread event entries) → AreSeen events → AreSeen (recorded thread event entries ∷ events)
+  seen_at thread (Did origin effect frames) entries events one more = (ap (λ (z : List Event). Did origin effect frames ∷ z) more.0, (one, more.1))
+  seen_at thread (Put Sync frames) entries events one more = more
+  seen_at thread event entries events one more = more
+
+  effects_seen : (events : List Recorded) → AllByRecursion (HasEntries number) events → AreSeen events
+  effects_seen [] each = (refl, tt)
+  effects_seen (r ∷ events) (one, each) = seen_at r.made.thread r.made.event r.entries events one (effects_seen events each)
 
   -- effects by the transmissions of which they are
   pub record Turns (turns : List Turn) (effects : List Recorded) : Type 0 where
@@ -134,10 +135,10 @@ module _ (number : ℕ → ℕ) where
       }
 
   pub turns_of : (turns : List Turn) (events : List Recorded) → seen events ≡ flat_map exchange.happened turns → AllByRecursion (HasEntries number) events → Turns turns (effects_of events)
-  turns_of turns events e each = by_turns turns (effects_of events) (effects_seen events ∙ ap (λ (z : List ExchangeEvent). flat_map as_event z) e) (each_kept events each)
+  turns_of turns events e each = let are = effects_seen events each in by_turns turns (effects_of events) (are.0 ∙ ap (λ (z : List ExchangeEvent). flat_map as_event z) e) are.1
 
   -- those that are over are answered
-  pub all_answered : (greatest : ℕ) (recorded_turns : List RecordedTurn) → AllByRecursion (session.IsAnswered greatest) (map (λ r. r.turn) recorded_turns)
+  pub all_answered : (greatest : ℕ) (recorded_turns : List RecordedTurn) → AllByRecursion (replies.IsAnswered greatest) (map (λ r. r.turn) recorded_turns)
       → AllByRecursion (λ (r : RecordedTurn). AreEffects r.turn.order.origin r.events r.turn.done) recorded_turns → AllByRecursion (λ (r : RecordedTurn). AllByRecursion (HasEntries number) r.events) recorded_turns → AllByRecursion (IsAnswered greatest) recorded_turns
   all_answered greatest [] answered are each = tt
   all_answered greatest (r ∷ recorded_turns) (one, answered) (here, are) (its, each) =
@@ -160,12 +161,59 @@ module _ {A B : Type 0} (f : A → List B) where
   only [] b e = absurd (cc (e))
   only (a ∷ all) b e = only_at a all b (f a) refl (only all b) e
 
-replied : (message : List Recorded) (text : List ℕ) → responses message ≡ text ∷ [] → IsReplied message text
-replied message text e = let event = only (λ (r : Recorded). flat_map responses_in r.entries) message text e in (event, only responses_in event.one.entries text event.gives)
+one_replied : (message : List Recorded) (text : List ℕ) → responses message ≡ text ∷ [] → IsReplied message text
+one_replied message text e = let event = only (λ (r : Recorded). flat_map responses_in r.entries) message text e in (event, only responses_in event.one.entries text event.gives)
 
 response_sent : (greatest id : ℕ) (message : List Recorded) (text frames : List ℕ) → responses message ≡ text ∷ [] → IsSent greatest id message frames → IsAnswerCutAnywhere greatest id (text ++ 10 ∷ []) frames
 response_sent greatest id message text frames e (inl (some, cut)) = subst (λ (z : List (List ℕ)). IsAnswerCutAnywhere greatest id (response z) frames) e cut
 response_sent greatest id message text frames e (inr (none, nothing)) = absurd (cc (none, e))
 
 pub one_response : OneResponseIsSent
-one_response = λ greatest id message text frames e is. (replied message text e, response_sent greatest id message text frames e is)
+one_response = λ greatest id message text frames e is. (one_replied message text e, response_sent greatest id message text frames e is)
+
+-- ---- the history
+
+-- seats that are joined
+joined : (honest : Type 0) (old_one new_one old_other new_other both : Sight device.State Entry) (one other : List Entry) → Adds (AllowsOn honest) old_one one new_one → Adds (AllowsOn honest) old_other other new_other
+    → Joins (AllowsOn honest) new_one new_other both → Shows honest both new_one (old_one.mine ++ one) × Shows honest both new_other (old_other.mine ++ other)
+joined honest old_one new_one old_other new_other both one other adds_one adds_other j = (
+  record {
+    legal = j.sees.legal;
+    begins = j.sees.seen;
+    own = ap (λ (k : ℕ). calls_by k both.seen) (sym j.sees.same.number) ∙ j.sees.own ∙ j.sees.mine ∙ adds_one.mine;
+  },
+  record { legal = j.sees.legal; begins = j.seen; own = j.own ∙ adds_other.mine },
+)
+
+pub each_response : {X : Type 0} {does : X → Call → X → Type 0} (honest : Type 0) (session : X → ℕ) (seat : X → Sight device.State Entry)
+    → ((x y : X) (call : Call) → does x call y → (session y ≡ session x) × IsCalled honest (session x) (seat x) call (seat y)) → HistoriesAreExchanges → EachIsAnswered → NothingElseIsSent
+    → EachResponseIsOfTheHistory honest does session seat
+each_response honest session seat makes exchanges answers nothing_else = λ start first last made s opening is_made.
+    let history = history_of made in
+    let is_history = made_history is_made in
+    let all = of_all honest session seat makes is_made in
+    let h = exchanges start history s is_history in
+    let x = h.exchange opening.0.0 opening.0.1 opening.0.2 opening.1 in
+    let sync : List ℕ = opening.0.0 ++ bytes_received Sync history in
+    let async : List ℕ = bytes_received Async history in
+    let number : ℕ → ℕ = λ k. start.session in
+    let are : map (λ (r : Recorded). r.made.event) all.events ≡ history = sym (map-map (λ (m : Made). m.event) (λ (r : Recorded). r.made) all.events) ∙ ap history_of all.are in
+    let turns = turns_of number h.turns all.events (ap (λ (z : List Event). executions (exchange_history z)) are ∙ x.turns_done) (recursion_from_All (HasEntries number) all.events all.each) in
+    record {
+      history = is_history;
+      events = all.events;
+      are = all.are;
+      each = all.each;
+      adds = all.adds;
+      joined = λ one other both j. joined honest (seat (first one)) (seat (last one)) (seat (first other)) (seat (last other)) both (entries_by one all.events) (entries_by other all.events) (all.adds one) (all.adds other) j;
+      turns = turns.recorded_turns;
+      in_order = h.waiting ∙ ap (λ (z : List Turn). map (λ turn. turn.order) z ++ orders_in s.waiting) (sym turns.are) ∙ ap (λ (z : List Order). z ++ orders_in s.waiting) (map-map (λ (turn : Turn). turn.order) (λ (r : RecordedTurn). r.turn) turns.recorded_turns);
+      all_effects = turns.all_effects;
+      each_effect = All-from_recursion (λ (r : RecordedTurn). AreEffects r.turn.order.origin r.events r.turn.done) turns.recorded_turns turns.each_effect;
+      answered = λ greatest most. All-from_recursion (IsAnswered greatest) turns.recorded_turns
+          (all_answered number greatest turns.recorded_turns
+          (subst (λ (z : List Turn). AllByRecursion (replies.IsAnswered greatest) z) (sym turns.are)
+          (recursion_from_All (replies.IsAnswered greatest) h.turns (answers start.session greatest sync async (exchange_history history) h.turns x most).0)) turns.each_effect turns.each);
+      sent = subst (λ (z : List ℕ). Weaves (replied (exchange_history history)) (pieces (map (λ r. r.turn) turns.recorded_turns)) z) h.sent
+          (subst (λ (z : List Turn). Weaves (replied (exchange_history history)) (pieces z) (written (exchange_history history))) (sym turns.are) (nothing_else start.session sync async (exchange_history history) h.turns x));
+    }

@@ -31,14 +31,10 @@ impl FlusherSignal {
         }
     }
 
-    // Sets the state, and returns the one before.
-    fn set<R: Wait>(&self, rt: &R, state: SignalState) -> SignalState {
-        mem::replace(&mut *self.state.lock(rt), state)
-    }
-
     /// Notifies the flusher that there is something to do. Only where it sleeps this is a call of the system.
     pub fn notify<R: Wait>(&self, rt: &R) {
-        if self.set(rt, SignalState::Notified) == SignalState::Asleep {
+        let before = mem::replace(&mut *self.state.lock(rt), SignalState::Notified);
+        if before == SignalState::Asleep {
             self.changed.notify_all();
         }
     }

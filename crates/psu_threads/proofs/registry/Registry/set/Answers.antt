@@ -14,11 +14,11 @@ place_set [] i j new found e = inr e
 place_set (x ∷ xs) zero zero new found e = inl (refl, cc (e))
 place_set (x ∷ xs) zero (suc j) new found e = inr e
 place_set (x ∷ xs) (suc i) zero new found e = inr e
-place_set (x ∷ xs) (suc i) (suc j) new found e = elim place_set xs i j new found e [ inl set ↦ inl (ap suc set.0, set.1) | inr old ↦ inr old ]
+place_set (x ∷ xs) (suc i) (suc j) new found e = elim (place_set xs i j new found e) [ inl set ↦ inl (ap suc set.0, set.1) | inr old ↦ inr old ]
 
 pub invariant_of-self : goal.invariant_of-self
 invariant_of-self c = (
-  λ place session is. elim place_set c.args.self.now.sessions c.place.result place c.args.session (Some session) is [
+  λ place session is. elim (place_set c.args.self.now.sessions c.place.result place c.args.session (Some session) is) [
     | inl set ↦ let number : (arc_value session).number ≡ c.args.number = subst (λ (o : Option (Arc ServedSession Global)). IfSome o (λ s. (arc_value s).number ≡ c.args.number)) set.1 c.requires in
         let at = set.0 in omega (arith, c.type_inv.number)
     | inr old ↦ c.args.self.now.own place session old
