@@ -18,46 +18,6 @@ still : (w mid : World) (disk : DiskState) → Happens w (DiskCall disk) mid →
 still w mid disk (moves, inl (keeps, is)) = ap (λ (z : World). z.state) is
 still w mid disk (moves, inr (keeps, is)) = ap (λ (z : World). z.state) is
 
-leads_of : (happenings : List Happening) (w new : World) → Lives w happenings new → HistoryLeads Allows w.state (calls_in happenings) new.state
-leads_of [] w new same = sym (ap (λ (z : World). z.state) same)
-leads_of (Called call disk ∷ more) w new (mid, happens, rest) = (
-  mid.state,
-  subst (λ (s : State). Allows w.state call.entry s) (sym (ap (λ (z : World). z.state) happens.4)) happens.2,
-  leads_of more mid new rest,
-)
-leads_of (Moved disk ∷ more) w new (mid, happens, rest) = subst (λ (s : State). HistoryLeads Allows s (calls_in more) new.state) (still w mid disk happens) (leads_of more mid new rest)
-
-pub lives_are_events : LivesAreEvents
-lives_are_events w new happenings lives = (lives, leads_of happenings w new lives)
-
--- ---- a history happens if its ends are true of disks
-
--- a disk that a call may leave
-disk_after : (w : World) (entry : Entry) → HasDisk w.state entry → (disk : DiskState) × DiskAfter w entry disk
-disk_after w entry has = of (accepted_end entry) has where
-  of : (end : Option JobEnd) → EndHasDisk w.state end → (disk : DiskState) × DiskOfEnd w end disk
-  of (Some finished) has = has
-  of None has = (w.disk, refl)
-
-Happened : World → List (Numbered Entry) → State → Type 0
-Happened w history last = (happenings : List Happening) × (new : World) × (calls_in happenings ≡ history) × Lives w happenings new × (new.state ≡ last)
-
-happen : (history : List (Numbered Entry)) (w : World) (last : State) → w.mode ≡ Running → LeadsOverDisks w.state history last → Happened w history last
-unfolding Happened
-happen [] w last running leads = ([], w, refl, refl, leads)
-happen (call ∷ history) w last running (next, allows, has, rest) =
-    let after = disk_after w call.entry has in
-    let mid : World = record w { state = next; history = recorded w.state call.entry w.history; disk = after.0 } in
-    let r = happen history mid last running rest in (
-      Called call after.0 ∷ r.0,
-      r.1,
-      ap (λ (l : List (Numbered Entry)). call ∷ l) r.2,
-      (mid, (next, running, allows, after.1, refl), r.3),
-      r.4,
-    )
-
--- ---- and only then
-
 has_after : (w : World) (entry : Entry) (disk : DiskState) → DiskAfter w entry disk → HasDisk w.state entry
 has_after w entry disk is = of (accepted_end entry) is where
   of : (end : Option JobEnd) → DiskOfEnd w end disk → EndHasDisk w.state end
@@ -70,13 +30,43 @@ led (Called call disk ∷ more) w new (mid, happens, rest) =
     (mid.state, subst (λ (s : State). Allows w.state call.entry s) (sym (ap (λ (z : World). z.state) happens.4)) happens.2, has_after w call.entry disk happens.3, led more mid new rest)
 led (Moved disk ∷ more) w new (mid, happens, rest) = subst (λ (s : State). LeadsOverDisks s (calls_in more) new.state) (still w mid disk happens) (led more mid new rest)
 
+legal : (history : List (Numbered Entry)) (first last : State) → LeadsOverDisks first history last → HistoryLeads Allows first history last
+legal [] first last leads = leads
+legal (call ∷ history) first last (next, allows, has, rest) = (next, allows, legal history next last rest)
+
+pub lives_are_events : LivesAreEvents
+lives_are_events w new happenings lives = (lives, legal (calls_in happenings) w.state new.state (led happenings w new lives))
+
+-- ---- a history happens if its ends are true of disks, and only then
+
+-- a disk that a call may leave
+disk_after : (w : World) (entry : Entry) → HasDisk w.state entry → (disk : DiskState) × DiskAfter w entry disk
+disk_after w entry has = of (accepted_end entry) has where
+  of : (end : Option JobEnd) → EndHasDisk w.state end → (disk : DiskState) × DiskOfEnd w end disk
+  of (Some finished) has = has
+  of None has = (w.disk, refl)
+
+abbrev Happened : World → List (Numbered Entry) → State → Type 0
+Happened w history last = (happenings : List Happening) × (new : World) × (calls_in happenings ≡ history) × Lives w happenings new × (new.state ≡ last)
+
+happen : (history : List (Numbered Entry)) (w : World) (last : State) → w.mode ≡ Running → LeadsOverDisks w.state history last → Happened w history last
+happen [] w last running leads = ([], w, refl, refl, leads)
+happen (call ∷ history) w last running (next, allows, has, rest) =
+    let after = disk_after w call.entry has in
+    let mid : World = record w { state = next; history = recorded w.state call.entry w.history; disk = after.0 } in
+    let r = happen history mid last running rest in (
+      Called call after.0 ∷ r.0,
+      r.1,
+      ap (λ (l : List (Numbered Entry)). call ∷ l) r.2,
+      (mid, (next, running, allows, after.1, refl), r.3),
+      r.4,
+    )
+
 led_to : (w : World) (history : List (Numbered Entry)) (last : State) → Happened w history last → LeadsOverDisks w.state history last
-unfolding Happened
 led_to w history last (happenings, new, same, lives, is) =
     subst (λ (h : List (Numbered Entry)). LeadsOverDisks w.state h last) same (subst (λ (s : State). LeadsOverDisks w.state (calls_in happenings) s) is (led happenings w new lives))
 
 pub histories_happen : HistoriesHappen
-unfolding Happened
 histories_happen w history last running = (happen history w last running, led_to w history last)
 
 -- ---- the history that a seat has seen happens
@@ -86,7 +76,6 @@ over_disks honest [] first last h leads = leads
 over_disks honest (call ∷ history) first last h (next, allows, rest) = (next, allows.0, allows.1 h, over_disks honest history next last h rest)
 
 pub seen_histories_happen : (honest : Type 0) → SeenHistoriesHappen honest
-unfolding Happened
 seen_histories_happen honest w history last h running leads = happen history w last running (over_disks honest history w.state last h leads)
 
 -- ---- a history that happens

@@ -18,10 +18,10 @@ use Rattle.psu_exec.specs.declared.job.Job.{Job as AnyJob}
 use Rattle.psu_exec.specs.declared.job.NoJob.{NoJob}
 use Rattle.psu_bench.specs.Calls.{AllowsOn}
 use Rattle.psu_bench.specs.declared.caused.Caused.{Caused}
-use Rattle.psu_bench.specs.declared.caused_by_job.CausedByJob.{CausedByJob}
-use Rattle.psu_bench.specs.declared.granted.Granted.{Granted}
-use Rattle.psu_bench.specs.declared.caused_by_job.JobEnding.{JobEnding}
-use Rattle.psu_bench.specs.declared.caused_by_job.JobEnding.TheVariants as ending
+use Rattle.psu_bench.specs.declared.caused.CausedByJob.{CausedByJob}
+use Rattle.psu_bench.specs.declared.caused.Granted.{Granted}
+use Rattle.psu_bench.specs.declared.flushing.JobEnding.{JobEnding}
+use Rattle.psu_bench.specs.declared.flushing.JobEnding.TheVariants as ending
 
 -- how a finished job ended
 abbrev pub ending_of : {D A : Type 0} {G : Ghosts D} → End D A G → JobEnding

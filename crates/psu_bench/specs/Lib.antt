@@ -1,6 +1,5 @@
 pub mod Calls
 pub mod Callers
-pub mod ReportedCondition
 pub mod Reopenings
 pub mod Lines
 pub mod PowerOn

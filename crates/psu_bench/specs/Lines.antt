@@ -1,10 +1,21 @@
--- The lines on the store's condition that an operator reads. At most one is due a second. It names the latest condition, and
--- says how often the condition has changed since the line before it.
-use Rattle.std.specs.Prelude.{◌≡◌, ◌<◌, ◌+◌, ◌-◌, ◌^◌, ℕ, min, Some}
-use Rattle.psu_bench.specs.declared.reported_condition.ReportedCondition.{ReportedCondition}
+-- What an operator reads of the store's condition. At most one line is due a second. It names the latest condition, and says
+-- how often the condition has changed since the line before it.
+use Rattle.std.specs.Prelude.{◌≡◌, ◌<◌, ◌+◌, ◌-◌, ◌^◌, ℕ, min, Option, Some, None}
+use Rattle.psu_bench.specs.declared.flushing.JobEnding.{JobEnding}
+use Rattle.psu_bench.specs.declared.flushing.JobEnding.TheVariants as ending
+use Rattle.psu_bench.specs.declared.condition_lines.ReportedCondition.{ReportedCondition}
+use Rattle.psu_bench.specs.declared.condition_lines.ReportedCondition.TheVariants.{Works, Broken, Worn}
 use Rattle.psu_bench.specs.declared.condition_lines.ConditionLines.{ConditionLines}
 use Rattle.psu_bench.specs.declared.condition_lines.ConditionLine.{ConditionLine}
 use Rattle.psu_bench.specs.Reopenings.{left_of_second}
+
+-- The condition that the end of a job shows. A reopening shows none: a disk without room can be read and synced, but stores
+-- nothing.
+abbrev pub condition_shown : JobEnding → Option ReportedCondition
+condition_shown ending.Stored = Some Works
+condition_shown ending.Broken = Some Broken
+condition_shown ending.Worn = Some Worn
+condition_shown _ = None
 
 -- after a change to this condition
 abbrev pub with_change : ConditionLines → ReportedCondition → ConditionLines

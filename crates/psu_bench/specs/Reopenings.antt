@@ -1,7 +1,7 @@
 -- When a store that broke is opened again. One that broke within a second of its reopening is opened a second after that.
 use Rattle.std.specs.Prelude.{ℕ, ◌-◌, ◌==◌, if◌then◌else◌, Option, Some, None}
-use Rattle.psu_bench.specs.declared.caused_by_job.JobEnding.{JobEnding}
-use Rattle.psu_bench.specs.declared.caused_by_job.JobEnding.TheVariants as ending
+use Rattle.psu_bench.specs.declared.flushing.JobEnding.{JobEnding}
+use Rattle.psu_bench.specs.declared.flushing.JobEnding.TheVariants as ending
 use Rattle.psu_bench.specs.declared.reopenings.Reopenings.{Reopenings}
 
 -- how many milliseconds it is until a second has passed since a time, if there is one; 0 once it has

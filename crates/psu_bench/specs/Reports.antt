@@ -2,7 +2,7 @@
 use Rattle.std.specs.Prelude.{◌≡◌, ℕ, Bool, true, false, List, [], ◌∷◌, ◌++◌}
 use Rattle.psu_locks.specs.declared.results.Grant.{Grant}
 use Rattle.psu_bench.specs.declared.caused.Caused.{Caused}
-use Rattle.psu_bench.specs.declared.caused_by_job.CausedByJob.{CausedByJob}
+use Rattle.psu_bench.specs.declared.caused.CausedByJob.{CausedByJob}
 
 -- a report to the other threads
 pub data Report : Type 0 where

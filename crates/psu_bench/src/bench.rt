@@ -3,8 +3,7 @@ ghost use Rattle.std.specs.Prelude.{◌≡◌, IfOk, IfErr, length};
 ghost use Rattle.psu_turn.specs.Seats.{Begins, IsOf, SeatCalls, Sees, Splits, Joins, Closes};
 ghost use Rattle.psu_bench.specs.Calls.{AllowsOn};
 
-use crate::machine::BoxedDevice;
-use crate::operation::Operation;
+use crate::machine::{BoxedDevice, Operation};
 use crate::{Call, DeviceState};
 use psu_disk::Disk;
 use psu_exec::Exec;

@@ -1,7 +1,7 @@
-//! A thread's calls of the device.
+//! A thread's access to the device, and its calls of it.
 ghost use Rattle.std.specs.Prelude.{◌≡◌, ◌↔◌, [], Ok, IfOk, IsTrue, is_some, true};
 ghost use Rattle.std.specs.Arc.{arc_value};
-ghost use Rattle.psu_turn.specs.Seats.{SeatCalls};
+ghost use Rattle.psu_turn.specs.Seats.{SeatCalls, Splits};
 ghost use Rattle.psu_exec.specs.Calls.Entry.{Closed, Sent, Locked, Released, Ticked};
 ghost use Rattle.psu_exec.specs.Quiet.{may_cause};
 ghost use Rattle.psu_exec.specs.Shown.{outcome_of};
@@ -10,16 +10,44 @@ ghost use Rattle.psu_bench.specs.Calls.{AllowsOn};
 ghost use Rattle.psu_bench.specs.Callers.{Causes, CausesByRound, released_of};
 ghost use Rattle.psu_bench.specs.Tries.{tried};
 
-use crate::operation::{Operation, Silent};
+use crate::machine::{Operation, Silent};
 use crate::operations::{CloseSession, Lock, MarkSent, Notify, Release, Tick, Try, TryUnit};
 use crate::{Bench, Caused, CausedByJob, Gate, Granted, Point, Seat, ServedDisk};
 use psu_exec::{
-    CannotDrop, Freed, Grant, Kind, LockRefusal, NoJob, Outcome, Session, Sessions,
+    CannotDrop, Freed, Grant, Kind, LockRefusal, NoJob, Notifications, Outcome, Session, Sessions,
     units_and_waits_are_quiet,
 };
-use std::alloc::Global;
+use std::alloc::{AllocError, Global};
 use std::marker::Model;
 use std::sync::{Arc, MutexGuard, Wait};
+
+/// Access to the device for a thread: the shared bench, a seat of the thread's own there, and the gate. It may be sent to
+/// another thread; the one that calls the device makes a `Caller` of it, which borrows the bench.
+#[derive(Drop)]
+pub struct Access<D: ServedDisk> {
+    /// The bench.
+    pub bench: Arc<Bench<D, Global>>,
+    /// The seat.
+    pub seat: Seat,
+    /// The gate.
+    pub gate: Arc<D::Gate>,
+    ghost same: { seat.turn ≡ arc_value bench },
+    ghost here: { is_some seat.opening ≡ true },
+}
+
+impl<D: ServedDisk> Access<D> {
+    /// Creates an access for another thread, whose seat has seen the same.
+    #[tactic(auto, using(crate::proofs::Seats::is_of))]
+    pub fn split(&mut self) -> Result<Access<D>, AllocError>
+        ensures same { self.new.seat ≡ self.old.seat }
+        ensures split { IfOk result (λ other. Splits self.old.seat other.seat) }
+    {
+        let bench = Arc::try_clone(&self.bench)?;
+        let gate = Arc::try_clone(&self.gate)?;
+        let seat = self.bench.split(&mut self.seat);
+        Ok(Access { bench, seat, gate })
+    }
+}
 
 /// What a thread calls the device by: the bench, a seat of its own there, and the gate. Each call says what the seat has
 /// then seen. It takes the mutex of the bench and releases it, but for a query that is answered: its response is mostly
@@ -191,12 +219,11 @@ impl<'b, D: ServedDisk> Caller<'b, D> {
             timeout,
         };
         let reply = self.perform(rt, operation);
-        let caused = Caused {
+        let notifications = Notifications {
             requesting: Sessions::new(),
-            wakes_flusher: matches!(reply, Ok(Grant::Queued)),
-            duty: CannotDrop::begin(),
+            has_work: matches!(reply, Ok(Grant::Queued)),
         };
-        (reply, caused)
+        (reply, Caused::of(notifications))
     }
 
     /// Releases a lock of a session. Returns also the sessions whose lock requests were then granted.

@@ -1,12 +1,12 @@
-//! What a call causes for other threads.
+//! What a call causes for other threads. These types have no `Drop`: there is no way to end one but to report it, or to
+//! pass it on.
 ghost use Rattle.std.specs.Prelude.{◌≡◌};
-ghost use Rattle.psu_bench.specs.Reports.{Reports, reports_of, service_reports};
+ghost use Rattle.psu_bench.specs.Reports.{Reports, reports_of, reports_of_job, service_reports};
 
-use crate::Others;
-use psu_exec::{CannotDrop, Notifications, Sessions};
+use crate::{JobEnding, LockedRegistry, Others};
+use psu_exec::{CannotDrop, Grant, Notifications, Sessions};
 
-/// What a call of the device has caused for other threads: sessions request service, or the flusher has something to
-/// do. It has no `Drop`: it is reported, and there is no other way to end it.
+/// What a call of the device has caused for other threads: sessions request service, or the flusher has something to do.
 pub struct Caused {
     pub(crate) requesting: Sessions,
     pub(crate) wakes_flusher: bool,
@@ -44,9 +44,76 @@ impl Caused {
     }
 }
 
+/// How a job ended, and what that has caused for threads other than the flusher: waits are over, and sessions request
+/// service. Whether there is more to flush the flusher finds out itself, as it takes the next job.
+pub struct CausedByJob {
+    pub(crate) ending: JobEnding,
+    pub(crate) over: Sessions,
+    pub(crate) requesting: Sessions,
+    pub(crate) duty: CannotDrop,
+}
+
+impl CausedByJob {
+    /// How the job ended.
+    pub fn ending(&self) -> JobEnding
+        ensures { result ≡ self.now.ending }
+    {
+        self.ending
+    }
+
+    /// Reports it to the other threads: each part of it once, and nothing else.
+    pub fn report<O: Others>(self, others: &mut O)
+        ensures { Reports O.tells others.old (reports_of_job self) others.new }
+    {
+        let CausedByJob {
+            ending: _,
+            over,
+            requesting,
+            duty,
+        } = self;
+        duty.end();
+        others.job_ended(&over);
+        report_service(others, &requesting);
+    }
+}
+
+/// The sessions whose lock requests a call of the device has granted, or failed.
+pub struct Granted {
+    sessions: Sessions,
+    grant: Grant,
+    duty: CannotDrop,
+}
+
+impl Granted {
+    // Returns the result of the lock requests of sessions.
+    pub(crate) fn new(sessions: Sessions, grant: Grant) -> Granted
+        ensures sessions { result.sessions ≡ sessions }
+        ensures grant { result.grant ≡ grant }
+    {
+        Granted {
+            sessions,
+            grant,
+            duty: CannotDrop::begin(),
+        }
+    }
+
+    /// Passes the result on to the sessions, once.
+    pub fn pass_on<R: LockedRegistry>(self, registry: &mut R)
+        ensures { R.passes registry.old (record { sessions = self.sessions; grant = self.grant }) registry.new }
+    {
+        let Granted {
+            sessions,
+            grant,
+            duty,
+        } = self;
+        duty.end();
+        registry.pass_on(&sessions, grant);
+    }
+}
+
 // Reports that sessions request service, if there are any.
 #[inline(always)]
-pub(crate) fn report_service<O: Others>(others: &mut O, requesting: &Sessions)
+fn report_service<O: Others>(others: &mut O, requesting: &Sessions)
     ensures { Reports O.tells others.old (service_reports requesting.now) others.new }
 {
     if !requesting.is_empty() {

@@ -1,12 +1,42 @@
-//! The lines on the store's condition that are due.
+//! What an operator reads of the store's condition, and when.
 ghost use Rattle.std.specs.Prelude.{◌≡◌, ◌≢◌, ◌↔◌, ◌<◌, IfNone, IfSome, IsSome, IsTrue, None};
-ghost use Rattle.psu_bench.specs.Lines.{IsDue, due_line, with_change, with_line};
+ghost use Rattle.psu_bench.specs.Lines.{IsDue, condition_shown, due_line, with_change, with_line};
 ghost use Rattle.psu_bench.specs.Reopenings.{left_of_second};
-ghost use Rattle.psu_bench.specs.declared.reported_condition.ReportedCondition.TheVariants.{Works};
+ghost use Rattle.psu_bench.specs.declared.condition_lines.ReportedCondition.TheVariants.{Works};
 
-use crate::ReportedCondition;
+use crate::JobEnding;
 use crate::reopenings::left_of_second;
 use std::fmt;
+use thiserror::Error;
+
+/// The condition of the store, as it is reported to an operator on standard error once it has changed.
+#[derive(Clone, Copy, Debug, PartialEq, Eq, Error)]
+pub enum ReportedCondition {
+    /// Changes are stored. This is reported only after another condition was.
+    #[error("store reopened")]
+    Works,
+    /// A call of the disk failed: changes are refused until the store is opened again.
+    #[error("store broken")]
+    Broken,
+    /// Its numbers are used up: no more changes are stored.
+    #[error("store worn")]
+    Worn,
+}
+
+impl ReportedCondition {
+    /// Returns the condition that the end of a job shows; none after a reopening, since a disk without room can be read
+    /// and synced, but stores nothing.
+    pub fn shown_by(ending: JobEnding) -> Option<ReportedCondition>
+        ensures { result ≡ condition_shown ending }
+    {
+        match ending {
+            JobEnding::Stored => Some(ReportedCondition::Works),
+            JobEnding::Broken => Some(ReportedCondition::Broken),
+            JobEnding::Worn => Some(ReportedCondition::Worn),
+            JobEnding::Reopened | JobEnding::OutOfMemory => None,
+        }
+    }
+}
 
 /// A line on the store's condition for an operator.
 #[derive(Clone, Copy, Debug, PartialEq, Eq)]

@@ -2,14 +2,45 @@
 ghost use Rattle.std.specs.Prelude.{◌≡◌};
 ghost use Rattle.psu_turn.specs.Seats.{IsOf};
 ghost use Rattle.psu_exec.specs.Shown.{over_of};
-ghost use Rattle.psu_bench.specs.Callers.{MakesRound, MakesRounds, over_sessions};
+ghost use Rattle.psu_bench.specs.Callers.{MakesRound, MakesRounds, ending_of, over_sessions};
 
 use crate::operations::{GiveBack, Take};
-use crate::{Bench, Gate, JobEnding, Point, Seat};
+use crate::{Bench, Gate, Point, Seat};
 use psu_disk::Disk;
-use psu_exec::{NoJob, Sessions, Stranger};
+use psu_exec::{End, NoJob, Sessions, Stranger};
+use psu_items::UnstartedCause;
 use std::alloc::Allocator;
 use std::sync::Wait;
+
+/// How a job ended.
+#[derive(Clone, Copy, Debug, PartialEq, Eq)]
+pub enum JobEnding {
+    /// Its changes are stored.
+    Stored,
+    /// The store that broke is open again.
+    Reopened,
+    /// The store broke, or could not be opened again.
+    Broken,
+    /// Nothing was stored: the store has used up its numbers.
+    Worn,
+    /// Nothing was stored: an allocation failed.
+    OutOfMemory,
+}
+
+impl JobEnding {
+    // Returns how a finished job ended.
+    fn of<D: Disk, A: Allocator + Copy>(end: &End<D, A>) -> JobEnding
+        ensures { result ≡ ending_of end.now }
+    {
+        match end {
+            End::Stored(_) => JobEnding::Stored,
+            End::Reopened(_) => JobEnding::Reopened,
+            End::Broken(_) => JobEnding::Broken,
+            End::Unstarted(_, _, UnstartedCause::Worn) => JobEnding::Worn,
+            End::Unstarted(_, _, UnstartedCause::Memory) => JobEnding::OutOfMemory,
+        }
+    }
+}
 
 impl<D: Disk + Drop, A: Allocator + Copy> Bench<D, A> {
     /// Makes a round: takes a job, runs it outside the turn, and gives back its result. The gate is called before the job

@@ -3,40 +3,31 @@
 //! can't be forgotten.
 #![tactic(auto)]
 
-mod access;
 mod bench;
 mod caller;
 mod caused;
-mod caused_by_job;
 mod condition_lines;
 mod flushing;
 mod gate;
 mod gated;
-mod granted;
 mod laws;
 mod machine;
-mod operation;
 pub mod operations;
 mod others;
 mod reopenings;
-mod reported_condition;
 mod starting;
 mod working;
 
-pub use access::Access;
 pub use bench::{Bench, Seat};
-pub use caller::Caller;
-pub use caused::Caused;
-pub use caused_by_job::{CausedByJob, JobEnding};
-pub use condition_lines::{ConditionLine, ConditionLines};
-pub use flushing::flusher;
+pub use caller::{Access, Caller};
+pub use caused::{Caused, CausedByJob, Granted};
+pub use condition_lines::{ConditionLine, ConditionLines, ReportedCondition};
+pub use flushing::{JobEnding, flusher};
 pub use gate::{Gate, Open, Point};
 pub use gated::{Gated, Served, ServedDisk};
-pub use granted::Granted;
 pub use laws::{histories_are_lives, seen_histories_happen, threads_are_events};
 pub use machine::{Call, DeviceState};
 pub use others::{LockedRegistry, Others};
 pub use reopenings::Reopenings;
-pub use reported_condition::ReportedCondition;
 pub use starting::power_on;
 pub use working::session_worker;

@@ -5,7 +5,7 @@ ghost use Rattle.psu_exec.specs.Shown.{outcome_of, over_of};
 ghost use Rattle.psu_exec.specs.Jobs.{finished_of, taken_of};
 ghost use Rattle.psu_bench.specs.Tries.{tried};
 
-use crate::operation::{Operation, Silent};
+use crate::machine::{Operation, Silent};
 use psu_disk::Disk;
 use psu_exec::{
     Crowded, Exec, Finished, Freed, Grant, Info, Job, Kind, LockRefusal, NoJob, Notifications,
@@ -194,13 +194,7 @@ impl<D: Disk, A: Allocator + Copy> Operation<D, A> for Lock {
     ghost entry = { λ o reply. Locked o.session o.kind o.now o.timeout reply };
 
     fn perform(self, exec: &mut Exec<D, A>) -> Result<Grant, LockRefusal> {
-        let Lock {
-            session,
-            kind,
-            now,
-            timeout,
-        } = self;
-        exec.lock(session, kind, now, timeout)
+        exec.lock(self.session, self.kind, self.now, self.timeout)
     }
 }
 

@@ -43,6 +43,7 @@ impl SessionLock {
     /// Notes the result of a write. Bytes that are written are reported to the session without its lock, and the thread
     /// continues the session only where it has to, or another thread waits for the end of the write. A connection that
     /// has ended ends the session.
+    #[inline(always)]
     pub fn note_write<R: Wait, S: ConnectionSide>(
         &self,
         rt: &R,
@@ -67,6 +68,7 @@ impl SessionLock {
     }
 
     // Ends a write. Returns what its thread does then.
+    #[inline(always)]
     fn end_write<S: ConnectionSide>(&self, written: Written<S>) -> NextTask<S>
         ensures { IsAfterWrite written.after result }
     {

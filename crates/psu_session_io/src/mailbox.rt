@@ -3,10 +3,9 @@ ghost use Rattle.psu_session_io.specs.Leaving.{IsNext};
 
 use crate::line::Line;
 use crate::linear::{AfterWrite, Arrived, Closed, Closing, NextTask, Outgoing, Pending, Remainder};
-use crate::{Asynchronous, ConnectionSide, Notice, Synchronous, Token};
+use crate::{ConnectionSide, Notice, Token};
 use psu_exec::CannotDrop;
 use psu_hislip::Side;
-use psu_locks::Grant;
 use std::alloc::{AllocError, Global};
 use std::marker::PhantomData;
 use std::rt::Clock;
@@ -40,29 +39,18 @@ impl Mailbox {
 
     // ---- by other sessions and the flusher
 
-    /// Reports that what a unit waits for may have come.
-    pub fn wake<R: Wait>(&self, rt: &R) {
-        self.worker.post(rt, Notice::Continue);
+    /// Posts a notice: to the worker that what a unit waits for may have come, or any other to the notifier.
+    pub fn post<R: Wait>(&self, rt: &R, notice: Notice) {
+        match notice {
+            Notice::Continue => self.worker.post(rt, notice),
+            _ => self.notifier.post(rt, notice),
+        }
     }
 
     /// Reports that there may be room for changes, where a unit waits for it.
     pub fn wake_late<R: Wait>(&self, rt: &R) {
         if self.late.swap(false, Ordering::SeqCst) {
             self.worker.post(rt, Notice::Continue);
-        }
-    }
-
-    /// Reports that the device may have a service request.
-    pub fn request_service<R: Wait>(&self, rt: &R) {
-        self.notifier.post(rt, Notice::Service);
-    }
-
-    /// Reports the result of the lock request that waits.
-    pub fn grant<R: Wait>(&self, rt: &R, grant: Grant) {
-        match grant {
-            Grant::Granted => self.notifier.post(rt, Notice::Granted),
-            Grant::Failed => self.notifier.post(rt, Notice::Failed),
-            Grant::Queued => {}
         }
     }
 
@@ -145,37 +133,24 @@ impl Mailbox {
         NextTask::Wait(due)
     }
 
-    // Returns a notice that must be passed to the session.
-    fn arrived<S>(notice: Notice) -> Arrived<S> {
+    /// Waits for the next notice: to the worker, for at most some time if one is given, or to the notifier.
+    pub fn wait<R: Wait + Clock, S: ConnectionSide>(
+        &self,
+        rt: &R,
+        token: &mut Token<S>,
+        left: Option<Duration>,
+    ) -> Arrived<S> {
+        let _ = token;
+        let notice = match (S::SIDE, left) {
+            (Side::Sync, Some(left)) => self.worker.next_within(rt, left),
+            (Side::Sync, None) => self.worker.next(rt),
+            (Side::Async, _) => self.notifier.next(rt),
+        };
         Arrived {
             notice,
             duty: CannotDrop::begin(),
             side: PhantomData,
         }
-    }
-
-    /// Waits for the next notice to the worker, for at most some time if one is given.
-    pub fn wait_as_worker<R: Wait + Clock>(
-        &self,
-        rt: &R,
-        token: &mut Token<Synchronous>,
-        left: Option<Duration>,
-    ) -> Arrived<Synchronous> {
-        let _ = token;
-        match left {
-            Some(left) => Mailbox::arrived(self.worker.next_within(rt, left)),
-            None => Mailbox::arrived(self.worker.next(rt)),
-        }
-    }
-
-    /// Waits for the next notice to the notifier.
-    pub fn wait_as_notifier<R: Wait>(
-        &self,
-        rt: &R,
-        token: &mut Token<Asynchronous>,
-    ) -> Arrived<Asynchronous> {
-        let _ = token;
-        Mailbox::arrived(self.notifier.next(rt))
     }
 
     /// Waits until the reader of a connection may try again.

@@ -1,5 +1,6 @@
 //! The value of a session that threads share.
-ghost use Rattle.std.specs.Prelude.{◌≡◌, ◌↔◌, ◌&&◌, not, false, None, IsTrue, IfOk, OnOk, OnErr, IfSome, IsNone};
+ghost use Rattle.std.specs.Prelude.{◌≡◌, ◌≢◌, ◌⊎◌, ◌↔◌, ◌&&◌, not, false, None, [], IsTrue, IfOk, OnOk, OnErr, IfSome, IsNone};
+ghost use Rattle.psu_hislip.specs.declared.side.Side.TheVariants.{Async};
 ghost use Rattle.psu_session.specs.Holding.{IsFull};
 ghost use Rattle.psu_session.specs.Phases.{disconnected, phase_ended};
 ghost use Rattle.psu_session.specs.Stopping.{StopsNext};
@@ -105,6 +106,14 @@ impl SharedSession {
         if !was_joined && self.session.is_joined() {
             self.session.service_requested(device);
         }
+    }
+
+    /// Whether what is received on a connection depends on the time: a release waits, or may be requested, as it is on the
+    /// asynchronous connection.
+    pub fn needs_time(&self, side: Side) -> bool
+        ensures { IsTrue result ↔ ((side ≡ Async) ⊎ (self.now.state.releases ≢ [])) }
+    {
+        side == Side::Async || self.has_releases()
     }
 
     // Receives bytes, for which there is room.

@@ -90,7 +90,7 @@ impl SharedSession {
     }
 
     // Whether a release waits.
-    fn has_releases(&self) -> bool
+    pub(crate) fn has_releases(&self) -> bool
         ensures { IsTrue result ↔ (self.now.state.releases ≢ []) }
     {
         self.session.next_due().is_some()

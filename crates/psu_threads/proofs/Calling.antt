@@ -1,16 +1,48 @@
 -- The calls of a session on the shared device, in the history.
-use Rattle.std.proofs.Common.{◌≡◌, ℕ, Option, Some, None, List, [], ◌∷◌, ◌++◌, ap, inl, inr, refl, subst}
-use Rattle.psu_turn.specs.Seats.{Sight}
+use Rattle.std.proofs.Common.{◌≡◌, ◌≢◌, ◌⊎◌, ◌∙◌, ap, inl, inr, refl, List, [], ◌∷◌, ◌++◌, append_assoc, ℕ, Option, Some, None, subst}
+use Rattle.std.proofs.lemmas.List.{append-nil}
+use Rattle.psu_turn.specs.declared.numbered.Numbered.{Numbered}
+use Rattle.psu_turn.specs.History.{numbered}
+use Rattle.psu_turn.specs.Seats.{SeatCalls, Sight}
+use Rattle.psu_threads.specs.Called.{Adds, HasHistory, AreCalls, AreEntries, IsCalled, MayNotify}
 use Rattle.psu_exec.specs.Device.{State}
 use Rattle.psu_exec.specs.Calls.{Entry}
 use Rattle.psu_bench.specs.Calls.{AllowsOn}
 use Rattle.psu_session.specs.Events.{Call, Executed, Settled, Sent, Delivered, Queried, Fetched, Locked, Released, Informed, Cleared}
 use Rattle.psu_session.specs.Serving.{Runs}
-use Rattle.psu_threads.specs.Added.{Adds}
-use Rattle.psu_threads.specs.Called.{AreCalls, AreEntries, IsCalled, MayNotify}
 use Rattle.psu_bench.specs.Callers.{Causes, freed_to}
 use Rattle.psu_bench.specs.declared.caused.Caused.{Caused}
-use Rattle.psu_threads.proofs.Adding.{adds_both, adds_none, adds_one}
+
+module _ {S E : Type 0} {allows : S → E → S → Type 0} where
+  pub adds_none : (v w : Sight S E) → w ≡ v → Adds allows v [] w
+  adds_none v w now = record {
+    same = record { turn = ap (λ (x : Sight S E). x.turn) now; number = ap (λ (x : Sight S E). x.number) now; opening = ap (λ (x : Sight S E). x.opening) now };
+    seen = ([], rw now (simp append-nil));
+    mine = rw now (simp append-nil);
+    history = λ known. elim known [ inl h ↦ rw now h | inr some ↦ absurd (some refl) ];
+  }
+
+  pub adds_one : (v w : Sight S E) (entry : E) → SeatCalls allows v entry w → Adds allows v (entry ∷ []) w
+  adds_one v w entry call = record {
+    same = call.same;
+    seen = (call.seen.0 ++ numbered v.number entry ∷ [], call.seen.1 ∙ simp append_assoc);
+    mine = call.mine;
+    history = λ known. record { legal = call.legal; own = call.own };
+  }
+
+  -- if it was known before, or there is an entry of the first calls or of the later ones
+  known_both : (u v w : Sight S E) (first later : List E) → (HasHistory allows u ⊎ (first ≢ []) → HasHistory allows v) → (HasHistory allows v ⊎ (later ≢ []) → HasHistory allows w) → HasHistory allows u ⊎ (first ++ later ≢ []) → HasHistory allows w
+  known_both u v w first later one two (inl h) = two (inl (one (inl h)))
+  known_both u v w [] later one two (inr some) = two (inr some)
+  known_both u v w (entry ∷ first) later one two (inr some) = two (inl (one (inr (λ none. absurd (cc (none))))))
+
+  pub adds_both : (u v w : Sight S E) (first later : List E) → Adds allows u first v → Adds allows v later w → Adds allows u (first ++ later) w
+  adds_both u v w first later one two = record {
+    same = record { turn = two.same.turn ∙ one.same.turn; number = two.same.number ∙ one.same.number; opening = two.same.opening ∙ one.same.opening };
+    seen = (one.seen.0 ++ two.seen.0, two.seen.1 ∙ ap (λ (seen : List (Numbered E)). seen ++ two.seen.0) one.seen.1 ∙ simp append_assoc);
+    mine = two.mine ∙ ap (λ (mine : List E). mine ++ later) one.mine ∙ simp append_assoc;
+    history = known_both u v w first later one.history two.history;
+  }
 
 module _ {honest : Type 0} where
   made : (old new : Sight State Entry) (entry : Entry) → (caused : Option Caused) × Causes honest old entry caused new → (entries : List Entry) × MayNotify entry entries × Adds (AllowsOn honest) old entries new

@@ -1,9 +1,3 @@
-pub mod Adding
 pub mod Calling
-pub mod Making
 pub mod Recording
-pub mod Answering
-pub mod Transmissions
-pub mod Replying
-pub mod Histories
-pub mod Places
+pub mod Responses

@@ -1,25 +1,55 @@
--- The calls of a session's history as entries of the device's history.
-use Rattle.std.proofs.Common.{◌≡◌, ◌≢◌, ℕ, ◌==◌, if◌then◌else◌, All, List, [], ◌∷◌, ◌++◌, flat_map, map, refl, sym, ap, ◌∙◌, subst, append-nil, eq-eqb, ne_eqb}
+-- The history that the calls of threads make, and its calls of the device as entries of the device's history.
+use Rattle.std.proofs.Common.{◌≡◌, ℕ, Bool, List, [], ◌∷◌, ◌++◌, refl, sym, ap, ◌∙◌, subst, inl, inr, ◌≢◌, ◌==◌, if◌then◌else◌, All, flat_map, map, append-nil, eq-eqb, ne_eqb}
+use Rattle.std.proofs.lemmas.List.{map-append}
+use Rattle.psu_session.specs.Events.{Call, Event, calls, calls_in}
+use Rattle.psu_session.specs.Serving.{Runs}
+use Rattle.psu_session.specs.State.{Start, SessionState}
+use Rattle.psu_session.specs.Step.{SessionStep, IsHistory, Steps}
+use Rattle.psu_session.proofs.Stepping.{one_step, steps_on}
+use Rattle.psu_threads.specs.Made.{IsCallOf, IsMadeOn, Made, history_of, made_by}
+use Rattle.psu_threads.specs.Made.IsCallOf.{Receives, PassesOn, Requests, Continues, Ticks, Takes, Writes}
+use Rattle.psu_threads.specs.Made.IsMadeOn.{Opens, Calls}
 use mathlib.Core.Logic.{dite}
 use native.Mathlib.Decide.{ℕ_discrete}
-use Rattle.std.proofs.lemmas.List.{map-append}
 use Rattle.std.proofs.lemmas.List.Concat.{flat_map-append}
 use Rattle.std.proofs.lemmas.List.Elements.{All-append, All-cons, All-nil}
 use Rattle.psu_turn.specs.Seats.{Sight}
 use Rattle.psu_exec.specs.Device as device
 use Rattle.psu_exec.specs.Calls.{Entry}
 use Rattle.psu_bench.specs.Calls.{AllowsOn}
-use Rattle.psu_session.specs.Events.{Call, Event, calls, calls_in}
-use Rattle.psu_session.specs.Serving.{Runs}
-use Rattle.psu_session.specs.State.{Start, SessionState}
-use Rattle.psu_threads.specs.Added.{Adds}
-use Rattle.psu_threads.specs.Called.{AreAllEntries, IsCalled}
-use Rattle.psu_threads.specs.Made.{IsMadeOn, Made, made_by}
-use Rattle.psu_threads.specs.Made.IsMadeOn.{Opens, Calls}
+use Rattle.psu_threads.specs.Called.{Adds, AreAllEntries, IsCalled}
 use Rattle.psu_threads.specs.Recorded.{Recorded, entries_by}
-use Rattle.psu_threads.proofs.Adding.{adds_both, adds_none}
-use Rattle.psu_threads.proofs.Calling.{all_called, runs_on_seat}
-use Rattle.psu_threads.proofs.Making.{call_runs, runs_split}
+use Rattle.psu_threads.proofs.Calling.{adds_both, adds_none, all_called, runs_on_seat}
+
+history_by : (thread : ℕ) (done : List Event) → history_of (made_by thread done) ≡ done
+history_by thread [] = refl
+history_by thread (event ∷ done) = ap (λ (z : List Event). event ∷ z) (history_by thread done)
+
+history_more : (made : List Made) (thread : ℕ) (done : List Event) → history_of (made ++ made_by thread done) ≡ history_of made ++ done
+history_more made thread done = map-append (λ (m : Made). m.event) made (made_by thread done) ∙ ap (λ (z : List Event). history_of made ++ z) (history_by thread done)
+
+module _ {X : Type 0} {does : X → Call → X → Type 0} where
+  -- a call of the session is steps of it, and calls the device as its events say
+  pub call_made : {s : SessionState} {x : X} {t : SessionState} {y : X} {done : List Event} → IsCallOf does s x t y done → Steps s done t × Runs does x (calls done) y
+  call_made (Receives now side bytes call) = (one_step (SessionStep.Receives now side bytes call.is), call.runs)
+  call_made (PassesOn grant call) = (one_step (SessionStep.Notifies (record { is = inl (grant, call.are); then = call.then })), call.runs)
+  call_made (Requests call) = (one_step (SessionStep.Notifies (record { is = inr call.are; then = call.then })), call.runs)
+  call_made (Continues proceeded call) = (call.is.steps, call.runs)
+  call_made (Ticks now is same) = (one_step (SessionStep.Ticks now is), same)
+  call_made (Takes side bytes is same) = (one_step (SessionStep.Takes side bytes is), same)
+  call_made (Writes side is same) = (one_step (SessionStep.Writes side is), same)
+
+  pub made_history : {number : X → ℕ} {start : Start} {first last : ℕ → X} {made : List Made} {s : SessionState} → IsMadeOn does number start first made s last → IsHistory start (history_of made) s
+  made_history (Opens own) = Steps.Still
+  made_history {start} (Calls {made = made} before thread done t next call others) =
+      subst (λ (z : List Event). IsHistory start z t) (sym (history_more made thread done)) (steps_on (made_history before) (call_made call).0)
+
+-- calls of the device, one after another, are the first of them and then the others
+pub runs_split : {X : Type 0} (does : X → Call → X → Type 0) (xs ys : List Call) (x z : X) → Runs does x (xs ++ ys) z → (y : X) × Runs does x xs y × Runs does y ys z
+runs_split does [] ys x z runs = (x, refl, runs)
+runs_split does (call ∷ xs) ys x z (mid, did, more) =
+    let rest = runs_split does xs ys mid z more in
+    (rest.0, (mid, did, rest.1), rest.2)
 
 abbrev pub all_entries : List Recorded → List Entry
 all_entries events = flat_map (λ r. r.entries) events
@@ -27,12 +57,6 @@ all_entries events = flat_map (λ r. r.entries) events
 -- the entries of an event are those of its calls
 abbrev pub HasEntries : (ℕ → ℕ) → Recorded → Type 0
 HasEntries number r = AreAllEntries (number r.made.thread) (calls_in r.made.event) r.entries
-
-if_mine : (thread : ℕ) (entries : List Entry) → (if thread == thread then entries else []) ≡ entries
-if_mine thread entries = ap (λ t. if t then entries else []) (eq-eqb thread thread refl)
-
-if_other : (thread other : ℕ) (entries : List Entry) → thread ≢ other → (if thread == other then entries else []) ≡ []
-if_other thread other entries apart = ap (λ t. if t then entries else []) (ne_eqb thread other apart)
 
 module _ (honest : Type 0) (number : ℕ → ℕ) where
   -- the events of one call of a thread, under its seat
@@ -56,8 +80,8 @@ module _ (honest : Type 0) (number : ℕ → ℕ) where
         are = ap (λ (z : List Made). first.made ∷ z) more.are;
         each = All-cons (HasEntries number) first more.events one.are more.each;
         adds = adds_both old split.0 new one.entries (all_entries more.events) one.adds more.adds;
-        mine = ap (λ (z : List Entry). z ++ entries_by thread more.events) (if_mine thread one.entries) ∙ ap (λ (z : List Entry). one.entries ++ z) more.mine;
-        others = λ other apart. ap (λ (z : List Entry). z ++ entries_by other more.events) (if_other thread other one.entries apart) ∙ more.others other apart;
+        mine = ap (λ (b : Bool). (if b then one.entries else []) ++ entries_by thread more.events) (eq-eqb thread thread refl) ∙ ap (λ (z : List Entry). one.entries ++ z) more.mine;
+        others = λ other apart. ap (λ (b : Bool). (if b then one.entries else []) ++ entries_by other more.events) (ne_eqb thread other apart) ∙ more.others other apart;
       }
 
 module _ {X : Type 0} {does : X → Call → X → Type 0} (honest : Type 0) (session : X → ℕ) (seat : X → Sight device.State Entry)
@@ -85,7 +109,7 @@ module _ {X : Type 0} {does : X → Call → X → Type 0} (honest : Type 0) (se
   of_all {start = start} {first = first} (Calls {made = made} {now = now} before thread done t next call others) =
       let number : ℕ → ℕ = λ k. start.session in
       let old = of_all before in
-      let runs = call_runs call in
+      let runs = (call_made call).1 in
       let on_seat = runs_on_seat session seat (IsCalled honest) makes (now thread) (calls done) (next thread) runs in
       let new = of_call honest number thread done (seat (now thread)) (seat (next thread))
       (subst (λ (n : ℕ). Runs (IsCalled honest n) (seat (now thread)) (calls done) (seat (next thread))) (old.same thread) on_seat) in

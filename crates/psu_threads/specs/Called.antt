@@ -1,6 +1,7 @@
 -- The calls of a session, as calls of the device under the seat of the thread that makes them.
-use Rattle.std.specs.Prelude.{◌≡◌, ◌⊎◌, ℕ, Bool, Option, List, [], ◌∷◌, ◌++◌}
-use Rattle.psu_turn.specs.Seats.{Sight, SeatCalls}
+use Rattle.std.specs.Prelude.{◌≡◌, ◌≢◌, ◌⊎◌, List, [], ◌++◌, ℕ, Bool, Option, ◌∷◌}
+use Rattle.psu_turn.specs.History.{StartsWith, calls_by}
+use Rattle.psu_turn.specs.Seats.{IsLegalFrom, IsSame, Sight, SeatCalls}
 use Rattle.psu_exec.specs.Device.{State}
 use Rattle.psu_exec.specs.Calls.{Entry}
 use Rattle.psu_bench.specs.Calls.{AllowsOn}
@@ -8,7 +9,25 @@ use Rattle.psu_bench.specs.Callers.{Causes, freed_to}
 use Rattle.psu_bench.specs.declared.caused.Caused.{Caused}
 use Rattle.psu_session.specs.Events.{Call, Executed, Settled, Sent, Delivered, Queried, Fetched, Locked, Released, Informed, Cleared}
 use Rattle.psu_session.specs.Serving.{Runs}
-use Rattle.psu_threads.specs.Added.{Adds}
+
+-- ---- what a seat has seen after several calls
+
+module _ {S E : Type 0} (allows : S → E → S → Type 0) where
+  -- The seat has seen one legal history, in which exactly its own calls have its number.
+  pub record HasHistory (v : Sight S E) : Type 0 where
+    pub legal : IsLegalFrom allows v.opening v.seen
+    pub own : calls_by v.number v.seen ≡ v.mine
+
+  -- After calls with these entries the seat has seen a history that begins with all that it had seen, and its own calls
+  -- are those that it had made and then these. This history is legal, and has exactly the seat's calls under its
+  -- number, if it was such before or there is an entry.
+  pub record Adds (v : Sight S E) (entries : List E) (w : Sight S E) : Type 0 where
+    pub same : IsSame v w
+    pub seen : StartsWith w.seen v.seen
+    pub mine : w.mine ≡ v.mine ++ entries
+    pub history : HasHistory v ⊎ (entries ≢ []) → HasHistory w
+
+-- ---- calls of a session
 
 -- The seat has made this call of a session. Its reply is what the one legal history says.
 abbrev pub IsCalled : Type 0 → ℕ → Sight State Entry → Call → Sight State Entry → Type 0

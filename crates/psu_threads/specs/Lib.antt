@@ -1,4 +1,3 @@
-pub mod Added
 pub mod Called
 pub mod Made
 pub mod Recorded

@@ -21,8 +21,7 @@ use Rattle.psu_session.specs.Exchange.{Done, Order, Turn, effects, frames, order
 use Rattle.psu_session.specs.Exchanged.{replied}
 use Rattle.psu_session.specs.State.{Start, SessionState, orders_in}
 use Rattle.psu_session.specs.Step.{IsHistory, IsOpening, happened}
-use Rattle.psu_threads.specs.Added.{Adds}
-use Rattle.psu_threads.specs.Called.{AreAllEntries}
+use Rattle.psu_threads.specs.Called.{Adds, AreAllEntries}
 use Rattle.psu_threads.specs.Made.{IsMadeOn, Made, history_of}
 
 -- an event of the session's history, and the entries of its calls in the device's history

@@ -1,6 +1,8 @@
-//! The threads of a session that execute: the reader of its synchronous connection, and its worker.
-use crate::serving::Serving;
-use psu_session_io::{Body, Closed, Closing, Drained, Incoming, StepDevice, Synchronous, Token};
+//! The threads of a session: the readers of its connections, its worker and its notifier.
+use crate::serving::{Continue, Serving};
+use psu_session_io::{
+    Asynchronous, Body, Closed, Closing, Drained, Incoming, StepDevice, Synchronous, Token,
+};
 use std::rt::Clock;
 use std::sync::Wait;
 use std::time::{Duration, Instant};
@@ -118,18 +120,38 @@ impl<'s, 'v, D: StepDevice> Body<Synchronous> for SyncReader<'s, 'v, D> {
     }
 }
 
-/// The worker: it continues the execution once what a unit waits for may have come, and while the reader waits.
+/// The reader of the asynchronous connection.
 #[derive(Drop)]
-pub(crate) struct Worker<'s, 'v, D> {
-    pub serving: Serving<'s, 'v, Synchronous, D>,
+pub(crate) struct AsyncReader<'s, 'v, D> {
+    pub serving: Serving<'s, 'v, Asynchronous, D>,
+    pub space: Vec<u8>,
 }
 
-impl<'s, 'v, D: StepDevice> Worker<'s, 'v, D> {
+impl<'s, 'v, D: StepDevice> Body<Asynchronous> for AsyncReader<'s, 'v, D> {
+    fn serve<R: Wait + Clock>(&mut self, rt: &R, token: &mut Token<Asynchronous>) -> Closed {
+        for _ in rt.forever() {
+            let space = self.space.as_mut_slice();
+            if let Err(closing) = self.serving.read(rt, token, space) {
+                return self.serving.served.close(rt, closing);
+            }
+        }
+        unreachable!()
+    }
+}
+
+/// The worker, on the synchronous connection: it continues the execution once what a unit waits for may have come, and
+/// while the reader waits. On the asynchronous connection the notifier: it sends what other sessions cause.
+#[derive(Drop)]
+pub(crate) struct Worker<'s, 'v, S, D> {
+    pub serving: Serving<'s, 'v, S, D>,
+}
+
+impl<'s, 'v, S: Continue, D: StepDevice> Worker<'s, 'v, S, D> {
     // Waits for the next notice, or until a release is due, and serves it. Returns when the next release is due.
     fn work_once<R: Wait + Clock>(
         &mut self,
         rt: &R,
-        token: &mut Token<Synchronous>,
+        token: &mut Token<S>,
         due: Option<u64>,
     ) -> Result<Option<u64>, Closing> {
         let left = match due {
@@ -139,13 +161,13 @@ impl<'s, 'v, D: StepDevice> Worker<'s, 'v, D> {
             }
             None => None,
         };
-        let arrived = self.serving.served.mailbox.wait_as_worker(rt, token, left);
+        let arrived = self.serving.served.mailbox.wait(rt, token, left);
         self.serving.notify(rt, token, arrived)
     }
 }
 
-impl<'s, 'v, D: StepDevice> Body<Synchronous> for Worker<'s, 'v, D> {
-    fn serve<R: Wait + Clock>(&mut self, rt: &R, token: &mut Token<Synchronous>) -> Closed {
+impl<'s, 'v, S: Continue, D: StepDevice> Body<S> for Worker<'s, 'v, S, D> {
+    fn serve<R: Wait + Clock>(&mut self, rt: &R, token: &mut Token<S>) -> Closed {
         let mut due = None;
         for _ in rt.forever() {
             match self.work_once(rt, token, due) {

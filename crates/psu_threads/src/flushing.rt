@@ -3,7 +3,7 @@ ghost use Rattle.std.specs.Prelude.{◌≡◌, ◌<◌, Result};
 ghost use Rattle.psu_exec.specs.declared.job.NoJob.{NoJob as AnyNoJob};
 ghost use Rattle.psu_bench.specs.Callers.{CausesByRound};
 ghost use Rattle.psu_bench.specs.Reopenings.{after_job, left_of_second};
-ghost use Rattle.psu_bench.specs.declared.caused_by_job.CausedByJob.{CausedByJob};
+ghost use Rattle.psu_bench.specs.declared.caused.CausedByJob.{CausedByJob};
 
 use crate::reporter::Reporter;
 use crate::server::Server;
@@ -152,18 +152,12 @@ impl<'a, 'b, D: ServedDisk> Flusher<'a, 'b, D> {
 
     // Sleeps until the flusher is notified, or for as long as the last round and the next deadline of a lock request allow.
     fn sleep<R: Wait + Clock>(&self, rt: &R, round: Option<u64>, lock: Option<u64>) {
-        match (round, lock) {
-            (Some(0), _) => {}
-            (None, None) => self.server.flusher_signal.wait(rt),
-            (Some(left), None) | (None, Some(left)) => self
-                .server
-                .flusher_signal
-                .wait_at_most(rt, left.max(1)),
-            (Some(one), Some(other)) => self
-                .server
-                .flusher_signal
-                .wait_at_most(rt, one.min(other).max(1)),
-        }
+        let left = match (round, lock) {
+            (Some(0), _) => return,
+            (Some(one), Some(other)) => Some(one.min(other)),
+            (left, None) | (None, left) => left,
+        };
+        self.server.flusher_signal.wait(rt, left);
     }
 
     /// Flushes and ticks for ever. No clause speaks of a loop that doesn't return: what holds each round to what

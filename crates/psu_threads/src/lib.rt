@@ -10,7 +10,6 @@ mod laws;
 mod operator;
 mod registry;
 mod reporter;
-mod responding;
 mod server;
 mod serving;
 mod session_thread;

@@ -1,6 +1,6 @@
 //! What an operator reads of the store's condition.
 use crate::server::Server;
-use psu_bench::{ConditionLine, ConditionLines, ReportedCondition};
+use psu_bench::{ConditionLines, ReportedCondition};
 use std::io::Eprint;
 use std::rt::Clock;
 use std::sync::{Condvar, Mutex, Wait};
@@ -30,27 +30,19 @@ impl Operator {
         self.changed.notify_all();
     }
 
-    // Waits until the condition has changed since the last line. Returns how long it is then until a line is due, in
-    // milliseconds.
-    fn wait<R: Wait + Clock>(&self, rt: &R, server: &Server) -> u64 {
+    // Waits until the condition has changed since the last line, and writes the next one once it is due. The condition may
+    // change while it is written.
+    fn write_next<R: Wait + Clock, E: Eprint>(&self, rt: &R, server: &Server, errors: &E) {
         let lines = self.lines.lock(rt);
         let lines = self
             .changed
             .wait_while(rt, lines, |lines| !lines.has_changed());
-        lines.time_left(server.now(rt))
-    }
-
-    // Returns the line that is due, if one is.
-    fn line_due<R: Wait + Clock>(&self, rt: &R, server: &Server) -> Option<ConditionLine> {
-        let now = server.now(rt);
-        self.lines.lock(rt).line_due(now)
-    }
-
-    // Writes the next line once it is due. The condition may change while it is written.
-    fn write_next<R: Wait + Clock, E: Eprint>(&self, rt: &R, server: &Server, errors: &E) {
-        let left = self.wait(rt, server);
+        let left = lines.time_left(server.now(rt));
+        drop(lines);
         thread::sleep(rt, Duration::from_millis(left));
-        if let Some(line) = self.line_due(rt, server) {
+        let now = server.now(rt);
+        let due = self.lines.lock(rt).line_due(now);
+        if let Some(line) = due {
             let _ = eprintln!(errors; "psu: {line}");
         }
     }

@@ -3,8 +3,8 @@ ghost use Rattle.std.specs.Prelude.{◌≡◌, IfSome};
 ghost use Rattle.std.specs.Arc.{arc_value};
 ghost use Rattle.psu_threads.specs.Registered.{AreAtTheirPlaces};
 
-use psu_exec::{Grant, Session, Sessions};
-use psu_session_io::ServedSession;
+use psu_exec::{Session, Sessions};
+use psu_session_io::{Notice, ServedSession};
 use std::sync::{Arc, Wait};
 
 /// The sessions that are open. A thread holds it while it opens or ends a session, or makes a call that grants or fails
@@ -31,8 +31,7 @@ impl Registry {
     pub fn set(&mut self, number: Session, session: Option<Arc<ServedSession>>)
         requires { IfSome session (λ session. (arc_value session).number ≡ number) }
     {
-        let place = usize::from(number.number()) - 1;
-        self.sessions[place] = session;
+        self.sessions[number.place()] = session;
     }
 
     /// Returns the session of a number.
@@ -42,29 +41,11 @@ impl Registry {
         Some(Arc::try_clone(self.sessions[number.place()].as_ref()?).ok()?)
     }
 
-    /// Notifies sessions of the result of their lock requests.
-    pub fn grant<R: Wait>(&self, rt: &R, sessions: &Sessions, grant: Grant) {
+    /// Posts a notice to sessions.
+    pub fn post<R: Wait>(&self, rt: &R, sessions: &Sessions, notice: Notice) {
         for number in sessions.as_slice() {
             if let Some(session) = &self.sessions[number.place()] {
-                session.mailbox.grant(rt, grant);
-            }
-        }
-    }
-
-    /// Notifies sessions that the device may have service requests for them.
-    pub fn request_service<R: Wait>(&self, rt: &R, sessions: &Sessions) {
-        for number in sessions.as_slice() {
-            if let Some(session) = &self.sessions[number.place()] {
-                session.mailbox.request_service(rt);
-            }
-        }
-    }
-
-    /// Wakes sessions whose waits are over.
-    pub fn wake<R: Wait>(&self, rt: &R, sessions: &Sessions) {
-        for number in sessions.as_slice() {
-            if let Some(session) = &self.sessions[number.place()] {
-                session.mailbox.wake(rt);
+                session.mailbox.post(rt, notice);
             }
         }
     }
@@ -79,7 +60,7 @@ impl Registry {
     /// Wakes all sessions: locks have changed.
     pub fn wake_all<R: Wait>(&self, rt: &R) {
         for session in self.sessions.iter().flatten() {
-            session.mailbox.wake(rt);
+            session.mailbox.post(rt, Notice::Continue);
         }
     }
 }

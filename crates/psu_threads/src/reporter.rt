@@ -4,6 +4,7 @@ use crate::registry::Registry;
 use crate::server::Server;
 use psu_bench::{LockedRegistry, Others};
 use psu_exec::{Grant, Session, Sessions};
+use psu_session_io::Notice;
 use std::sync::{MutexGuard, Wait};
 
 /// Reports to the other threads of the server what the calls of a thread have caused.
@@ -21,11 +22,19 @@ pub struct HeldRegistry<'a, 'r, R: Wait> {
 }
 
 impl<'a, 'r, R: Wait> Reporter<'a, 'r, R> {
+    // Posts a notice to sessions.
+    fn post(&self, sessions: &Sessions, notice: Notice) {
+        self.server
+            .registry
+            .lock(self.rt)
+            .post(self.rt, sessions, notice);
+    }
+
     /// Wakes a session: what its next unit waits for may have come.
     pub fn wake(&self, session: Session) {
         let mut sessions = Sessions::new();
         sessions.push(session);
-        self.server.registry.lock(self.rt).wake(self.rt, &sessions);
+        self.post(&sessions, Notice::Continue);
     }
 }
 
@@ -42,10 +51,7 @@ impl<'a, 'r, R: Wait> Others for Reporter<'a, 'r, R> {
     }
 
     fn service_requested(&mut self, sessions: &Sessions) {
-        self.server
-            .registry
-            .lock(self.rt)
-            .request_service(self.rt, sessions);
+        self.post(sessions, Notice::Service);
     }
 
     fn wake_flusher(&mut self) {
@@ -54,7 +60,7 @@ impl<'a, 'r, R: Wait> Others for Reporter<'a, 'r, R> {
 
     fn job_ended(&mut self, over: &Sessions) {
         let registry = self.server.registry.lock(self.rt);
-        registry.wake(self.rt, over);
+        registry.post(self.rt, over, Notice::Continue);
         registry.wake_late(self.rt);
     }
 }
@@ -63,9 +69,13 @@ impl<'a, 'r, R: Wait> LockedRegistry for HeldRegistry<'a, 'r, R> {
     ghost passes = { λ _ _ _. Unit {0} };
 
     fn pass_on(&mut self, sessions: &Sessions, grant: Grant) {
-        self.registry.grant(self.rt, sessions, grant);
-        if grant == Grant::Granted {
-            self.registry.wake_all(self.rt);
+        match grant {
+            Grant::Granted => {
+                self.registry.post(self.rt, sessions, Notice::Granted);
+                self.registry.wake_all(self.rt);
+            }
+            Grant::Failed => self.registry.post(self.rt, sessions, Notice::Failed),
+            Grant::Queued => {}
         }
     }
 }

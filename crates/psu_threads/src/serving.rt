@@ -60,8 +60,12 @@ impl<'s, 'v, S: Continue, D: StepDevice> Serving<'s, 'v, S, D> {
     ) -> Result<Remainder<S>, Closing> {
         let mut bytes = read;
         for _ in rt.forever() {
-            let now = self.server.now(rt);
             let mut session = self.served.session.lock(rt, token);
+            let now = if session.needs_time(S::SIDE) {
+                self.server.now(rt)
+            } else {
+                0
+            };
             match session.receive(now, bytes, &mut self.device)? {
                 Received::All(pending) => return S::proceed(
                     &mut session,

@@ -1,8 +1,7 @@
 //! What each thread of a session runs, until the session is over.
 ghost use Rattle.std.specs.Prelude.{◌≡◌, IfOk, length};
 
-use crate::executing::{SyncReader, Worker};
-use crate::responding::{AsyncReader, Notifier};
+use crate::executing::{AsyncReader, SyncReader, Worker};
 use crate::server::Server;
 use crate::serving::Serving;
 use crate::shared_device::SharedDevice;
@@ -77,7 +76,7 @@ impl<'s, 'v, 'b, 'r, R: Wait + Clock, D: ServedDisk> SessionThread<'s, 'v, 'b, '
                 run(rt, &mut reader);
             }
             Role::Work(link) => {
-                let serving = self.on(Connection::new(link, Vec::new(alloc)));
+                let serving = self.on::<Synchronous>(Connection::new(link, Vec::new(alloc)));
                 run(rt, &mut Worker { serving });
             }
             Role::Listen(connection) => {
@@ -86,8 +85,8 @@ impl<'s, 'v, 'b, 'r, R: Wait + Clock, D: ServedDisk> SessionThread<'s, 'v, 'b, '
                 run(rt, &mut AsyncReader { serving, space });
             }
             Role::Notify(link) => {
-                let serving = self.on(Connection::new(link, Vec::new(alloc)));
-                run(rt, &mut Notifier { serving });
+                let serving = self.on::<Asynchronous>(Connection::new(link, Vec::new(alloc)));
+                run(rt, &mut Worker { serving });
             }
         }
         Ok(())

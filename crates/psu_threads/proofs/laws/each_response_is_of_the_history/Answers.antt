@@ -1,5 +1,4 @@
-use Rattle.psu_threads.proofs.Histories.{each_response}
-use Rattle.psu_threads.proofs.Replying.{one_response}
+use Rattle.psu_threads.proofs.Responses.{each_response, one_response}
 use Rattle.psu_threads.proofs.laws.each_response_is_of_the_history.Goals as goal
 
 pub returns-clause-each : goal.returns-clause-each

@@ -1,25 +1,27 @@
 -- Only the place of the session's number changes.
-use Rattle.std.proofs.Common.{arith, ◌≡◌, ℕ, ◌+◌, ◌-◌, Option, Some, slice_set, sym, ap, ◌∙◌, subst}
+use Rattle.std.proofs.Common.{arith, ◌≡◌, ◌⊎◌, ℕ, zero, suc, List, [], ◌∷◌, Option, Some, slice_set, refl, ap, inl, inr, subst}
 use Rattle.std.specs.Prelude.{IfSome}
-use mathlib.Core.Logic.{dite}
-use native.Mathlib.Decide.{ℕ_discrete}
 use Rattle.std.specs.Arc.{arc_value}
 use Rattle.std.specs.List.{slice_get}
 use Rattle.std.specs.declared.sync.Arc.{Arc}
 use Rattle.std.specs.declared.alloc.Global.{Global}
 use Rattle.psu_session_io.specs.declared.served.ServedSession.{ServedSession}
-use Rattle.psu_threads.proofs.Places.{other_place, same_place}
 use Rattle.psu_threads.proofs.registry.Registry.set.Goals as goal
+
+-- a place has the new element if it is the one that was set, or else what it had
+place_set : {A : Type 0} (xs : List A) (i j : ℕ) (new found : A) → slice_get (slice_set xs i new) j ≡ Some found → ((j ≡ i) × (new ≡ found)) ⊎ (slice_get xs j ≡ Some found)
+place_set [] i j new found e = inr e
+place_set (x ∷ xs) zero zero new found e = inl (refl, cc (e))
+place_set (x ∷ xs) zero (suc j) new found e = inr e
+place_set (x ∷ xs) (suc i) zero new found e = inr e
+place_set (x ∷ xs) (suc i) (suc j) new found e = elim (place_set xs i j new found e) [ inl set ↦ inl (ap suc set.0, set.1) | inr old ↦ inr old ]
 
 pub invariant_of-self : goal.invariant_of-self
 invariant_of-self c = (
-  λ place session is.
-      let written : ℕ = c.from-place.result - 1 in
-      dite (ℕ_discrete place written)
-      (λ same. let number : c.args.number ≡ written + 1 = grind (arith, c.from-place.ensures, c.number.ensures) in
-      let set = same_place c.args.self.now.sessions written c.args.session (Some session) (subst (λ k. slice_get (slice_set c.args.self.now.sessions written c.args.session) k ≡ Some (Some session)) same is) in
-      subst (λ (o : Option (Arc ServedSession Global)). IfSome o (λ s. (arc_value s).number ≡ c.args.number)) (sym set) c.requires
-      ∙ number ∙ ap (λ n. n + 1) (sym same))
-      (λ apart. c.args.self.now.own place session (other_place c.args.self.now.sessions written place c.args.session (Some session) apart is)),
+  λ place session is. elim (place_set c.args.self.now.sessions c.place.result place c.args.session (Some session) is) [
+    | inl set ↦ let number : (arc_value session).number ≡ c.args.number = subst (λ (o : Option (Arc ServedSession Global)). IfSome o (λ s. (arc_value s).number ≡ c.args.number)) set.1 c.requires in
+        let at = set.0 in omega (arith, c.type_inv.number)
+    | inr old ↦ c.args.self.now.own place session old
+  ],
   tt,
 )
