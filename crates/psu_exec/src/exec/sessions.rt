@@ -3,8 +3,6 @@ ghost use Rattle.std.specs.Prelude.{◌≡◌, Some, None, IfOk, OnErr, true};
 ghost use Rattle.psu_exec.specs.Device.{is_open, service_state_of, with_device};
 ghost use Rattle.psu_exec.specs.Calls.{Allows, has_work, unparked, with_answer, with_service_state, with_session};
 ghost use Rattle.psu_exec.specs.Calls.Entry.{Opened, Closed, Cleared, Sent, Delivered, Queried, Fetched, Notified};
-ghost use Rattle.psu_exec.specs.ServiceStates.{rqs_updated, opened_service_state, with_available};
-ghost use Rattle.psu_status.specs.Status.{enabled};
 
 use crate::service_states::{initial_service_state, rqs_updated, take_unreported};
 use crate::waits::least_free;
@@ -23,7 +21,8 @@ impl<S: Idle, A: Allocator + Copy> ExecOf<S, A> {
         match least_free(&self.open_now) {
             None => Err(Crowded),
             Some(session) => {
-                let service_state = self.opened_service_state();
+                let enabled = self.instrument.enabled(false);
+                let service_state = rqs_updated(0, enabled, initial_service_state());
                 self.set_session(session, true, service_state);
                 Ok(session)
             }
@@ -56,13 +55,6 @@ impl<S: Idle, A: Allocator + Copy> ExecOf<S, A> {
         if self.is_open(session) {
             self.unpark(session);
         }
-    }
-
-    // The service state of a session that opens.
-    fn opened_service_state(&self) -> ServiceState
-        ensures { result ≡ opened_service_state self.now.device.volatile.instrument.status }
-    {
-        rqs_updated(0, self.instrument.enabled(false), initial_service_state())
     }
 
     // Sets whether a session is open and its service state, and drops its wait.
@@ -111,25 +103,14 @@ impl<S: Idle, A: Allocator + Copy> ExecOf<S, A> {
     fn set_available(&mut self, session: Session, available: bool)
         ensures { self.new ≡ with_device self.old (with_answer self.old.device session available) }
     {
-        let service_state = self.changed(self.service_state(session), available);
-        self.set_service_state(session, service_state);
-    }
-
-    // The service state of a session, with MAV set to whether a response was sent to it that it has not read.
-    fn changed(&self, service_state: ServiceState, available: bool) -> ServiceState
-        ensures { result ≡ rqs_updated (enabled self.now.device.volatile.instrument.status service_state.available)
-            (enabled self.now.device.volatile.instrument.status available) (with_available service_state available) }
-    {
+        let service_state = self.service_state(session);
         let old = self.instrument.enabled(service_state.available);
         let new = self.instrument.enabled(available);
-        rqs_updated(
-            old,
-            new,
-            ServiceState {
-                available,
-                ..service_state
-            },
-        )
+        let marked = ServiceState {
+            available,
+            ..service_state
+        };
+        self.set_service_state(session, rqs_updated(old, new, marked));
     }
 
     // The service state of a session.
