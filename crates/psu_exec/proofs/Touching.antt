@@ -1,8 +1,7 @@
 -- A part that has not changed needs no edit, and a change leaves each part but its own.
-use Rattle.std.proofs.Common.{◌≡◌, ◌≢◌, ◌⊎◌, ◌&&◌, ◌||◌, is_some, ℕ, zero, suc, ◌+◌, ◌-◌, ◌<◌, ◌≤◌, arith, Bool, true, false, cond, Option, Some, None, List, [], ◌∷◌, ◌++◌, length, map, take, drop, get_or, refl, sym, ap, ◌∙◌, subst, inl, inr, append-nil, slice_index_or, slice_set, replicate}
-use Rattle.std.proofs.lemmas.List.{get_or-drop, get_or-set_other, get_or-take, length-drop, length-take}
-use Rattle.std.proofs.lemmas.List.Folds.{list_any_at}
-use Rattle.std.specs.List.{flat_map, list_any, AllByRecursion}
+use Rattle.std.proofs.Common.{◌≡◌, ◌≢◌, ◌⊎◌, ◌&&◌, ◌||◌, is_some, ℕ, zero, suc, ◌<◌, Bool, true, false, cond, Option, Some, None, List, [], ◌∷◌, ◌++◌, length, map, refl, sym, ap, ◌∙◌, subst, inl, inr, append-nil, slice_index_or, slice_set, replicate}
+use Rattle.std.proofs.lemmas.List.{get_or-set_other}
+use Rattle.std.specs.List.{flat_map, AllByRecursion}
 use Rattle.psu_map.specs.Map.{Item, item_of, get, IsSorted}
 use Rattle.psu_map.specs.Batch.{Edit}
 use Rattle.psu_map.proofs.Keys.{same_true}
@@ -19,10 +18,9 @@ use Rattle.psu_nv.specs.Decoding.{has_keys, is_key}
 use Rattle.psu_nv.proofs.Gets.{part_found, value_file, value_register}
 use Rattle.psu_nv.proofs.Kept.{IsPart, PartAt, part_at}
 use Rattle.psu_exec.specs.Batch.{assignment, is_value, removal}
-use Rattle.psu_exec.specs.Changed.{IsUnchanged, KeepsOthers, is_changed, with_change, with_register}
+use Rattle.psu_exec.specs.Changed.{IsUnchanged, KeepsOthers, is_changed, with_change, with_register, Parts}
 use Rattle.psu_exec.specs.Consistent.{IsConsistent}
 use Rattle.psu_exec.specs.Device.{Flush, Target, is_broken, map_held, target}
-use Rattle.psu_exec.specs.declared.changed_parts.ChangedParts.{ChangedParts}
 use Rattle.psu_exec.specs.declared.idle_store.Condition.TheVariants.{Whole}
 
 -- ---- what has not changed
@@ -69,7 +67,7 @@ alone c kept.Recall = at c.recall
     at false = inl refl
     at true = inr (1 ∷ [], refl)
 
-pub unchanged_part : (p : ChangedParts) (before : List Item) (c : Contents) (part : Part) → KeepsOthers p before (items_of c) → is_changed p part ≡ false → flat_map (assignment before) (part_items c part) ≡ []
+pub unchanged_part : (p : Parts) (before : List Item) (c : Contents) (part : Part) → KeepsOthers p before (items_of c) → is_changed p part ≡ false → flat_map (assignment before) (part_items c part) ≡ []
 unchanged_part p before c part keeps same = at (alone c part)
   where
     at : IsAlone part (part_items c part) → flat_map (assignment before) (part_items c part) ≡ []
@@ -78,11 +76,11 @@ unchanged_part p before c part keeps same = at (alone c part)
         ap (flat_map (assignment before)) one ∙ append-nil (assignment before (item_of (key_of part) value))
         ∙ there before (key_of part) value (keeps part same ∙ part_found c part ∙ ap value_in one)
 
-pub unchanged_register : (p : ChangedParts) (before : List Item) (c : Contents) (number : ℕ) → KeepsOthers p before (items_of c) → is_changed p (kept.Register number) ≡ false
+pub unchanged_register : (p : Parts) (before : List Item) (c : Contents) (number : ℕ) → KeepsOthers p before (items_of c) → is_changed p (kept.Register number) ≡ false
     → flat_map (assignment before) (register_items number (settings_at c.registers number)) ≡ []
 unchanged_register p before c number keeps same = unchanged_part p before c (kept.Register number) keeps same
 
-pub unchanged_files : (p : ChangedParts) (before : List Item) (c : Contents) → KeepsOthers p before (items_of c) → p.files ≡ false → IsSorted c.files → flat_map (assignment before) (map file_item c.files) ≡ []
+pub unchanged_files : (p : Parts) (before : List Item) (c : Contents) → KeepsOthers p before (items_of c) → p.files ≡ false → IsSorted c.files → flat_map (assignment before) (map file_item c.files) ≡ []
 unchanged_files p before c keeps none sorted = each c.files (all_own c.files sorted)
   where
     each : (files : List Item) → AllByRecursion (λ (i : Item). get c.files i.key ≡ Some i.value) files → flat_map (assignment before) (map file_item files) ≡ []
@@ -93,7 +91,7 @@ unchanged_files p before c keeps none sorted = each c.files (all_own c.files sor
         ∙ each files own.1
 
 -- an item stays if the part of its key has not changed
-pub stays_there : (p : ChangedParts) (before new : List Item) (n : ℕ) (i : Item) → KeepsOthers p before new → IsSorted before → n < length before → i ≡ slice_index_or before n i → IsUnchanged p i.key → is_some (get new i.key) ≡ true
+pub stays_there : (p : Parts) (before new : List Item) (n : ℕ) (i : Item) → KeepsOthers p before new → IsSorted before → n < length before → i ≡ slice_index_or before n i → IsUnchanged p i.key → is_some (get new i.key) ≡ true
 stays_there p before new n i keeps sorted within at part =
     let own : get before i.key ≡ Some i.value = subst (λ (j : Item). get before j.key ≡ Some j.value) (sym at) (all_at (λ (j : Item). get before j.key ≡ Some j.value) before n i within (all_own before sorted)) in
     let kept : get before i.key ≡ get new i.key = subst (λ (k : List ℕ). get before k ≡ get new k) (sym part.1) (keeps part.0 part.2) in
@@ -108,7 +106,7 @@ both true b e = (refl, e)
 both false b e = absurd cc
 
 -- where no part but registers may have changed, and each of these has an item, no item of a map of parts is gone
-pub none_gone : (p : ChangedParts) (before : List Item) (c : Contents) → has_keys before ≡ true → IsSorted before → KeepsOthers p before (items_of c)
+pub none_gone : (p : Parts) (before : List Item) (c : Contents) → has_keys before ≡ true → IsSorted before → KeepsOthers p before (items_of c)
     → (p.enables ≡ false) × (p.user ≡ false) × (p.macros ≡ false) × (p.files ≡ false) × (p.recall ≡ false)
     → ((n : ℕ) → n < 100 → is_changed p (kept.Register n) ≡ true → is_reset (settings_at c.registers n) ≡ false) → flat_map (removal (items_of c)) before ≡ []
 none_gone p before c keys sorted keeps others has = each before keys (all_own before sorted)
@@ -142,35 +140,16 @@ none_gone p before c keys sorted keeps others has = each before keys (all_own be
         let gone : List Edit = record { key = i.key; value = None } ∷ [] in
         ap (λ (b : Bool). cond b [] gone ++ flat_map (removal (items_of c)) items) (one i (part_at i.key k.0) own.0) ∙ each items k.1 own.1
 
--- where no mark is set from this one on, none of them is
-pub none_set : (p : Bool → Bool) (some : Bool) (marks : List Bool) (from number : ℕ) → p true ≡ true → length marks ≡ 100 → from ≤ number → number < 100 → list_any p (take (100 - from) (drop from marks)) ≡ false
-    → some && slice_index_or marks number true ≡ false
-none_set p some marks from number holds long low high none = and_false some (slice_index_or marks number true) (at (slice_index_or marks number true) refl)
-  where
-    rest : List Bool
-    rest = take (100 - from) (drop from marks)
-
-    here : get_or rest (number - from) true ≡ get_or marks number true
-    here = get_or-take (100 - from) (drop from marks) (number - from) true (omega (arith, low, high)) ∙ get_or-drop from marks (number - from) true
-        ∙ ap (λ (n : ℕ). get_or marks n true) (let same : from + (number - from) ≡ number = omega (arith, low) in same)
-
-    within : number - from < length rest
-    within = let t = length-take (100 - from) (drop from marks) in let d = length-drop from marks in omega (arith, long, low, high)
-
-    at : (b : Bool) → slice_index_or marks number true ≡ b → slice_index_or marks number true ≡ false
-    at false e = e
-    at true e = absurd (let bad : true ≡ false = sym (list_any_at p rest (number - from) true within (ap p (here ∙ e) ∙ holds)) ∙ none in cc)
-
 -- ---- the parts that a change leaves
 
 -- a part that isn't in the larger set was not in the smaller one, and is kept as it was
-abbrev LeavesOthers : ChangedParts → ChangedParts → Contents → Contents → Type 0
+abbrev LeavesOthers : Parts → Parts → Contents → Contents → Type 0
 LeavesOthers p q c d = (part : Part) → is_changed q part ≡ false → (is_changed p part ≡ false) × (value_in (part_items c part) ≡ value_in (part_items d part))
 
-keeps_then : (p q : ChangedParts) (old : List Item) (c d : Contents) → KeepsOthers p old (items_of c) → LeavesOthers p q c d → KeepsOthers q old (items_of d)
+keeps_then : (p q : Parts) (old : List Item) (c d : Contents) → KeepsOthers p old (items_of c) → LeavesOthers p q c d → KeepsOthers q old (items_of d)
 keeps_then p q old c d keeps leaves = λ part same. let e = leaves part same in keeps part e.0 ∙ part_found c part ∙ e.1 ∙ sym (part_found d part)
 
-module _ (p : ChangedParts) (c : Contents) where
+module _ (p : Parts) (c : Contents) where
   enables_alone : (enables : Option Enables) → LeavesOthers p (record p { enables = true }) c (record c { enables = enables })
   enables_alone enables kept.Enables same = cc
   enables_alone enables other same = (same, refl)
@@ -225,9 +204,9 @@ module _ (p : ChangedParts) (c : Contents) where
   leaves (Recall on) = recall_alone on
   leaves other = files_alone _
 
-pub change_keeps : (p q : ChangedParts) (old : List Item) (c d : Contents) (x : Command) → KeepsOthers p old (items_of c) → q ≡ with_change p x → d ≡ apply c x → KeepsOthers q old (items_of d)
+pub change_keeps : (p q : Parts) (old : List Item) (c d : Contents) (x : Command) → KeepsOthers p old (items_of c) → q ≡ with_change p x → d ≡ apply c x → KeepsOthers q old (items_of d)
 change_keeps p q old c d x keeps touched made =
-    subst (λ (r : ChangedParts). KeepsOthers r old (items_of d)) (sym touched) (subst (λ (e : Contents). KeepsOthers (with_change p x) old (items_of e)) (sym made) (keeps_then p (with_change p x) old c (apply c x) keeps (leaves p c x)))
+    subst (λ (r : Parts). KeepsOthers r old (items_of d)) (sym touched) (subst (λ (e : Contents). KeepsOthers (with_change p x) old (items_of e)) (sym made) (keeps_then p (with_change p x) old c (apply c x) keeps (leaves p c x)))
 
 -- ---- all parts, and maps that are the same
 
@@ -235,7 +214,7 @@ pub all_set : (n k : ℕ) → slice_index_or (replicate n true) k true ≡ true
 all_set (suc n) (suc k) = all_set n k
 all_set other another = refl
 
-pub all_are : (p : ChangedParts) → p.enables ≡ true → ((k : ℕ) → slice_index_or p.registers k true ≡ true) → p.some_register ≡ true → p.user ≡ true → p.macros ≡ true → p.files ≡ true → p.recall ≡ true
+pub all_are : (p : Parts) → p.enables ≡ true → ((k : ℕ) → slice_index_or p.registers k true ≡ true) → p.some_register ≡ true → p.user ≡ true → p.macros ≡ true → p.files ≡ true → p.recall ≡ true
     → (part : Part) → is_changed p part ≡ true
 all_are p enables registers some user macros files recall kept.Enables = enables
 all_are p enables registers some user macros files recall (kept.Register number) = ap (λ (b : Bool). b && slice_index_or p.registers number true) some ∙ registers number
@@ -244,13 +223,13 @@ all_are p enables registers some user macros files recall kept.Macros = macros
 all_are p enables registers some user macros files recall (kept.File name) = files
 all_are p enables registers some user macros files recall kept.Recall = recall
 
-pub keeps_all : (p : ChangedParts) (old new : List Item) → ((part : Part) → is_changed p part ≡ true) → KeepsOthers p old new
+pub keeps_all : (p : Parts) (old new : List Item) → ((part : Part) → is_changed p part ≡ true) → KeepsOthers p old new
 keeps_all p old new all = λ part same. let bad = sym (all part) ∙ same in cc
 
-pub keeps_same : (p : ChangedParts) (old new : List Item) → old ≡ new → KeepsOthers p old new
+pub keeps_same : (p : Parts) (old new : List Item) → old ≡ new → KeepsOthers p old new
 keeps_same p old new e = λ part same. ap (λ (m : List Item). get m (key_of part)) e
 
-pub keeps_from : (p : ChangedParts) (old other new : List Item) → old ≡ other → KeepsOthers p old new → KeepsOthers p other new
+pub keeps_from : (p : Parts) (old other new : List Item) → old ≡ other → KeepsOthers p old new → KeepsOthers p other new
 keeps_from p old other new e keeps = subst (λ (m : List Item). KeepsOthers p m new) e keeps
 
 -- while no job is out, the target of a whole store is its map

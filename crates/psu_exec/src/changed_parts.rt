@@ -1,18 +1,30 @@
 //! The parts of the nonvolatile contents that may have changed.
 use psu_nv::{NvCommand, Part, REGISTERS, Register};
+use std::marker::Model;
 
 /// The set of parts of the nonvolatile contents that may differ from the map that the store holds, or from the target
-/// of its job. Each register is a part; all files together are one.
-#[derive(Clone, Copy)]
+/// of its job. Each register is a part; all files together are one. Contracts see a `Parts`.
+#[derive(Drop)]
 pub struct ChangedParts {
     enables: bool,
     registers: [bool; REGISTERS],
-    // Whether a register is in the set.
-    some_register: bool,
+    // No register from this number on is in the set; 0 if no register is.
+    registers_end: usize,
     user: bool,
     macros: bool,
     files: bool,
     recall: bool,
+}
+
+impl Model for ChangedParts {
+    ghost use Rattle.std.specs.Prelude.{◌≡◌, ◌<◌, ◌≤◌, ℕ, false, nat_lt, slice_index_or, true};
+    ghost use Rattle.psu_exec.specs.Changed.{Parts};
+
+    ghost Value = { Parts };
+
+    ghost view = { λ p. record { enables = p.enables; registers = p.registers; some_register = nat_lt 0 p.registers_end; user = p.user; macros = p.macros; files = p.files; recall = p.recall } };
+
+    ghost invariant = { λ p. (p.registers_end ≤ 100) × ((k : ℕ) → p.registers_end ≤ k → k < 100 → slice_index_or p.registers k true ≡ false) };
 }
 
 impl ChangedParts {
@@ -28,7 +40,7 @@ impl ChangedParts {
         ChangedParts {
             enables: false,
             registers: [false; REGISTERS],
-            some_register: false,
+            registers_end: 0,
             user: false,
             macros: false,
             files: false,
@@ -43,7 +55,7 @@ impl ChangedParts {
         ChangedParts {
             enables: true,
             registers: [true; REGISTERS],
-            some_register: true,
+            registers_end: REGISTERS,
             user: true,
             macros: true,
             files: true,
@@ -58,7 +70,7 @@ impl ChangedParts {
         match part {
             Part::Enables => self.enables,
             Part::Register(register) => {
-                self.some_register && self.registers[register.number() as usize]
+                self.registers_end > 0 && self.registers[usize::from(register.number())]
             }
             Part::User => self.user,
             Part::Macros => self.macros,
@@ -78,15 +90,6 @@ impl ChangedParts {
         }
     }
 
-    /// Whether the register of a number is in the set.
-    #[inline]
-    pub fn has_register(&self, number: u8) -> bool
-        ensures { result ≡ is_changed self.now (KeptRegister number) }
-    {
-        self.some_register
-            && (usize::from(number) >= REGISTERS || self.registers[usize::from(number)])
-    }
-
     /// The number of the first register in the set from this one on; 100 if there is none.
     #[inline]
     pub fn next_register(&self, from: usize) -> usize
@@ -94,14 +97,7 @@ impl ChangedParts {
         ensures first { from ≤ 100 → from ≤ result }
         ensures none { (number : ℕ) → from ≤ number → number < result → is_changed self.now (KeptRegister number) ≡ false }
     {
-        if !self.some_register || from >= REGISTERS {
-            return REGISTERS;
-        }
-        // All at once: mostly there is none.
-        if !self.registers[from..].contains(&true) {
-            return REGISTERS;
-        }
-        for number in from..REGISTERS {
+        for number in from..self.registers_end {
             if self.registers[number] {
                 return number;
             }
@@ -154,7 +150,8 @@ impl ChangedParts {
     fn add_register(&mut self, register: Register)
         ensures { self.new ≡ with_register self.old register.number }
     {
-        self.registers[register.number() as usize] = true;
-        self.some_register = true;
+        let number = usize::from(register.number());
+        self.registers[number] = true;
+        self.registers_end = self.registers_end.max(number + 1);
     }
 }

@@ -47,15 +47,13 @@ impl<D: Disk, A: Allocator + Copy> Exec<D, A> {
                 if self.unflushed == 0 {
                     return Err(NoJob::Nothing);
                 }
-                match self.committing() {
-                    Err(AllocError) => return Err(NoJob::Memory),
-                    Ok(planned) => return Ok(Job::Commit(planned)),
-                }
+                self.committing()
             }
         }
     }
 
     // Takes the broken store, to reopen it.
+    #[inline(never)]
     fn reopening(&mut self) -> Reopening<D, A>
         requires broken { self.old.device.flush.store ≡ Condition.Broken }
         requires idle_store { self.old.device.flush.out ≡ false }
@@ -76,22 +74,30 @@ impl<D: Disk, A: Allocator + Copy> Exec<D, A> {
     }
 
     // Takes the whole store, to commit the contents to it. Files are compared in place, and copied if they have changed.
-    fn committing(&mut self) -> Result<Planned<D, A>, AllocError>
+    #[inline(never)]
+    fn committing(&mut self) -> Result<Job<D, A>, NoJob>
         requires whole { self.old.device.flush.store ≡ Condition.Whole }
         requires idle_store { self.old.device.flush.out ≡ false }
         ensures is { OnOk result (self.new.device ≡ record self.old.device { flush = job_out self.old.device.flush }) }
         ensures away { OnOk result (self.new.idle_store ≡ None) }
-        ensures job { IfOk result (λ planned. self.old.idle_store ≡ Some (job_store (when.Commit planned))) }
-        ensures data { IfOk result (λ planned. job_data (when.Commit planned) ≡ job_of (job_out self.old.device.flush)) }
-        ensures err { OnErr result (self.new ≡ self.old) }
+        ensures job { IfOk result (λ job. self.old.idle_store ≡ Some (job_store job)) }
+        ensures data { IfOk result (λ job. job_data job ≡ job_of (job_out self.old.device.flush)) }
+        ensures memory { IfErr result (λ cause. cause ≡ NoJob.Memory) }
+        ensures same { OnErr result (self.new ≡ self.old) }
     {
-        let edits = difference(self.alloc, &self.map, &self.contents, &self.touched)?;
-        let planned = edits.copy(self.alloc)?;
-        self.map.set(planned)?;
+        let Ok(edits) = difference(self.alloc, &self.map, &self.contents, &self.touched) else {
+            return Err(NoJob::Memory);
+        };
+        let Ok(planned) = edits.copy(self.alloc) else {
+            return Err(NoJob::Memory);
+        };
+        let Ok(()) = self.map.set(planned) else {
+            return Err(NoJob::Memory);
+        };
         self.touched = ChangedParts::none();
         self.held = Some(self.unflushed);
         match self.idle_store.take() {
-            Some(IdleStore::Whole(store)) => Ok(planned_of(self.alloc, store, edits)),
+            Some(IdleStore::Whole(store)) => Ok(Job::Commit(planned_of(self.alloc, store, edits))),
             Some(IdleStore::Failed(_)) => unreachable!(),
             None => unreachable!(),
         }

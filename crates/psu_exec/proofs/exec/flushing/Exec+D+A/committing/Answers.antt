@@ -23,13 +23,13 @@ difference-requires g c =
     record { contents = kept_sound _ k; keys = keys; others = keeps_from _ _ _ _ (when_idle _ k idle_store whole) c.self.invariant.2 }
 
 pub invariant_of-self : goal.invariant_of-self
-invariant_of-self g c = rw c.in_err-set.ensures.err c.self.invariant
+invariant_of-self g c = rw c.in_default-set.ensures.err c.self.invariant
 
 pub planned_of-requires : goal.planned_of-requires
 planned_of-requires g c =
     let contents = c.self.inside.contents in
     let own = c.self.invariant.3 (Whole c.in-Some-Whole.store) (sym c.take.ensures.value ∙ (c.in-Some-Whole.is ∙ ap Some c.in-Some-Whole.field-0-is)) in
-    let leads = ap (λ (items : List Item). changed items c.in_ok-edits.edits) own.0 ∙ c.in_ok-edits.ensures.leads in
+    let leads = ap (λ (items : List Item). changed items c.in-Ok.edits) own.0 ∙ c.in-Ok.ensures.leads in
     (contents, kept_sound _ c.self.invariant.1, ap (λ (limit : ℕ). fits limit contents) own.1 ∙ c.self.invariant.1.fitting, leads)
 
 pub unreachable-requires : goal.unreachable-requires
@@ -45,7 +45,7 @@ returns-clause-data g c =
     let own = c.self.invariant.3 (Whole c.in-Some-Whole.store) (sym c.take.ensures.value ∙ (c.in-Some-Whole.is ∙ ap Some c.in-Some-Whole.field-0-is)) in
     let limit = ap (λ store. store.limit) c.planned_of.ensures.store ∙ own.1 in
     let before = ap (λ store. store.items) c.planned_of.ensures.store ∙ own.0 in
-    let leads = ap (λ (items : List Item). changed items planned.batch) before ∙ ap (changed plan.map) c.planned_of.ensures.batch ∙ c.in_ok-edits.ensures.leads in
+    let leads = ap (λ (items : List Item). changed items planned.batch) before ∙ ap (changed plan.map) c.planned_of.ensures.batch ∙ c.in-Ok.ensures.leads in
     let whole = ap (λ (s : State). is_whole s.flush.store) (device_is c.self.view_is) ∙ ap is_whole c.requires.whole in
     so_seen (λ (s : State). (let job : JobData = record { kind = Commit; limit = planned.store.limit; before = planned.store.items; target = changed planned.store.items planned.batch; edits = planned.batch } in job) ≡ job_of (job_out s.flush)) c.self.view_is
-    (commit_is f _ _ _ _ whole limit before leads (c.planned_of.ensures.batch ∙ c.in_ok-edits.ensures.exact))
+    (commit_is f _ _ _ _ whole limit before leads (c.planned_of.ensures.batch ∙ c.in-Ok.ensures.exact))
