@@ -4,7 +4,7 @@ use std::rt::Clock;
 use std::sync::{Condvar, Mutex, Wait};
 use std::time::Duration;
 
-// What the flusher has been told, and whether it is to be woken.
+// Whether the flusher is notified, and whether it sleeps.
 #[derive(Clone, Copy, Debug, PartialEq, Eq)]
 enum SignalState {
     // It is not notified, and awake.

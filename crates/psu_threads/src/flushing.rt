@@ -57,11 +57,10 @@ impl<'a, 'b, D: ServedDisk> Flusher<'a, 'b, D> {
         ensures caller { self.new.caller ≡ self.old.caller }
         ensures reopenings { self.new.reopenings ≡ self.old.reopenings }
     {
-        if condition == self.condition {
-            return;
+        if condition != self.condition {
+            self.condition = condition;
+            self.server.operator.note(rt, condition);
         }
-        self.condition = condition;
-        self.server.operator.note(rt, condition);
     }
 
     // Notes what the end of a job, at this time, shows of the store.

@@ -31,7 +31,8 @@ impl Registry {
     pub fn set(&mut self, number: Session, session: Option<Arc<ServedSession>>)
         requires { IfSome session (λ session. (arc_value session).number ≡ number) }
     {
-        self.sessions[number.place()] = session;
+        let place = usize::from(number.number()) - 1;
+        self.sessions[place] = session;
     }
 
     /// Returns the session of a number.

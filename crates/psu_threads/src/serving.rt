@@ -61,6 +61,7 @@ impl<'s, 'v, S: Continue, D: StepDevice> Serving<'s, 'v, S, D> {
         let mut bytes = read;
         for _ in rt.forever() {
             let mut session = self.served.session.lock(rt, token);
+            // To read the clock costs more than to receive a small message.
             let now = if session.needs_time(S::SIDE) {
                 self.server.now(rt)
             } else {

@@ -108,6 +108,5 @@ pub fn serve_session<R: Wait + Clock, D: ServedDisk>(
         session: served.number,
         caller: Caller::new(&bench, seat, gate),
     };
-    let thread = SessionThread { served, device };
-    thread.run_as(role)
+    SessionThread { served, device }.run_as(role)
 }

@@ -1,5 +1,5 @@
 -- Only the place of the session's number changes.
-use Rattle.std.proofs.Common.{arith, ◌≡◌, ◌⊎◌, ℕ, zero, suc, List, [], ◌∷◌, Option, Some, slice_set, refl, ap, inl, inr, subst}
+use Rattle.std.proofs.Common.{arith, ◌≡◌, ◌⊎◌, ℕ, ◌+◌, ◌-◌, zero, suc, List, [], ◌∷◌, Option, Some, slice_set, refl, sym, ap, ◌∙◌, inl, inr, subst}
 use Rattle.std.specs.Prelude.{IfSome}
 use Rattle.std.specs.Arc.{arc_value}
 use Rattle.std.specs.List.{slice_get}
@@ -17,11 +17,11 @@ place_set (x ∷ xs) (suc i) zero new found e = inr e
 place_set (x ∷ xs) (suc i) (suc j) new found e = elim (place_set xs i j new found e) [ inl set ↦ inl (ap suc set.0, set.1) | inr old ↦ inr old ]
 
 pub invariant_of-self : goal.invariant_of-self
-invariant_of-self c = (
-  λ place session is. elim (place_set c.args.self.now.sessions c.place.result place c.args.session (Some session) is) [
-    | inl set ↦ let number : (arc_value session).number ≡ c.args.number = subst (λ (o : Option (Arc ServedSession Global)). IfSome o (λ s. (arc_value s).number ≡ c.args.number)) set.1 c.requires in
-        let at = set.0 in omega (arith, c.type_inv.number)
-    | inr old ↦ c.args.self.now.own place session old
-  ],
-  tt,
-)
+invariant_of-self c =
+    let written : c.args.number ≡ c.from-place.result - 1 + 1 = grind (arith, c.from-place.ensures, c.number.ensures) in (
+      λ place session is. elim (place_set c.args.self.now.sessions (c.from-place.result - 1) place c.args.session (Some session) is) [
+        | inl set ↦ subst (λ (o : Option (Arc ServedSession Global)). IfSome o (λ s. (arc_value s).number ≡ c.args.number)) set.1 c.requires ∙ written ∙ ap (λ n. n + 1) (sym set.0)
+        | inr old ↦ c.args.self.now.own place session old
+      ],
+      tt,
+    )
