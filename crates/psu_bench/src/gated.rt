@@ -19,6 +19,14 @@ impl<D: Disk, G: Gate + Drop> Gated<D, G> {
     {
         Gated { inner, gate }
     }
+
+    /// The disk below it.
+    pub fn into_inner(self) -> D
+        ensures { result ≡ self.inner }
+    {
+        let Gated { inner, gate: _ } = self;
+        inner
+    }
 }
 
 impl<D: Disk, G: Gate> Disk for Gated<D, G> {
