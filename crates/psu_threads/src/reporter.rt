@@ -24,10 +24,8 @@ pub struct HeldRegistry<'a, 'r, R: Wait> {
 impl<'a, 'r, R: Wait> Reporter<'a, 'r, R> {
     // Posts a notice to sessions.
     fn post(&self, sessions: &Sessions, notice: Notice) {
-        self.server
-            .registry
-            .lock(self.rt)
-            .post(self.rt, sessions, notice);
+        let registry = self.server.registry.lock(self.rt);
+        registry.post(self.rt, sessions, notice);
     }
 
     /// Wakes a session: what its next unit waits for may have come.
