@@ -1,5 +1,5 @@
--- The flush part, the open sessions and the locks after the end of a job.
-use Rattle.std.proofs.Common.{◌≡◌, ◌⊎◌, inl, inr, ap}
+-- The flush part and the open sessions after the end of a job.
+use Rattle.std.proofs.Common.{◌≡◌, ◌⊎◌, inl, inr, ap, refl}
 use Rattle.std.specs.Prelude.{◌≢◌}
 use Rattle.psu_items.specs.declared.commit.UnstartedCause.TheVariants as unstarted
 use Rattle.psu_exec.specs.Device.{Flush, State, target}
@@ -22,18 +22,8 @@ flush_gives s new (Reopened limit map) (inr none) = inr (none.0, ap (λ (t : Sta
 
 -- the same sessions are open
 pub open_after : (s new : State) (finished : JobEnd) → GivesBack s finished new → new.volatile.open_now ≡ s.volatile.open_now
-open_after s new (Stored limit map) is = ap (λ (t : State). t.volatile.open_now) is
-open_after s new (Unstarted limit before edits unstarted.Memory) is = ap (λ (t : State). t.volatile.open_now) is
-open_after s new (Unstarted limit before edits unstarted.Worn) is = ap (λ (t : State). t.volatile.open_now) is
-open_after s new (Failed limit before edits cause) is = ap (λ (t : State). t.volatile.open_now) is
-open_after s new (Reopened limit map) (inl all) = ap (λ (t : State). t.volatile.open_now) all.1
-open_after s new (Reopened limit map) (inr none) = ap (λ (t : State). t.volatile.open_now) none.1
-
--- and the locks are the same
-pub locks_after : (s new : State) (finished : JobEnd) → GivesBack s finished new → new.volatile.locks ≡ s.volatile.locks
-locks_after s new (Stored limit map) is = ap (λ (t : State). t.volatile.locks) is
-locks_after s new (Unstarted limit before edits unstarted.Memory) is = ap (λ (t : State). t.volatile.locks) is
-locks_after s new (Unstarted limit before edits unstarted.Worn) is = ap (λ (t : State). t.volatile.locks) is
-locks_after s new (Failed limit before edits cause) is = ap (λ (t : State). t.volatile.locks) is
-locks_after s new (Reopened limit map) (inl all) = ap (λ (t : State). t.volatile.locks) all.1
-locks_after s new (Reopened limit map) (inr none) = ap (λ (t : State). t.volatile.locks) none.1
+open_after s new (Unstarted limit before edits unstarted.Memory) is = rw is refl
+open_after s new (Unstarted limit before edits unstarted.Worn) is = rw is refl
+open_after s new (Reopened limit map) (inl all) = rw all.1 refl
+open_after s new (Reopened limit map) (inr none) = rw none.1 refl
+open_after s new finished is = rw is refl

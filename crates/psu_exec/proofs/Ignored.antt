@@ -1,6 +1,6 @@
 -- Calls for sessions that aren't open: the history and the disk are unchanged after one, and a call is none if its session
 -- is open, or if it is for no session.
-use Rattle.std.proofs.Common.{◌≡◌, inl, inr, ℕ, true, List, Option, Some, None, refl, sym, ◌∙◌}
+use Rattle.std.proofs.Common.{◌≡◌, inl, inr, ℕ, true, List, Option, Some, refl, sym, ◌∙◌}
 use Rattle.psu_disk.specs.Disk.{DiskState}
 use Rattle.psu_tree.specs.declared.command.Request.{Request}
 use Rattle.psu_exec.specs.Device.{Reply, State, is_open}
@@ -10,41 +10,13 @@ use Rattle.psu_exec.specs.World.{DiskAfter, PastUnit, World, recorded}
 pub ignored_recorded : (s : State) (c : Entry) (us : List PastUnit) → IsIgnored s c → recorded s c us ≡ us
 ignored_recorded s (Entry.Executed session request reply) us none = rw none.1 refl
 ignored_recorded s (Entry.Settled session reply) us none = rw none.1 refl
-ignored_recorded s (Entry.Took taken) us none = refl
-ignored_recorded s (Entry.GaveBack finished over) us none = refl
-ignored_recorded s (Entry.Opened session) us none = refl
 ignored_recorded s (Entry.Closed session granted) us none = rw none.0 refl
 ignored_recorded s (Entry.Cleared session) us none = rw none refl
-ignored_recorded s (Entry.Sent session sessions work) us none = refl
-ignored_recorded s (Entry.Delivered session) us none = refl
-ignored_recorded s (Entry.Queried session byte) us none = refl
-ignored_recorded s (Entry.Fetched session byte) us none = refl
-ignored_recorded s (Entry.Notified sessions work) us none = refl
-ignored_recorded s (Entry.Locked session kind now timeout result) us none = refl
-ignored_recorded s (Entry.Released session result) us none = refl
-ignored_recorded s (Entry.Ticked now failed) us none = refl
-ignored_recorded s (Entry.Informed info) us none = refl
-ignored_recorded s (Entry.Due deadline) us none = refl
+ignored_recorded s _ us none = refl
 
 pub ignored_disk : (w : World) (c : Entry) (d : DiskState) → IsIgnored w.state c → DiskAfter w c d → d ≡ w.disk
-ignored_disk w (Entry.Executed session request reply) d none e = e
-ignored_disk w (Entry.Settled session reply) d none e = e
-ignored_disk w (Entry.Took taken) d none e = e
 ignored_disk w (Entry.GaveBack finished (Some over)) d none e = absurd none
-ignored_disk w (Entry.GaveBack finished None) d none e = e
-ignored_disk w (Entry.Opened session) d none e = e
-ignored_disk w (Entry.Closed session granted) d none e = e
-ignored_disk w (Entry.Cleared session) d none e = e
-ignored_disk w (Entry.Sent session sessions work) d none e = e
-ignored_disk w (Entry.Delivered session) d none e = e
-ignored_disk w (Entry.Queried session byte) d none e = e
-ignored_disk w (Entry.Fetched session byte) d none e = e
-ignored_disk w (Entry.Notified sessions work) d none e = e
-ignored_disk w (Entry.Locked session kind now timeout result) d none e = e
-ignored_disk w (Entry.Released session result) d none e = e
-ignored_disk w (Entry.Ticked now failed) d none e = e
-ignored_disk w (Entry.Informed info) d none e = e
-ignored_disk w (Entry.Due deadline) d none e = e
+ignored_disk w _ d none e = e
 
 pub serves_executed : (s new : State) (session : ℕ) (request : Request) (reply : Reply) → is_open s session ≡ true → Allows s (Entry.Executed session request reply) new → Serves s (Entry.Executed session request reply) new
 serves_executed s new session request reply here (inl a) = a

@@ -1,10 +1,9 @@
 //! Sessions and their service states.
 ghost use Rattle.std.specs.Prelude.{◌≡◌, Some, None, IfOk, OnErr, true};
 ghost use Rattle.psu_exec.specs.Device.{is_open, service_state_of, with_device};
-ghost use Rattle.psu_exec.specs.Calls.{Allows, has_work, unparked, with_answer, with_service_state, with_session};
+ghost use Rattle.psu_exec.specs.Calls.{Allows, has_work, unparked, with_answer, with_session};
 ghost use Rattle.psu_exec.specs.Calls.Entry.{Opened, Closed, Cleared, Sent, Delivered, Queried, Fetched, Notified};
-ghost use Rattle.psu_exec.specs.ServiceStates.{rqs_updated, opened_service_state, with_available};
-ghost use Rattle.psu_status.specs.Status.{enabled};
+ghost use Rattle.psu_exec.specs.ServiceStates.{opened_service_state};
 
 use crate::service_states::{initial_service_state, rqs_updated, take_unreported};
 use crate::waits::least_free;
@@ -111,25 +110,14 @@ impl<S: Idle, A: Allocator + Copy> ExecOf<S, A> {
     fn set_available(&mut self, session: Session, available: bool)
         ensures { self.new ≡ with_device self.old (with_answer self.old.device session available) }
     {
-        let service_state = self.changed(self.service_state(session), available);
-        self.set_service_state(session, service_state);
-    }
-
-    // The service state of a session, with MAV set to whether a response was sent to it that it has not read.
-    fn changed(&self, service_state: ServiceState, available: bool) -> ServiceState
-        ensures { result ≡ rqs_updated (enabled self.now.device.volatile.instrument.status service_state.available)
-            (enabled self.now.device.volatile.instrument.status available) (with_available service_state available) }
-    {
+        let service_state = self.service_state(session);
         let old = self.instrument.enabled(service_state.available);
         let new = self.instrument.enabled(available);
-        rqs_updated(
-            old,
-            new,
-            ServiceState {
-                available,
-                ..service_state
-            },
-        )
+        let marked = ServiceState {
+            available,
+            ..service_state
+        };
+        self.service_states[session.place()] = rqs_updated(old, new, marked);
     }
 
     // The service state of a session.
@@ -137,12 +125,6 @@ impl<S: Idle, A: Allocator + Copy> ExecOf<S, A> {
         ensures { result ≡ service_state_of self.now.device session }
     {
         self.service_states[session.place()]
-    }
-
-    fn set_service_state(&mut self, session: Session, service_state: ServiceState)
-        ensures { self.new ≡ with_device self.old (with_service_state self.old.device session service_state) }
-    {
-        self.service_states[session.place()] = service_state;
     }
 
     /// Answers a status query of a session, by the status byte with its RQS in bit 6, and then clears RQS; 0 if the
@@ -158,13 +140,7 @@ impl<S: Idle, A: Allocator + Copy> ExecOf<S, A> {
         let byte = self
             .instrument
             .polled(service_state.available, service_state.rqs);
-        self.set_service_state(
-            session,
-            ServiceState {
-                rqs: false,
-                ..service_state
-            },
-        );
+        self.service_states[session.place()].rqs = false;
         byte
     }
 
@@ -183,13 +159,7 @@ impl<S: Idle, A: Allocator + Copy> ExecOf<S, A> {
         } else {
             None
         };
-        self.set_service_state(
-            session,
-            ServiceState {
-                unfetched: false,
-                ..service_state
-            },
-        );
+        self.service_states[session.place()].unfetched = false;
         byte
     }
 
