@@ -1,5 +1,5 @@
--- The flush part, the open sessions and the locks after the end of a job.
-use Rattle.std.proofs.Common.{◌≡◌, ◌⊎◌, inl, inr, ap}
+-- The flush part and the open sessions after the end of a job.
+use Rattle.std.proofs.Common.{◌≡◌, ◌⊎◌, inl, inr, ap, refl}
 use Rattle.std.specs.Prelude.{◌≢◌}
 use Rattle.psu_items.specs.declared.commit.UnstartedCause.TheVariants as unstarted
 use Rattle.psu_exec.specs.Device.{Flush, State, target}

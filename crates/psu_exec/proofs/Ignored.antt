@@ -1,6 +1,6 @@
 -- Calls for sessions that aren't open: the history and the disk are unchanged after one, and a call is none if its session
 -- is open, or if it is for no session.
-use Rattle.std.proofs.Common.{◌≡◌, inl, inr, ℕ, true, List, Option, Some, None, refl, sym, ◌∙◌}
+use Rattle.std.proofs.Common.{◌≡◌, inl, inr, ℕ, true, List, Option, Some, refl, sym, ◌∙◌}
 use Rattle.psu_disk.specs.Disk.{DiskState}
 use Rattle.psu_tree.specs.declared.command.Request.{Request}
 use Rattle.psu_exec.specs.Device.{Reply, State, is_open}

@@ -115,24 +115,6 @@ fn some_unreported(service_states: &[ServiceState; SESSIONS]) -> bool
     some
 }
 
-// Marks the service requests of all sessions as reported.
-fn report_all(service_states: &mut [ServiceState; SESSIONS])
-    ensures { service_states.new ≡ map reported service_states.old }
-{
-    for i in 0..SESSIONS {
-        service_states[i] = report(service_states[i]);
-    }
-}
-
-fn report(service_state: ServiceState) -> ServiceState
-    ensures { result ≡ reported service_state }
-{
-    ServiceState {
-        unreported: false,
-        ..service_state
-    }
-}
-
 // Adds the session of a place if it is open and has a service request to report.
 fn push_unreported(
     sessions: &mut Sessions,
@@ -149,17 +131,6 @@ fn push_unreported(
     }
 }
 
-// The open sessions that have a service request to report.
-fn unreported(open_now: &[bool; SESSIONS], service_states: &[ServiceState; SESSIONS]) -> Sessions
-    ensures { result ≡ unreported_from 1 open_now.now service_states.now }
-{
-    let mut sessions = Sessions::new();
-    for i in 0..SESSIONS {
-        push_unreported(&mut sessions, i, open_now[i], service_states[i]);
-    }
-    sessions
-}
-
 /// Returns the open sessions that have a service request to report, and marks the requests of all as reported.
 pub(crate) fn take_unreported(
     open_now: &[bool; SESSIONS],
@@ -168,10 +139,13 @@ pub(crate) fn take_unreported(
     ensures requesting { result ≡ unreported_from 1 open_now.now service_states.old }
     ensures reported { service_states.new ≡ map reported service_states.old }
 {
+    let mut requesting = Sessions::new();
     if !some_unreported(service_states) {
-        return Sessions::new();
+        return requesting;
     }
-    let requesting = unreported(open_now, service_states);
-    report_all(service_states);
+    for i in 0..SESSIONS {
+        push_unreported(&mut requesting, i, open_now[i], service_states[i]);
+        service_states[i].unreported = false;
+    }
     requesting
 }

@@ -5,9 +5,8 @@ ghost use Rattle.psu_map.specs.Map.{Item, item_of, Before, get, put, without, co
 ghost use Rattle.psu_map.specs.Batch.{edited, changed, Assigns};
 ghost use Rattle.psu_map.specs.Place.{IsAt, IsGap};
 
-use crate::same::same;
 use crate::search::{search, value_near, value_of};
-use crate::{Batch, Edit, Pair, Value};
+use crate::{Batch, Edit, Pair, Value, same_pairs};
 use psu_pages::PAGE_SIZE;
 use std::alloc::{AllocError, Allocator};
 use std::marker::Model;
@@ -142,7 +141,7 @@ impl<A: Allocator + Copy> Items<A> {
     pub fn is_same(&self, other: &Self) -> bool
         ensures { IsTrue result ↔ (self.now ≡ other.now) }
     {
-        same(self, other)
+        same_pairs(&self.pairs, &other.pairs)
     }
 
     // Makes one edit.

@@ -18,5 +18,5 @@ pub use entry::Entry;
 pub use items::Items;
 pub use pair::{Pair, Value};
 pub use plan::Plan;
-pub use same::same_key;
+pub use same::{same_key, same_pairs};
 pub use target::Target;

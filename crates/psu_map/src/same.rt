@@ -1,7 +1,7 @@
-//! Comparing keys and maps.
+//! Comparing keys and lists of pairs.
 ghost use Rattle.std.specs.Prelude.{◌≡◌, ◌↔◌, IsTrue};
 
-use crate::{Items, Pair};
+use crate::Pair;
 use std::alloc::Allocator;
 
 /// Whether two keys are the same. Most are those of registers, of two bytes.
@@ -18,16 +18,15 @@ pub fn same_key(one: &[u8], other: &[u8]) -> bool
     }
 }
 
-/// Whether two maps have the same keys and the same value at each.
-pub(crate) fn same<A: Allocator + Copy>(a: &Items<A>, b: &Items<A>) -> bool
-    ensures { IsTrue result ↔ (a.now ≡ b.now) }
+/// Whether two lists of pairs are the same.
+pub fn same_pairs<A: Allocator + Copy>(one: &[Pair<A>], other: &[Pair<A>]) -> bool
+    ensures { IsTrue result ↔ (one.now ≡ other.now) }
 {
-    let (a, b) = (a.pairs(), b.pairs());
-    if a.len() != b.len() {
+    if one.len() != other.len() {
         return false;
     }
-    for at in 0..a.len() {
-        if !same_pair(&a[at], &b[at]) {
+    for i in 0..one.len() {
+        if !same_pair(&one[i], &other[i]) {
             return false;
         }
     }

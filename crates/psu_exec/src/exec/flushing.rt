@@ -2,14 +2,13 @@
 ghost use Rattle.std.specs.Prelude.{◌≡◌, ◌↔◌, IsTrue, IfOk, IfErr, IfSome, IfNone, OnOk, OnErr, OnSome, true, false, None, Some};
 ghost use Rattle.psu_map.specs.Batch.{changed};
 ghost use Rattle.psu_exec.specs.Batch.{batch};
-ghost use Rattle.psu_nv.specs.Contents.{Contents as Kept, IsContents, fits, items_of};
 ghost use Rattle.psu_exec.specs.Device.{target};
-ghost use Rattle.psu_exec.specs.Calls.{Allows, broken, ended, job_of, job_out, kept, sessions_over, target_flushed, worn, GivesBack, IsExpected};
+ghost use Rattle.psu_exec.specs.Calls.{Allows, broken, ended, job_of, job_out, kept, target_flushed, worn, GivesBack, IsExpected};
 ghost use Rattle.psu_exec.specs.Calls.Entry.{Took, GaveBack};
 ghost use Rattle.psu_exec.specs.Shown.{over_of};
 ghost use Rattle.psu_exec.specs.declared.idle_store.Condition.TheVariants as Condition;
 
-use crate::comparison::{same_edits, same_pairs};
+use crate::comparison::same_edits;
 use crate::difference::difference;
 use crate::idle_store::{idle_store_after, put_store_back};
 use crate::job::Ending;
@@ -20,7 +19,7 @@ use crate::{
     Planned, Reopening, Sessions, Stranger,
 };
 use psu_disk::Disk;
-use psu_items::{Batch, Items, Store, UnstartedCause};
+use psu_items::{Batch, Items, UnstartedCause, same_pairs};
 use std::alloc::{AllocError, Allocator};
 
 impl<D: Disk, A: Allocator + Copy> Exec<D, A> {
@@ -97,7 +96,9 @@ impl<D: Disk, A: Allocator + Copy> Exec<D, A> {
         self.touched = ChangedParts::none();
         self.held = Some(self.unflushed);
         match self.idle_store.take() {
-            Some(IdleStore::Whole(store)) => Ok(Job::Commit(planned_of(self.alloc, store, edits))),
+            Some(IdleStore::Whole(store)) => Ok(Job::Commit(Planned::new(
+                self.alloc, store, edits,
+            ))),
             Some(IdleStore::Failed(_)) => unreachable!(),
             None => unreachable!(),
         }
@@ -119,7 +120,7 @@ impl<D: Disk, A: Allocator + Copy> Exec<D, A> {
             return Err(Stranger { finished });
         };
         self.end_job(ending, idle_store_after(finished));
-        Ok(self.sessions_over())
+        Ok(all_over(&self.waits))
     }
 
     // The ending of a finished job; none if no job is out, or if its limit, its maps or its batch are not the expected
@@ -269,24 +270,4 @@ impl<S: Idle, A: Allocator + Copy> ExecOf<S, A> {
             && same_pairs(before.pairs(), self.map.pairs())
             && same_edits(edits, self.map.edits())
     }
-
-    // The sessions whose wait is over.
-    fn sessions_over(&self) -> Sessions
-        ensures { result ≡ sessions_over self.now.device.flush }
-    {
-        all_over(&self.waits)
-    }
-}
-
-// Builds the commit of a batch that leads to the map of contents that fit, which the store can hold.
-fn planned_of<D: Disk, A: Allocator + Copy>(
-    alloc: A,
-    store: Store<D, A>,
-    batch: Batch<A>,
-) -> Planned<D, A>
-    requires { (c : Kept) × IsContents c × (fits store.limit c ≡ true) × (changed store.items batch ≡ items_of c) }
-    ensures store { result.store ≡ store }
-    ensures batch { result.batch ≡ batch }
-{
-    Planned::new(alloc, store, batch)
 }

@@ -1,7 +1,7 @@
 //! Sessions and their service states.
 ghost use Rattle.std.specs.Prelude.{◌≡◌, Some, None, IfOk, OnErr, true};
 ghost use Rattle.psu_exec.specs.Device.{is_open, service_state_of, with_device};
-ghost use Rattle.psu_exec.specs.Calls.{Allows, has_work, unparked, with_answer, with_service_state, with_session};
+ghost use Rattle.psu_exec.specs.Calls.{Allows, has_work, unparked, with_answer, with_session};
 ghost use Rattle.psu_exec.specs.Calls.Entry.{Opened, Closed, Cleared, Sent, Delivered, Queried, Fetched, Notified};
 
 use crate::service_states::{initial_service_state, rqs_updated, take_unreported};
@@ -110,7 +110,7 @@ impl<S: Idle, A: Allocator + Copy> ExecOf<S, A> {
             available,
             ..service_state
         };
-        self.set_service_state(session, rqs_updated(old, new, marked));
+        self.service_states[session.place()] = rqs_updated(old, new, marked);
     }
 
     // The service state of a session.
@@ -118,12 +118,6 @@ impl<S: Idle, A: Allocator + Copy> ExecOf<S, A> {
         ensures { result ≡ service_state_of self.now.device session }
     {
         self.service_states[session.place()]
-    }
-
-    fn set_service_state(&mut self, session: Session, service_state: ServiceState)
-        ensures { self.new ≡ with_device self.old (with_service_state self.old.device session service_state) }
-    {
-        self.service_states[session.place()] = service_state;
     }
 
     /// Answers a status query of a session, by the status byte with its RQS in bit 6, and then clears RQS; 0 if the
@@ -139,13 +133,7 @@ impl<S: Idle, A: Allocator + Copy> ExecOf<S, A> {
         let byte = self
             .instrument
             .polled(service_state.available, service_state.rqs);
-        self.set_service_state(
-            session,
-            ServiceState {
-                rqs: false,
-                ..service_state
-            },
-        );
+        self.service_states[session.place()].rqs = false;
         byte
     }
 
@@ -164,13 +152,7 @@ impl<S: Idle, A: Allocator + Copy> ExecOf<S, A> {
         } else {
             None
         };
-        self.set_service_state(
-            session,
-            ServiceState {
-                unfetched: false,
-                ..service_state
-            },
-        );
+        self.service_states[session.place()].unfetched = false;
         byte
     }
 

@@ -9,6 +9,7 @@ use Rattle.psu_exec.specs.Device.{State, is_whole}
 use Rattle.psu_exec.specs.declared.idle_store.IdleStore.TheVariants.{Whole}
 use Rattle.psu_exec.proofs.Acting.{kept_sound}
 use Rattle.psu_exec.proofs.Changes.{sound_first}
+use Rattle.psu_exec.proofs.Holding.{holds_contents}
 use Rattle.psu_exec.proofs.Seen.{device_is, seen, so_seen}
 use Rattle.psu_exec.proofs.Taking.{commit_is}
 use Rattle.psu_exec.proofs.Touching.{when_idle, keeps_from}
@@ -25,12 +26,12 @@ difference-requires g c =
 pub invariant_of-self : goal.invariant_of-self
 invariant_of-self g c = rw c.in_default-set.ensures.err c.self.invariant
 
-pub planned_of-requires : goal.planned_of-requires
-planned_of-requires g c =
+pub new-requires : goal.new-requires
+new-requires g c =
     let contents = c.self.inside.contents in
     let own = c.self.invariant.3 (Whole c.in-Some-Whole.store) (sym c.take.ensures.value ∙ (c.in-Some-Whole.is ∙ ap Some c.in-Some-Whole.field-0-is)) in
     let leads = ap (λ (items : List Item). changed items c.in-Ok.edits) own.0 ∙ c.in-Ok.ensures.leads in
-    (contents, kept_sound _ c.self.invariant.1, ap (λ (limit : ℕ). fits limit contents) own.1 ∙ c.self.invariant.1.fitting, leads)
+    holds_contents _ _ contents (kept_sound _ c.self.invariant.1) (ap (λ (limit : ℕ). fits limit contents) own.1 ∙ c.self.invariant.1.fitting) leads
 
 pub unreachable-requires : goal.unreachable-requires
 unreachable-requires g c =
@@ -39,13 +40,13 @@ unreachable-requires g c =
 
 pub returns-clause-data : goal.returns-clause-data
 returns-clause-data g c =
-    let planned = c.planned_of.result in
+    let planned = c.new.result in
     let plan = c.self.inside.map in
     let f = (seen c.self.view_is).device.flush in
     let own = c.self.invariant.3 (Whole c.in-Some-Whole.store) (sym c.take.ensures.value ∙ (c.in-Some-Whole.is ∙ ap Some c.in-Some-Whole.field-0-is)) in
-    let limit = ap (λ store. store.limit) c.planned_of.ensures.store ∙ own.1 in
-    let before = ap (λ store. store.items) c.planned_of.ensures.store ∙ own.0 in
-    let leads = ap (λ (items : List Item). changed items planned.batch) before ∙ ap (changed plan.map) c.planned_of.ensures.batch ∙ c.in-Ok.ensures.leads in
+    let limit = ap (λ store. store.limit) c.new.ensures.store ∙ own.1 in
+    let before = ap (λ store. store.items) c.new.ensures.store ∙ own.0 in
+    let leads = ap (λ (items : List Item). changed items planned.batch) before ∙ ap (changed plan.map) c.new.ensures.batch ∙ c.in-Ok.ensures.leads in
     let whole = ap (λ (s : State). is_whole s.flush.store) (device_is c.self.view_is) ∙ ap is_whole c.requires.whole in
     so_seen (λ (s : State). (let job : JobData = record { kind = Commit; limit = planned.store.limit; before = planned.store.items; target = changed planned.store.items planned.batch; edits = planned.batch } in job) ≡ job_of (job_out s.flush)) c.self.view_is
-    (commit_is f _ _ _ _ whole limit before leads (c.planned_of.ensures.batch ∙ c.in-Ok.ensures.exact))
+    (commit_is f _ _ _ _ whole limit before leads (c.new.ensures.batch ∙ c.in-Ok.ensures.exact))
