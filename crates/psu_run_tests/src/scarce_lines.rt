@@ -254,12 +254,13 @@ fn macros_that_are_refused(rt: HostRuntime) {
 }
 
 const FILES: &str = r#"
-before: MMEM:DATA "A",#13xyz;*OPC? / !POWER
+before: MMEM:DATA "A",#221abcdefghijklmnopqrstu;*OPC? / !POWER
 answered before: 1
 line: MMEM:DATA? "A";:MMEM:DEL "B"
 then: SYST:ERR?;:SYST:ERR:COUN?;:MMEM:CAT?
-- 1 / #13xyz / -256,"File name not found";0;1024,1024,"A,BIN,3"
-- 1 / #13xyz / -225,"Out of memory";0;1024,1024,"A,BIN,3"
+- 1 / #221abcdefghijklmnopqrstu / -256,"File name not found";0;1024,1024,"A,BIN,21"
+- 1 / #221abcdefghijklmnopqrstu / -225,"Out of memory";0;1024,1024,"A,BIN,21"
+- 1 / -225,"Out of memory";1;1024,1024,"A,BIN,21"
 
 line: MMEM:STOR:STAT 0,"S";:MMEM:CAT?
 then: SYST:ERR:COUN?;:MMEM:CAT?
