@@ -10,7 +10,7 @@ ghost use Rattle.psu_bench.specs.Calls.{AllowsOn};
 ghost use Rattle.psu_bench.specs.Callers.{Causes, CausesByRound, released_of};
 ghost use Rattle.psu_bench.specs.Tries.{tried};
 
-use crate::machine::{Operation, Silent};
+use crate::machine::{CausesNothing, Operation};
 use crate::operations::{CloseSession, Lock, MarkSent, Notify, Release, Tick, Try, TryUnit};
 use crate::{Bench, Caused, CausedByJob, Gate, Granted, Point, Seat, ServedDisk};
 use psu_exec::{
@@ -123,7 +123,7 @@ impl<'b, D: ServedDisk> Caller<'b, D> {
     }
 
     /// Performs an operation that causes nothing for other threads.
-    pub fn call<R: Wait, O: Operation<D, Global> + Silent>(
+    pub fn call<R: Wait, O: Operation<D, Global> + CausesNothing>(
         &mut self,
         rt: &R,
         operation: O,

@@ -70,4 +70,4 @@ pub trait Operation<D: Disk, A: Allocator + Copy> {
 
 /// An operation that causes nothing for other threads. A thread performs it by `Caller::call`, and each other operation by
 /// a method of `Caller` that returns what it has caused. No clause says which operations these are.
-pub trait Silent {}
+pub trait CausesNothing {}

@@ -5,7 +5,7 @@ ghost use Rattle.psu_exec.specs.Shown.{outcome_of, over_of};
 ghost use Rattle.psu_exec.specs.Jobs.{finished_of, taken_of};
 ghost use Rattle.psu_bench.specs.Tries.{tried};
 
-use crate::machine::{Operation, Silent};
+use crate::machine::{CausesNothing, Operation};
 use psu_disk::Disk;
 use psu_exec::{
     Crowded, Exec, Finished, Freed, Grant, Info, Job, Kind, LockRefusal, NoJob, Notifications,
@@ -255,16 +255,16 @@ impl<D: Disk, A: Allocator + Copy> Operation<D, A> for NextDeadline {
     }
 }
 
-impl Silent for OpenSession {}
+impl CausesNothing for OpenSession {}
 
-impl Silent for Clear {}
+impl CausesNothing for Clear {}
 
-impl Silent for MarkDelivered {}
+impl CausesNothing for MarkDelivered {}
 
-impl Silent for Query {}
+impl CausesNothing for Query {}
 
-impl Silent for Fetch {}
+impl CausesNothing for Fetch {}
 
-impl Silent for Inform {}
+impl CausesNothing for Inform {}
 
-impl Silent for NextDeadline {}
+impl CausesNothing for NextDeadline {}
