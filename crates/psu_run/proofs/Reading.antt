@@ -6,8 +6,8 @@ use Rattle.std.specs.Io.KnownBytes.{Appends, Consumes, IsAtEnd}
 use Rattle.std.specs.Io.{StartsWith}
 use Rattle.std.specs.Option.{ForSome}
 use Rattle.psu_exec.proofs.Moments.{keeps_map}
-use Rattle.psu_run.proofs.Common.{Answers, AreCalm, Brings, DiskState, EachRepresents, EndsEarly, Exec, FaultOf, Fed, Ghosts, HasFailed, IsAlong, IsFlush, IsNow, IsOf, IsOfRun, IsOldOrSame, IsScript, IsWrittenBefore, Leads, LeavesOnly, Message, OutputState, PowersOn, Ran, RanAll, RunCause, RunFault, RunStep, RunStops, Runs, RunsUpTo, Says, SaysUntil, ScriptAlone, Since, StopsFor, Walks, World, Write, WritesShort, born, common_steps, disk_in, failures_of, has, held, idle_disk, items_of, message_of, messages, state_in, take-add, world_of}
-use Rattle.psu_run.specs.Runs.{never, RunTo, WritesFirst, WritesRun, disk_of}
+use Rattle.psu_run.proofs.Common.{Answers, AreCalm, Brings, DiskState, EachRepresents, EndsEarly, Exec, FaultOf, Fed, Ghosts, HasFailed, IsAlong, IsFlush, IsNow, IsOf, IsOfRun, IsOldOrSame, IsScript, IsWrittenBefore, Leads, LeavesOnly, Message, OutputState, PowersOn, Ran, RanAll, RunCause, RunFault, RunStep, RunStops, Runs, RunsUpTo, Says, SaysUntil, ScriptAlone, Since, StopsFor, Walks, World, Write, WritesShort, born, common_steps, disk_in, failures_of, has, held, idle_disk, is_broken, items_of, message_of, messages, state_in, take-add, world_of}
+use Rattle.psu_run.specs.Runs.{never, IsByFailure, RunTo, WritesFirst, WritesRun, disk_of}
 use Rattle.psu_run.proofs.Cuts.{line_end, line_last, longer, says_join, starts_after, until_none}
 use Rattle.psu_run.proofs.Feeding.{Ends, ends_then, stopped_then}
 use Rattle.psu_run.proofs.Going.{ran_then, since_then, since_to}
@@ -145,10 +145,6 @@ module _ {D A : Type 0} {G : Ghosts D} (line seen : List ℕ) {s s1 : Exec D A G
     stopped_then by_input [] line seen piece s s1 fault (held u []) (held v []) (held w []) fed q (left_of next),
   )
 
-  -- a fault in it
-  pub read_fault : (by_input : RunCause → Type 0) (piece : List ℕ) (fault : RunFault D) (next w : Option (List ℕ)) → Consumes to next piece → Ends never line piece s1 fault (held v []) (held w []) → Early by_input s fault from u w
-  read_fault by_input piece fault next w p q = read_stop by_input piece fault next w p (λ input. stops_by by_input s1 fault (messages (line ++ (piece ++ input))) (held v []) (held w []) (q input))
-
   -- before it
   pub read_front : (by_input : RunCause → Type 0) (cause : RunCause) (fault : RunFault D) → FaultOf s1 cause fault → IsOther by_input cause → cause ≢ Write → Early by_input s fault from u v
   read_front by_input cause fault at plain other = read_stop by_input [] fault to v (Consumes-nil to) (stopped_now by_input line [] s1 cause fault (held v []) at plain other)
@@ -209,6 +205,11 @@ taken_more seen buf count a b c taken bound same more = grind (arith, common_ste
 -- the disk of a fault that is propagated
 pub passed_disk : {D : Type 0} (r : Result D (RunFault D)) (fault : RunFault D) (P : D → Type 0) → IsErrAnd r (λ reported. reported ≡ fault) → P fault.disk → P (disk_of r)
 passed_disk x0 fault x2 is x4 = grind arith
+
+-- a store that was whole is broken only by a failure since
+pub early_counted : {D A : Type 0} {G : Ghosts D} (by_input : RunCause → Type 0) (s : Exec D A G) (before : ℕ) (fault : RunFault D) (from u v : Option (List ℕ)) → is_broken s.device.flush.store ≡ false → failures_of s ≡ before → Early by_input s fault from u v
+    → IsByFailure G before fault
+early_counted by_input s before fault from u v whole same (due, brought, (text, said, ran)) = ran.counted before (omega (arith, same), inr (λ broke. let bad = sym whole ∙ broke in cc))
 
 -- the text that is written for a known input where nothing goes wrong
 script_of : ScriptAlone → (from : Option (List ℕ)) (image : List ℕ) (due : List Message) (text : List ℕ) (steps : List RunStep) (first last : World) → Brings from due → PowersOn image first → Runs due text steps → Walks first steps last → AreCalm steps

@@ -1,11 +1,12 @@
 //! The executor of a run: it executes units on the device and outputs their answers.
-ghost use Rattle.std.specs.Prelude.{◌≡◌, [], List, ℕ, IfErr, IfOk, IfSome, OnOk, None, false};
+ghost use Rattle.std.specs.Prelude.{◌≡◌, ◌∷◌, [], List, ℕ, IfErr, IfOk, IfSome, OnOk, None, false};
 ghost use Rattle.psu_messages.specs.Executions.{Advances, IsOver, StopsAt};
 ghost use Rattle.psu_messages.specs.Relations.{IsAwaited};
+ghost use Rattle.psu_messages.specs.ResponseBuffer.{nothing};
 ghost use Rattle.psu_messages.specs.Shown.{progress_of};
-ghost use Rattle.psu_run.specs.Lines.{source_of};
-ghost use Rattle.psu_run.specs.Progress.{DeviceStops, IsDone, IsFailed, IsStopped, Leads, Says, SaysUntil, held, output_state};
-ghost use Rattle.psu_run.specs.Runs.{LineBegins, LineRuns};
+ghost use Rattle.psu_run.specs.Lines.{Message, source_of};
+ghost use Rattle.psu_run.specs.Progress.{Answers, DeviceStops, IsDone, IsFailed, IsStopped, SaysUntil, held, output_state};
+ghost use Rattle.psu_run.specs.Runs.{LineBegins};
 
 use crate::RunCause;
 use crate::acting::unit;
@@ -102,14 +103,16 @@ impl<'r, 'w, W: Write, D: Disk, A: Allocator + Copy> Executor<A> for Console<'r,
 
 impl<'r, 'w, W: Write, D: Disk, A: Allocator + Copy> Console<'r, 'w, W, D, A> {
     // Executes the message of a complete line, and outputs its response.
-    fn follow(&mut self, alloc: A, line: &[u8]) -> Result<(), RunCause>
-        ensures runs { OnOk result ((text : List ℕ)
-            × Leads self.old.responder.now.powered.exec self.new.responder.now.powered.exec (LineRuns (source_of line.now) text)
-            × Says (held (W.contents self.old.writer.now) self.old.responder.now.output.items) (held (W.contents self.new.writer.now) self.new.responder.now.output.items) text) }
+    fn execute_line(&mut self, alloc: A, line: &[u8]) -> Result<(), RunCause>
+        requires fresh { self.old.responder.now.gathered ≡ nothing }
+        ensures runs { OnOk result (Answers (Message.Line (source_of line.now) ∷ []) self.old.responder.now.powered.exec self.new.responder.now.powered.exec
+            (output_state (W.contents self.old.writer.now) self.old.responder.now.output.items self.old.responder.now.gathered)
+            (output_state (W.contents self.new.writer.now) self.new.responder.now.output.items self.new.responder.now.gathered)) }
+        ensures fresh { OnOk result (self.new.responder.now.gathered ≡ nothing) }
         ensures breaks { IfErr result (λ cause. (part : List ℕ)
-            × DeviceStops self.old.responder.now.powered.exec self.new.responder.now.powered.exec (LineBegins (source_of line.now) part) cause
-            × SaysUntil cause (held (W.contents self.old.writer.now) self.old.responder.now.output.items)
-            (output_state (W.contents self.new.writer.now) self.new.responder.now.output.items self.new.responder.now.gathered) part) }
+            × SaysUntil cause (output_state (W.contents self.old.writer.now) self.old.responder.now.output.items self.old.responder.now.gathered)
+            (output_state (W.contents self.new.writer.now) self.new.responder.now.output.items self.new.responder.now.gathered) part
+            × DeviceStops self.old.responder.now.powered.exec self.new.responder.now.powered.exec (LineBegins (source_of line.now) part) cause) }
         ensures responder { self.new.responder.ghost_name ≡ self.old.responder.ghost_name }
         ensures writer { self.new.writer.ghost_name ≡ self.old.writer.ghost_name }
     {
@@ -119,7 +122,10 @@ impl<'r, 'w, W: Write, D: Disk, A: Allocator + Copy> Console<'r, 'w, W, D, A> {
         self.responder.gathered = progress.gathered;
         match done {
             Ok(need) => match need {
-                None => Ok(()),
+                None => {
+                    self.responder.gathered.restart();
+                    Ok(())
+                }
                 Some(_) => unreachable!(),
             },
             Err(cause) => Err(cause),
@@ -127,24 +133,27 @@ impl<'r, 'w, W: Write, D: Disk, A: Allocator + Copy> Console<'r, 'w, W, D, A> {
     }
 }
 
-/// Executes the message of a complete line, and outputs its response. Where it stops early, the answers that were not
-/// output are left in the response buffer.
-pub(crate) fn execute_line<W: Write, D: Disk, A: Allocator + Copy>(
-    alloc: A,
-    responder: &mut Responder<D, A>,
-    line: &[u8],
-    writer: &mut W,
-) -> Result<(), RunCause>
-    ensures runs { OnOk result ((text : List ℕ)
-        × Leads responder.old.powered.exec responder.new.powered.exec (LineRuns (source_of line.now) text)
-        × Says (held (W.contents writer.old) responder.old.output.items) (held (W.contents writer.new) responder.new.output.items) text) }
-    ensures breaks { IfErr result (λ cause. (part : List ℕ)
-        × DeviceStops responder.old.powered.exec responder.new.powered.exec (LineBegins (source_of line.now) part) cause
-        × SaysUntil cause (held (W.contents writer.old) responder.old.output.items) (output_state (W.contents writer.new) responder.new.output.items responder.new.gathered) part) }
-{
-    let mut console = Console {
-        responder: &mut *responder,
-        writer: &mut *writer,
-    };
-    console.follow(alloc, line)
+impl<D: Disk, A: Allocator + Copy> Responder<D, A> {
+    /// Executes the message of a complete line that is not the one of a power loss, and outputs its response. Where it
+    /// stops early, the answers that were not output are left in the response buffer.
+    pub fn answer_line<W: Write>(
+        &mut self,
+        alloc: A,
+        line: &[u8],
+        writer: &mut W,
+    ) -> Result<(), RunCause>
+        requires fresh { self.old.gathered ≡ nothing }
+        ensures runs { OnOk result (Answers (Message.Line (source_of line.now) ∷ []) self.old.powered.exec self.new.powered.exec
+            (output_state (W.contents writer.old) self.old.output.items self.old.gathered) (output_state (W.contents writer.new) self.new.output.items self.new.gathered)) }
+        ensures fresh { OnOk result (self.new.gathered ≡ nothing) }
+        ensures breaks { IfErr result (λ cause. (part : List ℕ)
+            × SaysUntil cause (output_state (W.contents writer.old) self.old.output.items self.old.gathered) (output_state (W.contents writer.new) self.new.output.items self.new.gathered) part
+            × DeviceStops self.old.powered.exec self.new.powered.exec (LineBegins (source_of line.now) part) cause) }
+    {
+        let mut console = Console {
+            responder: &mut *self,
+            writer: &mut *writer,
+        };
+        console.execute_line(alloc, line)
+    }
 }

@@ -87,39 +87,14 @@ fn execute_pieces<R: Source, W: Write, D: Disk, A: Allocator + Copy>(
             let disk = run.finish(writer)?;
             return Ok(disk);
         }
-        let room = intake.room();
-        if count > room {
-            let run = run.answer(&piece[..room], writer)?;
+        let taken = count.min(intake.room());
+        run = run.answer(&piece[..taken], writer)?;
+        if taken < count {
             return Err(run.fault(RunCause::TooLong));
         }
         intake.count_bytes(count);
-        run = run.answer(&piece[..count], writer)?;
     }
     Err(run.fault(RunCause::TooLong))
-}
-
-/// Executes the lines of the reader on a device, and writes their responses.
-pub(crate) fn execute_all<R: Source, W: Write, D: Disk, A: Allocator + Copy>(
-    alloc: A,
-    powered: PoweredDevice<D, A>,
-    reader: &mut R,
-    writer: &mut W,
-) -> Result<D, RunFault<D>>
-    ensures whole { IfOk result (λ d. (due : List Message) × Brings (R.remaining reader.old) due
-        × RanAll powered.exec due d (held (W.contents writer.old) []) (held (W.contents writer.new) [])) }
-    ensures early { IfErr result (λ f. (due : List Message) × Brings (R.remaining reader.old) due
-        × EndsEarly (GivenByInput (R.remaining reader.old) (R.remaining reader.new) (R.reads reader.old) (R.reads reader.new))
-        powered.exec f due (held (W.contents writer.old) []) (held (W.contents writer.new) [])) }
-    ensures short { OnOk result (IfSome (R.remaining reader.old) (λ input. length input ≤ 16777216)) }
-    ensures ends { OnOk result (IsReadToEnd (R.remaining reader.old) (R.remaining reader.new) (R.reads reader.old) (R.reads reader.new)) }
-    ensures reads { ReadsNoFurther 65536 (R.remaining reader.old) (R.remaining reader.new) (R.reads reader.old) (R.reads reader.new) }
-{
-    let Ok(mut piece) = vec![in alloc; 0u8; READ_SIZE] else {
-        return Err(powered.fault(RunCause::Memory));
-    };
-    let run = RunState::new(alloc, powered);
-    let disk = execute_pieces(run, &mut piece, reader, writer)?;
-    Ok(disk)
 }
 
 /// Executes the lines of the reader on a disk's image, or on a store that is open, and writes their responses.
@@ -164,6 +139,9 @@ pub fn run<R: Source, W: Write, D: Disk, A: Allocator + Copy>(
         Ok(powered) => powered,
         Err(fault) => return Err(fault),
     };
-    let disk = execute_all(alloc, powered, reader, writer)?;
+    let Ok(mut piece) = vec![in alloc; 0u8; READ_SIZE] else {
+        return Err(powered.fault(RunCause::Memory));
+    };
+    let disk = execute_pieces(RunState::new(alloc, powered), &mut piece, reader, writer)?;
     Ok(disk)
 }

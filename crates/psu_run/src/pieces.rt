@@ -1,11 +1,10 @@
 //! The lines that end in a piece of the input.
 ghost use Rattle.std.specs.Prelude.{◌≡◌, ◌≢◌, ◌∷◌, ◌++◌, [], List, ℕ, OnOk, IfOk, IfErr};
 ghost use Rattle.psu_messages.specs.ResponseBuffer.{nothing};
-ghost use Rattle.psu_run.specs.Lines.{Message, messages, source_of};
-ghost use Rattle.psu_run.specs.Progress.{Answers, DeviceStops, EndsEarly, Fed, Leads, RunStops, SaysUntil, held, output_state};
-ghost use Rattle.psu_run.specs.Runs.{LineBegins, Runs, never};
+ghost use Rattle.psu_run.specs.Lines.{Message, messages};
+ghost use Rattle.psu_run.specs.Progress.{EndsEarly, Fed, Leads, RunStops, held, output_state};
+ghost use Rattle.psu_run.specs.Runs.{Runs, never};
 
-use crate::console::execute_line;
 use crate::jobs::reopen;
 use crate::lines::is_power;
 use crate::output::put;
@@ -38,28 +37,6 @@ fn restart_device<D: Disk, A: Allocator + Copy>(
     Ok(powered)
 }
 
-impl<D: Disk, A: Allocator + Copy> Responder<D, A> {
-    // Executes the message of a complete line that is not the one of a power loss, and outputs its response.
-    fn answer_line<W: Write>(
-        &mut self,
-        alloc: A,
-        line: &[u8],
-        writer: &mut W,
-    ) -> Result<(), RunCause>
-        requires fresh { self.old.gathered ≡ nothing }
-        ensures runs { OnOk result (Answers (Message.Line (source_of line.now) ∷ []) self.old.powered.exec self.new.powered.exec
-            (output_state (W.contents writer.old) self.old.output.items self.old.gathered) (output_state (W.contents writer.new) self.new.output.items self.new.gathered)) }
-        ensures fresh { OnOk result (self.new.gathered ≡ nothing) }
-        ensures breaks { IfErr result (λ cause. (part : List ℕ)
-            × SaysUntil cause (output_state (W.contents writer.old) self.old.output.items self.old.gathered) (output_state (W.contents writer.new) self.new.output.items self.new.gathered) part
-            × DeviceStops self.old.powered.exec self.new.powered.exec (LineBegins (source_of line.now) part) cause) }
-    {
-        execute_line(alloc, self, line, writer)?;
-        self.gathered.restart();
-        Ok(())
-    }
-}
-
 impl<D: Disk, A: Allocator + Copy> RunState<D, A> {
     // Simulates a power loss at rest and a restart, and keeps the output that is not yet written.
     fn restart<W: Write>(self, writer: &mut W) -> Result<RunState<D, A>, RunFault<D>>
@@ -69,25 +46,19 @@ impl<D: Disk, A: Allocator + Copy> RunState<D, A> {
         ensures stops { IfErr result (λ f. (rest : List Message) → EndsEarly never self.responder.powered.exec f (Message.Power ∷ rest)
             (output_state (W.contents writer.old) self.responder.output.items self.responder.gathered) (held (W.contents writer.new) [])) }
     {
-        let RunState {
-            alloc,
-            lines,
-            responder,
-        } = self;
         let Responder {
             powered,
             output,
             gathered,
-        } = responder;
-        match restart_device(alloc, powered) {
+        } = self.responder;
+        match restart_device(self.alloc, powered) {
             Ok(powered) => Ok(RunState {
-                alloc,
-                lines,
                 responder: Responder {
                     powered,
                     output,
                     gathered,
                 },
+                ..self
             }),
             Err(fault) => Err(write_before(fault, output.as_slice(), &gathered, writer)),
         }

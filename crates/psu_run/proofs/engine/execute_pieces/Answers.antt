@@ -1,7 +1,7 @@
-use Rattle.std.proofs.Common.{◌≤◌, ◌∙◌, ◌+◌, ◌++◌, [], take, inl, inr, refl, sym, arith}
+use Rattle.std.proofs.Common.{◌≡◌, ◌≤◌, ◌∙◌, ◌+◌, ◌++◌, [], take, inl, inr, refl, sym, arith}
 use Rattle.psu_run.proofs.Common.{Read, TooLong, held, passed}
 use Rattle.psu_run.proofs.Feeding.{fed_none, fed_then}
-use Rattle.psu_run.proofs.Reading.{cut_after, cut_front, end_stop, read_all, read_end, read_fault, read_front, taken_more}
+use Rattle.psu_run.proofs.Reading.{cut_after, cut_front, end_stop, read_all, read_end, read_front, taken_more}
 use Rattle.psu_run.proofs.Input.{further_more, further_none, read_failed, read_more, read_none, read_start}
 use Rattle.psu_run.proofs.engine.execute_pieces.Goals as goal
 
@@ -32,31 +32,26 @@ returns-in_err-disk-clause-early g c =
 pub returns-in_err-run-clause-early : goal.returns-in_err-run-clause-early
 returns-in_err-run-clause-early g c =
     passed c.from_residual-in_err-run.result c.in_err-run.field-0.0 _ c.from_residual-in_err-run.ensures.1
-    (cut_front c.reading.run.lines.line.items c.reading.invariant.seen _ _ _ _ c.reading.invariant.has.taken c.reading.invariant.fed _ c.room-room.result c.in-Ok.count c.read_into.new.piece c.in_err-run.field-0.0 _ _ (omega (arith, c.if-count-room.true)) c.in-Ok.ensures.bytes.0 c.in_err-run.ensures.stopped)
+    (cut_front c.reading.run.lines.line.items c.reading.invariant.seen _ _ _ _ c.reading.invariant.has.taken c.reading.invariant.fed _ c.min-taken.result c.in-Ok.count c.read_into.new.piece c.in_err-run.field-0.0 _ _ (omega (arith, c.min-taken.ensures)) c.in-Ok.ensures.bytes.0 c.in_err-run.ensures.stopped)
 
-pub returns-then-count-room-clause-early : goal.returns-then-count-room-clause-early
-returns-then-count-room-clause-early g c =
+pub returns-then-taken-count-clause-early : goal.returns-then-taken-count-clause-early
+returns-then-taken-count-clause-early g c =
     let has = read_more c.in-Ok.count c.read_into.new.piece c.reading.invariant.has c.in-Ok.ensures.bytes.0 c.in-Ok.ensures.counted.1 c.if-count-eq0.false c.in-Ok.ensures.bound.0 c.count_read.ensures.reads in
     let all = taken_more c.reading.invariant.seen c.read_into.new.piece c.in-Ok.count _ _ _ c.reading.invariant.taken c.in-Ok.ensures.bound.0 c.count_read.ensures.bytes refl in
-    cut_after c.reading.run.lines.line.items c.reading.invariant.seen _ _ _ _ c.reading.invariant.has.taken c.reading.invariant.fed _ c.in_ok-run.run'.lines.line.items c.room-room.result c.in-Ok.count c.read_into.new.piece
-    c.in_ok-run.run'.responder.powered.exec TooLong c.fault-then-count-room.result _ _ (omega (arith, c.if-count-room.true)) c.in-Ok.ensures.bytes.0 c.in_ok-run.ensures.fed c.fault-then-count-room.ensures
-    (_, _, has, inl (omega (arith, all, c.room-room.ensures, c.if-count-room.true, c.count_read.ensures.bytes))) (λ w. cc)
-
-pub returns-in_err-run-2-clause-early : goal.returns-in_err-run-2-clause-early
-returns-in_err-run-2-clause-early g c =
-    let fault = c.in_err-run-2.field-0.0 in let piece = take c.in-Ok.count c.read_into.new.piece in
-    passed c.from_residual-in_err-run-2.result fault _ c.from_residual-in_err-run-2.ensures.1
-    (read_fault c.reading.run.lines.line.items c.reading.invariant.seen _ _ _ _ c.reading.invariant.has.taken c.reading.invariant.fed _ piece fault _ _ c.in-Ok.ensures.bytes.0 c.in_err-run-2.ensures.stopped)
+    cut_after c.reading.run.lines.line.items c.reading.invariant.seen _ _ _ _ c.reading.invariant.has.taken c.reading.invariant.fed _ c.in_ok-run.run'.lines.line.items c.min-taken.result c.in-Ok.count c.read_into.new.piece
+    c.in_ok-run.run'.responder.powered.exec TooLong c.fault-then-taken-count.result _ _ (omega (arith, c.min-taken.ensures)) c.in-Ok.ensures.bytes.0 c.in_ok-run.ensures.fed c.fault-then-taken-count.ensures
+    (_, _, has, inl (omega (arith, all, c.room.ensures, c.min-taken.ensures, c.if-taken-count.true, c.count_read.ensures.bytes))) (λ w. cc)
 
 pub reading-preserved : goal.reading-preserved
-reading-preserved g c = record {
-  seen = c.reading.invariant.seen ++ take c.in-Ok.count c.read_into.new.piece;
-  has = read_more c.in-Ok.count c.read_into.new.piece c.reading.invariant.has c.in-Ok.ensures.bytes.0 c.in-Ok.ensures.counted.1 c.if-count-eq0.false c.in-Ok.ensures.bound.0 (c.count_bytes.ensures.reads ∙ c.count_read.ensures.reads);
-  taken = taken_more c.reading.invariant.seen c.read_into.new.piece c.in-Ok.count _ _ _ c.reading.invariant.taken c.in-Ok.ensures.bound.0 c.count_read.ensures.bytes c.count_bytes.ensures.bytes;
-  fed = fed_then [] c.reading.run.lines.line.items c.in_ok-run-2.run'.lines.line.items c.reading.invariant.seen (take c.in-Ok.count c.read_into.new.piece) _ _ _ (held (g.W.Write.contents c.args.writer.now) []) _ _ c.reading.invariant.fed c.in_ok-run-2.ensures.fed;
-  none = c.in_ok-run-2.ensures.none;
-  fresh = c.in_ok-run-2.ensures.fresh;
-}
+reading-preserved g c =
+    let whole : c.min-taken.result ≡ c.in-Ok.count = omega (arith, c.min-taken.ensures, c.if-taken-count.false) in record {
+      seen = c.reading.invariant.seen ++ take c.in-Ok.count c.read_into.new.piece;
+      has = read_more c.in-Ok.count c.read_into.new.piece c.reading.invariant.has c.in-Ok.ensures.bytes.0 c.in-Ok.ensures.counted.1 c.if-count-eq0.false c.in-Ok.ensures.bound.0 (c.count_bytes.ensures.reads ∙ c.count_read.ensures.reads);
+      taken = taken_more c.reading.invariant.seen c.read_into.new.piece c.in-Ok.count _ _ _ c.reading.invariant.taken c.in-Ok.ensures.bound.0 c.count_read.ensures.bytes c.count_bytes.ensures.bytes;
+      fed = fed_then [] c.reading.run.lines.line.items c.in_ok-run.run'.lines.line.items c.reading.invariant.seen (take c.in-Ok.count c.read_into.new.piece) _ _ _ (held (g.W.Write.contents c.args.writer.now) []) _ _ c.reading.invariant.fed (rw whole at c.in_ok-run.ensures.fed);
+      none = c.in_ok-run.ensures.none;
+      fresh = c.in_ok-run.ensures.fresh;
+    }
 
 pub returns-then-count-eq0-clause-short : goal.returns-then-count-eq0-clause-short
 returns-then-count-eq0-clause-short g c =
@@ -101,13 +96,8 @@ returns-in_err-run-clause-reads g c =
     further_more _ c.in-Ok.count _ _ c.reading.invariant.seen c.read_into.new.piece c.reading.invariant.has c.in-Ok.ensures.bytes.0 c.in-Ok.ensures.counted.1 c.if-count-eq0.false
     c.in-Ok.ensures.bound.0 c.count_read.ensures.reads c.count_read.new.self.few c.reading.invariant.taken c.reading.intake.short (c.read_into.auto.piece ∙ c.reading.auto.piece)
 
-pub returns-then-count-room-clause-reads : goal.returns-then-count-room-clause-reads
-returns-then-count-room-clause-reads g c =
-    further_more _ c.in-Ok.count _ _ c.reading.invariant.seen c.read_into.new.piece c.reading.invariant.has c.in-Ok.ensures.bytes.0 c.in-Ok.ensures.counted.1 c.if-count-eq0.false
-    c.in-Ok.ensures.bound.0 c.count_read.ensures.reads c.count_read.new.self.few c.reading.invariant.taken c.reading.intake.short (c.read_into.auto.piece ∙ c.reading.auto.piece)
-
-pub returns-in_err-run-2-clause-reads : goal.returns-in_err-run-2-clause-reads
-returns-in_err-run-2-clause-reads g c =
+pub returns-then-taken-count-clause-reads : goal.returns-then-taken-count-clause-reads
+returns-then-taken-count-clause-reads g c =
     further_more _ c.in-Ok.count _ _ c.reading.invariant.seen c.read_into.new.piece c.reading.invariant.has c.in-Ok.ensures.bytes.0 c.in-Ok.ensures.counted.1 c.if-count-eq0.false
     c.in-Ok.ensures.bound.0 c.count_read.ensures.reads c.count_read.new.self.few c.reading.invariant.taken c.reading.intake.short (c.read_into.auto.piece ∙ c.reading.auto.piece)
 
