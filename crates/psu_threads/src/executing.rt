@@ -1,7 +1,7 @@
 //! The threads of a session: the readers of its connections, its worker and its notifier.
 use crate::serving::{Continue, Serving};
 use psu_session_io::{
-    Asynchronous, Body, Closed, Closing, Drained, Incoming, StepDevice, Synchronous, Token,
+    Asynchronous, Body, Closed, Closing, Drained, Incoming, StepDevice, Synchronous, Token, run,
 };
 use std::rt::Clock;
 use std::sync::Wait;
@@ -38,6 +38,11 @@ pub(crate) struct SyncReader<'s, 'v, D> {
 }
 
 impl<'s, 'v, D: StepDevice> SyncReader<'s, 'v, D> {
+    /// Reads until the session is over.
+    pub fn run<R: Wait + Clock>(&mut self, rt: &R) {
+        run(rt, self);
+    }
+
     // Limits how long the next read waits, until the session has its second connection.
     fn limit<R: Wait + Clock>(&mut self, rt: &R) -> io::Result<()> {
         if self.limited {
@@ -127,6 +132,13 @@ pub(crate) struct AsyncReader<'s, 'v, D> {
     pub space: Vec<u8>,
 }
 
+impl<'s, 'v, D: StepDevice> AsyncReader<'s, 'v, D> {
+    /// Reads until the session is over.
+    pub fn run<R: Wait + Clock>(&mut self, rt: &R) {
+        run(rt, self);
+    }
+}
+
 impl<'s, 'v, D: StepDevice> Body<Asynchronous> for AsyncReader<'s, 'v, D> {
     fn serve<R: Wait + Clock>(&mut self, rt: &R, token: &mut Token<Asynchronous>) -> Closed {
         for _ in rt.forever() {
@@ -147,6 +159,11 @@ pub(crate) struct Worker<'s, 'v, S, D> {
 }
 
 impl<'s, 'v, S: Continue, D: StepDevice> Worker<'s, 'v, S, D> {
+    /// Works until the session is over.
+    pub fn run<R: Wait + Clock>(&mut self, rt: &R) {
+        run(rt, self);
+    }
+
     // Waits for the next notice, or until a release is due, and serves it. Returns when the next release is due.
     fn work_once<R: Wait + Clock>(
         &mut self,

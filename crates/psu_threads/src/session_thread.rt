@@ -7,7 +7,7 @@ use crate::serving::Serving;
 use crate::shared_device::SharedDevice;
 use psu_bench::{Access, Caller, ServedDisk};
 use psu_messages::READ_SIZE;
-use psu_session_io::{Asynchronous, Connection, Link, ServedSession, Synchronous, run};
+use psu_session_io::{Asynchronous, Connection, Link, ServedSession, Synchronous};
 use std::alloc::Global;
 use std::io;
 use std::rt::Clock;
@@ -73,20 +73,20 @@ impl<'s, 'v, 'b, 'r, R: Wait + Clock, D: ServedDisk> SessionThread<'s, 'v, 'b, '
                     limited: true,
                     space,
                 };
-                run(rt, &mut reader);
+                reader.run(rt);
             }
             Role::Work(link) => {
                 let serving = self.on::<Synchronous>(Connection::new(link, Vec::new(alloc)));
-                run(rt, &mut Worker { serving });
+                Worker { serving }.run(rt);
             }
             Role::Listen(connection) => {
                 let space = space(alloc, READ_SIZE)?;
                 let serving = self.on(connection);
-                run(rt, &mut AsyncReader { serving, space });
+                AsyncReader { serving, space }.run(rt);
             }
             Role::Notify(link) => {
                 let serving = self.on::<Asynchronous>(Connection::new(link, Vec::new(alloc)));
-                run(rt, &mut Worker { serving });
+                Worker { serving }.run(rt);
             }
         }
         Ok(())
