@@ -9,7 +9,7 @@ pub returns-clause-breaks : goal.returns-clause-breaks
 returns-clause-breaks g c =
     let before = c.args.self.now.responder.now in
     let s = broken (λ x. x.responder.now.powered.exec) (λ x. held (g.W.Write.contents x.writer.now) x.responder.now.output.items) _ (source_of c.args.line.now)
-        (λ x y effect d. d.2) (λ x y request cause f. f.2) (λ x y cause s. s.2) _ c.proceed-done.new.executor c.in-Err.cause c.proceed-done.new.progress.gathered _ c.new-progress.ensures c.in-Err.ensures.stops in
+    (λ x y effect d. d.2) (λ x y request cause f. f.2) (λ x y cause s. s.2) _ c.proceed-done.new.executor c.in-Err.cause c.proceed-done.new.progress.gathered _ c.new-progress.ensures c.in-Err.ensures.stops in
     rw (told_alone before.output.items before.gathered c.requires.fresh) (s.0, s.2, s.1)
 
 pub returns-clause-responder : goal.returns-clause-responder
@@ -22,7 +22,7 @@ pub returns-in-None-clause-runs : goal.returns-in-None-clause-runs
 returns-in-None-clause-runs g c =
     let before = c.args.self.now.responder.now in
     let w = whole (λ x. x.responder.now.powered.exec) (λ x. held (g.W.Write.contents x.writer.now) x.responder.now.output.items) _ (λ x y effect d. d.2)
-        (source_of c.args.line.now) _ c.proceed-done.new.executor _ (progress_of c.proceed-done.new.progress) c.new-progress.ensures c.in-Ok.ensures.goes (c.in-Ok.ensures.over c.in-None.is) in
+    (source_of c.args.line.now) _ c.proceed-done.new.executor _ (progress_of c.proceed-done.new.progress) c.new-progress.ensures c.in-Ok.ensures.goes (c.in-Ok.ensures.over c.in-None.is) in
     rw (told_alone before.output.items before.gathered c.requires.fresh, told_alone c.proceed-done.new.executor.responder.now.output.items c.restart.new.self c.restart.ensures)
     (answers_line (source_of c.args.line.now) w.0 _ _ _ _ w.1 w.2)
 
