@@ -1,5 +1,5 @@
 //! The executor of a run: it executes units on the device and outputs their answers.
-ghost use Rattle.std.specs.Prelude.{◌≡◌, ◌∷◌, [], List, ℕ, IfErr, IfOk, IfSome, OnOk, None, false};
+ghost use Rattle.std.specs.Prelude.{◌≡◌, ◌∷◌, [], List, ℕ, IfErr, IfOk, IfSome, OnOk, None};
 ghost use Rattle.psu_messages.specs.Executions.{Advances, IsOver, StopsAt};
 ghost use Rattle.psu_messages.specs.Relations.{IsAwaited};
 ghost use Rattle.psu_messages.specs.ResponseBuffer.{nothing};

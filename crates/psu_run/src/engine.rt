@@ -1,5 +1,5 @@
 //! The run over a reader and a writer.
-ghost use Rattle.std.specs.Prelude.{◌≡◌, ◌⊎◌, ◌<◌, ◌≤◌, length, [], ℕ, List, OnOk, IfOk, IfErr, IfSome};
+ghost use Rattle.std.specs.Prelude.{◌≡◌, ◌⊎◌, ◌<◌, ◌≤◌, length, [], List, OnOk, IfOk, IfErr, IfSome};
 ghost use Rattle.psu_disk.specs.Disk.{LeavesOnly};
 ghost use Rattle.psu_run.specs.Lines.{Brings, IsReadToEnd, Message, ReadsNoFurther, messages};
 ghost use Rattle.psu_messages.specs.ResponseBuffer.{nothing};
