@@ -1,5 +1,7 @@
 //! How much a session holds, executes and waits. Contracts state these as numbers.
 
+use psu_hislip::TRANSMISSION_MOST;
+
 /// How much may be held before a reader waits, in bytes.
 pub(crate) const HELD_BEFORE_WAIT: usize = 1_048_576;
 
@@ -27,7 +29,7 @@ pub(crate) const UNITS_AT_ONCE: u32 = 64;
 
 /// How many units of what a session was sent before its end are tried after that, in all: as many as a transmission has
 /// bytes, so one without macros is executed.
-pub(crate) const UNITS_AFTER_END: u32 = 65_536;
+pub(crate) const UNITS_AFTER_END: u32 = TRANSMISSION_MOST as u32;
 
 /// The time that a release waits for a message, in milliseconds.
 pub(crate) const RELEASE_PATIENCE: u64 = 100;
