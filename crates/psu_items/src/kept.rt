@@ -39,6 +39,7 @@ fn is_there<A: Allocator + Copy>(heads: &[Head<A>], at: usize, entry: &Entry<'_>
 }
 
 // Searches for the head of an item from this place on, and then from the start.
+#[cold]
 #[inline(never)]
 fn find<A: Allocator + Copy>(heads: &[Head<A>], from: usize, entry: &Entry<'_>) -> Option<usize>
     ensures head { IfSome result (HasHead heads.now (item_in entry.now)) }

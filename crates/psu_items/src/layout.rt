@@ -64,6 +64,7 @@ pub(crate) fn lay_out<D: Disk, A: Allocator + Copy>(
 }
 
 // Adds a slot for each item, in the order of keys.
+#[inline(never)]
 fn fill<D: Disk, A: Allocator + Copy>(
     alloc: A,
     pages: &mut Pages<D, A>,
@@ -125,6 +126,7 @@ fn slot_for<D: Disk, A: Allocator + Copy>(
 }
 
 // Appends a slot.
+#[inline(always)]
 fn add<A: Allocator + Copy>(layout: &mut Layout<A>, slot: Slot<A>)
     requires there { AllByRecursion (λ place. place < length layout.old.heads.items) layout.old.unwritten.items }
     requires heads_room { vec_len layout.old.heads < vec_capacity layout.old.heads }
@@ -143,6 +145,7 @@ fn add<A: Allocator + Copy>(layout: &mut Layout<A>, slot: Slot<A>)
 }
 
 // Appends a head.
+#[inline(always)]
 fn add_head<A: Allocator + Copy>(heads: &mut Vec<Head<A>, A>, head: Head<A>)
     requires { vec_len heads.old < vec_capacity heads.old }
     ensures items { heads.new.items ≡ heads.old.items ++ head ∷ [] }

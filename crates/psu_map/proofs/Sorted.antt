@@ -6,8 +6,7 @@ use Rattle.std.proofs.lemmas.Cmp.{nat_list_cmp_total}
 use Rattle.psu_map.proofs.Lists.{all_at}
 use Rattle.psu_map.specs.Map.{Item, item_of, get, put, without, Before, IsSorted, Sets}
 use Rattle.psu_map.specs.Place.{key_at, IsPlace, IsAt, IsGap}
-use Rattle.std.specs.Str.{bytes_eq}
-use Rattle.psu_map.proofs.Keys.{other_key, same_key, same_true, before_not_same, after_not_same, turned, is_lt-before, is_lt-not_before}
+use Rattle.psu_map.proofs.Keys.{other_key, same_true, before_not_same, after_not_same, turned, is_lt-before, is_lt-not_before}
 use Rattle.psu_map.proofs.Maps.{all_after, get_before, get-put, sorted-put, sorted-without}
 
 -- of two indices the smaller one has the smaller key
@@ -50,7 +49,7 @@ key_of_place (x ∷ items) zero d lt = refl
 key_of_place (x ∷ items) (suc at) d lt = key_of_place items at d (omega (arith, lt))
 
 -- an item that has the key is at the key's index
-at_key : (items : List Item) (key : List ℕ) (at : ℕ) → IsSorted items → at < length items → key_at items at ≡ key → IsAt items key at
+pub at_key : (items : List Item) (key : List ℕ) (at : ℕ) → IsSorted items → at < length items → key_at items at ≡ key → IsAt items key at
 at_key items key at sorted within same = record {
   place = record {
     bound = omega (arith, within);

@@ -3,7 +3,7 @@ ghost use Rattle.std.specs.Prelude.{◌≡◌, ◌<◌, length, map, IfOk, IfErr
 ghost use Rattle.psu_map.specs.Map.{Item, get, IsSorted};
 ghost use Rattle.std.specs.Ordering.{nat_cmp};
 ghost use Rattle.std.specs.Cmp.Lexicographic.{slice_cmp};
-ghost use Rattle.psu_map.specs.Place.{key_at, IsPlace, IsAt, IsGap};
+ghost use Rattle.psu_map.specs.Place.{key_at, IsAt, IsGap};
 
 use crate::{Pair, same_key};
 use std::alloc::Allocator;
@@ -99,35 +99,13 @@ pub(crate) fn search<A: Allocator + Copy>(pairs: &[Pair<A>], key: &[u8]) -> Resu
     find(pairs, key)
 }
 
-/// Returns the index of the key among elements in order, or the index at which it would be inserted.
-#[tactic(auto, using(crate::proofs::Keys::same_by_order, crate::proofs::Keys::other_by_order))]
+/// Returns the index of the key among elements in order, or the index at which it would be inserted. It is a binary
+/// search.
+#[tactic(auto, using(crate::proofs::Keys::other_by_order))]
 pub(crate) fn find<T: Keyed>(things: &[T], key: &[u8]) -> Result<usize, usize>
     requires { IsSorted (map T.item things.now) }
     ensures found { IfOk result (IsAt (map T.item things.now) key.now) }
     ensures absent { IfErr result (IsGap (map T.item things.now) key.now) }
-{
-    let at = place(things, key);
-    if at >= things.len() {
-        return Err(at);
-    }
-    match order(things, at, key) {
-        Ordering::Equal => Ok(at),
-        Ordering::Less | Ordering::Greater => Err(at),
-    }
-}
-
-// Compares the key of an element with a key.
-fn order<T: Keyed>(things: &[T], at: usize, key: &[u8]) -> Ordering
-    requires { at < length things.now }
-    ensures { result ≡ slice_cmp nat_cmp (key_at (map T.item things.now) at) key.now }
-{
-    things[at].its_key().cmp(key)
-}
-
-// Returns how many elements have a smaller key, found by binary search.
-fn place<T: Keyed>(things: &[T], key: &[u8]) -> usize
-    requires { IsSorted (map T.item things.now) }
-    ensures { IsPlace (map T.item things.now) key.now result }
 {
     let mut low = 0;
     let mut high = things.len();
@@ -135,8 +113,28 @@ fn place<T: Keyed>(things: &[T], key: &[u8]) -> usize
         let middle = low + (high - low) / 2;
         match order(things, middle, key) {
             Ordering::Less => low = middle + 1,
-            Ordering::Equal | Ordering::Greater => high = middle,
+            Ordering::Equal => return Ok(middle),
+            Ordering::Greater => high = middle,
         }
     }
-    low
+    Err(low)
+}
+
+// Compares the key of an element with a key.
+fn order<T: Keyed>(things: &[T], at: usize, key: &[u8]) -> Ordering
+    requires { at < length things.now }
+    ensures { result ≡ slice_cmp nat_cmp (key_at (map T.item things.now) at) key.now }
+{
+    key_order(things[at].its_key(), key)
+}
+
+// Compares two keys. Most are those of registers, of two bytes.
+#[inline(always)]
+fn key_order(one: &[u8], other: &[u8]) -> Ordering
+    ensures { result ≡ slice_cmp nat_cmp one.now other.now }
+{
+    match (one, other) {
+        ([a, b], [c, d]) => a.cmp(c).then(b.cmp(d)),
+        _ => one.cmp(other),
+    }
 }

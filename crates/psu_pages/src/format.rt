@@ -10,6 +10,7 @@ ghost use Rattle.psu_pages.specs.declared.root.Root.TheVariants.{First, Second};
 ghost use Rattle.psu_pages.specs.declared.standing.Standing.TheVariants.{One};
 
 use crate::gates::{GATE_CLOSED, GATE_OPEN, set_gate, write_contents};
+use crate::page::Page;
 use crate::pool::pool;
 use crate::root_page::spell_root;
 use crate::version::VERSION;
@@ -64,7 +65,8 @@ impl<D: Disk, A: Allocator + Copy> Pages<D, A> {
             });
         };
         let heads = Vec::new(alloc);
-        let page = spell_root(limit, 1, &heads);
+        let mut page = Page::new();
+        spell_root(&mut page, limit, 1, &heads);
         match lay_out(&mut disk, page.after_gate()) {
             Ok(()) => Ok(Pages {
                 disk,

@@ -12,6 +12,8 @@ impl<D: Disk, A: Allocator + Copy> Pages<D, A> {
     ghost use Rattle.psu_pages.specs.Outcome.{IsPlanned, HasPlanned, HasSameRoots, pages_for};
 
     /// Claims pages for an item with this key and a value of so many bytes. Makes no call of the disk.
+    #[cold]
+    #[inline(never)]
     pub fn plan(&mut self, alloc: A, key: &[u8], size: u32) -> Result<Head<A>, PageFault>
         requires key_least { 1 ≤ length key.now }
         requires key_most { length key.now ≤ 65 }

@@ -14,6 +14,7 @@ ghost use Rattle.psu_pages.specs.declared.standing.Standing.TheVariants.{One, Bo
 
 use crate::gates::{GATE_CLOSED, set_gate};
 use crate::hand_over::hand_over;
+use crate::page::Page;
 use crate::root_page::spell_root;
 use crate::switch::switch;
 use crate::version::VERSION;
@@ -83,7 +84,8 @@ impl<D: Disk, A: Allocator + Copy> Pages<D, A> {
             (Reaches (SameBut (gate_at (other self.old.root)) 512) (IsCrashImage (D.state self.old.disk))) }
     {
         let next = self.root.other();
-        let page = spell_root(self.limit, self.number + 1, &heads);
+        let mut page = Page::new();
+        spell_root(&mut page, self.limit, self.number + 1, &heads);
         self.standing = Standing::Unsure;
         switch(&mut self.disk, next, page.after_gate())?;
         self.root = next;

@@ -1,5 +1,5 @@
 //! Encoding a root as its page.
-ghost use Rattle.std.specs.Prelude.{◌≡◌, ◌+◌, ◌*◌, ◌≤◌, ◌∷◌, ◌++◌, length};
+ghost use Rattle.std.specs.Prelude.{◌≡◌, ◌+◌, ◌*◌, ◌≤◌, [], ◌∷◌, ◌++◌, length};
 ghost use Rattle.psu_pages.specs.Spelling.{root_contents, names, spelled_words};
 
 use crate::Head;
@@ -8,20 +8,24 @@ use crate::page::Page;
 use crate::version::VERSION;
 use std::alloc::Allocator;
 
-/// Returns the page of a root that names these heads, its gate closed.
-pub(crate) fn spell_root<A: Allocator + Copy>(limit: u16, number: u64, heads: &[Head<A>]) -> Page
-    requires { length heads.now ≤ 240 }
-    ensures { result ≡ 0 ∷ root_contents limit number (names heads.now) }
+/// Encodes a root that names these heads, its gate closed, on an empty page.
+pub(crate) fn spell_root<A: Allocator + Copy>(
+    page: &mut Page,
+    limit: u16,
+    number: u64,
+    heads: &[Head<A>],
+)
+    requires empty { page.old ≡ [] }
+    requires heads { length heads.now ≤ 240 }
+    ensures { page.new ≡ 0 ∷ root_contents limit number (names heads.now) }
 {
-    let mut page = Page::new();
     page.add(&[GATE_CLOSED]);
     page.add(b"PSU");
     page.add(&VERSION.to_be_bytes());
     page.add(&limit.to_be_bytes());
     page.add(&number.to_be_bytes());
     page.add(&(heads.len() as u16).to_be_bytes());
-    add_names(&mut page, heads);
-    page
+    add_names(page, heads);
 }
 
 // Appends the page numbers of heads to a page.

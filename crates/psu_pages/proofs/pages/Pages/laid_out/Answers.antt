@@ -13,7 +13,7 @@ use Rattle.psu_pages.proofs.pages.Pages.laid_out.Goals as goal
 
 contents : (g : Over) (c : In-Ok-lay_out g) → c.after_gate.result.now ≡ filled 511 (root_contents c.args.limit 1 [])
 contents g c =
-    let page = c.spell_root-page.ensures ∙ ap (λ (hs : List Head). 0 ∷ root_contents c.args.limit 1 (names hs)) (c.deref.ensures.value ∙ c.new-heads.ensures.items) in
+    let page = c.spell_root.ensures ∙ ap (λ (hs : List Head). 0 ∷ root_contents c.args.limit 1 (names hs)) (c.deref.ensures.value ∙ c.new-heads.ensures.items) in
     c.after_gate.ensures.value ∙ ap (λ (b : List ℕ). drop 1 (filled 512 b)) page ∙ contents_filled (root_contents c.args.limit 1 [])
 
 encoded : (g : Over) (c : In-Ok-lay_out g) → g.D.Disk.honest → EachEncodes (g.D.Disk.state c.lay_out.new.disk) First 2 c.args.limit 1 [] []

@@ -16,7 +16,7 @@ contents : (g : Over) (c : After-switch g) → let p = c.args.self.now in c.afte
 contents g c =
     let p = c.args.self.now in
     c.after_gate.ensures.value
-    ∙ ap (λ (b : List ℕ). drop 1 (filled 512 b)) (c.spell_root-page.ensures ∙ ap (λ (hs : List Head). 0 ∷ root_contents p.limit (p.number + 1) (names hs)) c.deref.ensures.value)
+    ∙ ap (λ (b : List ℕ). drop 1 (filled 512 b)) (c.spell_root.ensures ∙ ap (λ (hs : List Head). 0 ∷ root_contents p.limit (p.number + 1) (names hs)) c.deref.ensures.value)
     ∙ contents_filled (root_contents p.limit (p.number + 1) (names c.args.heads.items))
 
 ready : (g : Over) (c : After-switch g) → g.D.Disk.honest
