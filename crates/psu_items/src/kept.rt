@@ -38,7 +38,8 @@ fn is_there<A: Allocator + Copy>(heads: &[Head<A>], at: usize, entry: &Entry<'_>
     at < heads.len() && is_of(heads, at, entry)
 }
 
-// Searches for the head of an item from this place on, and then from the start.
+// Searches for the head of an item from this place on, and then from the start. Rarely called, and out of line: the
+// loop over all items, which calls it, keeps its values in registers.
 #[cold]
 #[inline(never)]
 fn find<A: Allocator + Copy>(heads: &[Head<A>], from: usize, entry: &Entry<'_>) -> Option<usize>

@@ -63,7 +63,8 @@ pub(crate) fn lay_out<D: Disk, A: Allocator + Copy>(
     }
 }
 
-// Adds a slot for each item, in the order of keys.
+// Adds a slot for each item, in the order of keys. A function of its own, so that its loop keeps its values in
+// registers.
 #[inline(never)]
 fn fill<D: Disk, A: Allocator + Copy>(
     alloc: A,

@@ -12,6 +12,7 @@ impl<D: Disk, A: Allocator + Copy> Pages<D, A> {
     ghost use Rattle.psu_pages.specs.Outcome.{IsPlanned, HasPlanned, HasSameRoots, pages_for};
 
     /// Claims pages for an item with this key and a value of so many bytes. Makes no call of the disk.
+    // Rarely called, and out of line: the loop over all items of a commit keeps its values in registers.
     #[cold]
     #[inline(never)]
     pub fn plan(&mut self, alloc: A, key: &[u8], size: u32) -> Result<Head<A>, PageFault>
