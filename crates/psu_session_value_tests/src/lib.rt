@@ -1,11 +1,13 @@
-//! Tests of sessions as values over one device in memory: clients' messages, and the frames that are then to be sent.
-//! Expected frames are worked by hand from IVI-6.1 and IEEE 488.2.
+//! Tests of sessions as values over one device in memory: clients' messages, and the frames that are then to be sent;
+//! and of the engine of messages below them. Expected frames are worked by hand from IVI-6.1 and IEEE 488.2.
 #![tactic(auto)]
 
 #[cfg(test)]
 mod clears;
 #[cfg(test)]
 mod ending;
+#[cfg(test)]
+mod engine;
 #[cfg(test)]
 mod faults;
 #[cfg(test)]
