@@ -17,19 +17,26 @@ pub(crate) fn left_of_second(since: Option<u64>, now: u64) -> u64
     }
 }
 
-/// When a store that broke is opened again: a second after it broke and no sooner, whatever sessions ask for meanwhile.
+/// When a store that broke is opened again: one that broke within a second of its reopening a second after that, and
+/// any other at once.
 #[derive(Clone, Copy, Debug, PartialEq, Eq)]
 pub struct Reopenings {
-    // When the store broke last, in milliseconds.
+    // When the store was opened again, in milliseconds.
+    reopened: Option<u64>,
+    // When it broke within a second of that.
     broken: Option<u64>,
 }
 
 impl Reopenings {
-    /// Returns that the store never broke.
+    /// Returns that the store was never opened again.
     pub fn new() -> Reopenings
-        ensures { result.broken ≡ None }
+        ensures reopened { result.reopened ≡ None }
+        ensures broken { result.broken ≡ None }
     {
-        Reopenings { broken: None }
+        Reopenings {
+            reopened: None,
+            broken: None,
+        }
     }
 
     /// Notes how a job ended at this time.
@@ -37,12 +44,18 @@ impl Reopenings {
         ensures { self.new ≡ after_job self.old ending now }
     {
         match ending {
-            JobEnding::Broken => self.broken = Some(now),
-            JobEnding::Stored | JobEnding::Reopened | JobEnding::Worn | JobEnding::OutOfMemory => {}
+            JobEnding::Reopened => self.reopened = Some(now),
+            JobEnding::Broken => {
+                if left_of_second(self.reopened, now) > 0 {
+                    self.broken = Some(now);
+                }
+            }
+            JobEnding::Stored | JobEnding::Worn | JobEnding::OutOfMemory => {}
         }
     }
 
-    /// Returns how many milliseconds it is until a job may be run: 0 where the store never broke, or broke a second ago.
+    /// Returns how many milliseconds it is until a job may be run: 0 where the store did not break within a second of
+    /// its reopening, or that was a second ago.
     pub fn time_left(&self, now: u64) -> u64
         ensures { result ≡ left_of_second self.now.broken now }
     {

@@ -26,16 +26,14 @@ const LINES: &str = "
 // At this time in milliseconds, what the store does, if anything, and how long its next job is then put off.
 const REOPENINGS: &str = "
 0 - -> 0
-1 breaks -> 1000
-2 - -> 999
-1000 - -> 1
-1001 reopens -> 0
+1 breaks -> 0
+5 reopens -> 0
 1004 breaks -> 1000
+1005 - -> 999
 2003 - -> 1
-2004 breaks -> 1000
-3004 reopens -> 0
-9000 breaks -> 1000
-10000 - -> 0
+2004 breaks -> 0
+2005 reopens -> 0
+3005 breaks -> 0
 ";
 
 // The condition of this name, if it is one.
@@ -89,7 +87,7 @@ fn a_line_a_second_is_due(rt: HostRuntime) {
 }
 
 #[test]
-fn a_store_that_breaks_is_opened_after_a_second(rt: HostRuntime) {
+fn a_store_that_breaks_again_is_opened_after_a_second(rt: HostRuntime) {
     let mut reopenings = Reopenings::new();
     for line in REOPENINGS.trim().lines() {
         let put_off = is_put_off(&mut reopenings, line);

@@ -14,16 +14,15 @@ use psu_exec::NoJob;
 use std::rt::Clock;
 use std::sync::Wait;
 
-/// How long the flusher waits after a job that could not be begun, in milliseconds, unless others have something to be
+/// How long the flusher waits after a job that did not go well, in milliseconds, unless others have something to be
 /// flushed before.
 const RETRY_PAUSE: u64 = 1000;
 
-// Returns how long the flusher sleeps at most after a job, in milliseconds. When a store that broke is opened again,
-// `Reopenings` tells.
+// Returns how long the flusher sleeps at most after a job, in milliseconds.
 fn pause_after(ending: JobEnding) -> u64 {
     match ending {
-        JobEnding::Stored | JobEnding::Reopened | JobEnding::Broken => 0,
-        JobEnding::Worn | JobEnding::OutOfMemory => RETRY_PAUSE,
+        JobEnding::Stored | JobEnding::Reopened => 0,
+        JobEnding::Broken | JobEnding::Worn | JobEnding::OutOfMemory => RETRY_PAUSE,
     }
 }
 
@@ -112,8 +111,8 @@ impl<'a, 'b, D: ServedDisk> Flusher<'a, 'b, D> {
         }
     }
 
-    // Makes a round, unless at this time the store broke less than a second ago. Returns as `round` does, or how long it
-    // is until one may be made.
+    // Makes a round, unless at this time the store broke less than a second ago, within a second of its reopening. Returns
+    // as `round` does, or how long it is until one may be made.
     fn round_at<R: Wait + Clock>(&mut self, rt: &R, now: u64) -> Option<u64>
         ensures put_off { 0 < left_of_second self.old.reopenings.broken now → self.new.caller ≡ self.old.caller }
         ensures calls { left_of_second self.old.reopenings.broken now ≡ 0
