@@ -1,10 +1,10 @@
 //! The credit of a session counts only what it holds at the time: more than that in total, one part after another, is
 //! accepted.
+use crate::ground::allocated;
 use crate::server::new_served;
 use psu_client::{Client, Missed, bare, expect_header, header, joined_as, repeated, send};
 use psu_server::Open;
 use std::alloc::{AllocError, Global};
-use std::test::Fail;
 
 // Returns a transmission of 65,520 bytes that has no query.
 fn long(alloc: Global) -> Result<Vec<u8>, AllocError> {
@@ -27,11 +27,11 @@ fn waits_after_query(holder: &mut Client, other: &mut Client, long: &[u8]) -> Re
 
 // Two mebibytes in all.
 #[test]
-fn what_was_executed_is_held_no_more(rt: HostRuntime) -> Result<(), Fail> {
+fn what_was_executed_is_held_no_more(rt: HostRuntime) -> Result<(), Missed> {
     let port = new_served(rt, rt.alloc(), "held_no_more.image", Open)?;
     let mut one = joined_as(&rt, port, 1)?;
     let mut two = joined_as(&rt, port, 2)?;
-    let long = long(rt.alloc())?;
+    let long = allocated(long(rt.alloc()))?;
     for _ in 0..4u32 {
         waits_after_query(&mut one, &mut two, long.as_slice())?;
     }
@@ -49,10 +49,10 @@ fn releases(client: &mut Client, frames: &[u8]) -> Result<(), Missed> {
 
 // Ten thousand in all.
 #[test]
-fn what_was_answered_is_owed_no_more(rt: HostRuntime) -> Result<(), Fail> {
+fn what_was_answered_is_owed_no_more(rt: HostRuntime) -> Result<(), Missed> {
     let port = new_served(rt, rt.alloc(), "owed_no_more.image", Open)?;
     let mut one = joined_as(&rt, port, 1)?;
-    let frames = repeated(rt.alloc(), &header(4, 0, one.last, 0), 100)?;
+    let frames = allocated(repeated(rt.alloc(), &header(4, 0, one.last, 0), 100))?;
     for _ in 0..100u32 {
         releases(&mut one, frames.as_slice())?;
     }

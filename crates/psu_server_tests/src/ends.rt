@@ -1,10 +1,10 @@
 //! Sessions that end, and connections that begin too slowly.
+use crate::ground::allocated;
 use crate::play::{Mismatch, plays};
 use crate::server::new_served;
 use psu_client::{Client, Missed, is_ended, joined_again, joined_as, repeated, settle};
 use psu_server::Open;
 use std::alloc::Global;
-use std::test::Fail;
 
 const ENDS: &str = "
 # A session begins to wait for the flusher, and ends: it ends at once, and the next of its number gets nothing of the wait.
@@ -110,16 +110,16 @@ fn says_and_goes(mut client: Client, text: &[u8]) -> Result<u8, Missed> {
 
 // Messages sent before the end are executed.
 #[test]
-fn what_was_said_before_the_end_is_done(rt: HostRuntime) -> Result<(), Fail> {
+fn what_was_said_before_the_end_is_done(rt: HostRuntime) -> Result<(), Missed> {
     let alloc = rt.alloc();
     let port = new_served(rt, alloc, "last_words.image", Open)?;
     let mut one = joined_as(&rt, port, 1)?;
     for volts in 1..=30u32 {
         let client = joined_again(&rt, port, 2)?;
-        let text = format!(in alloc; "VOLT 1;VOLT 2;VOLT {volts}")?;
+        let text = allocated(format!(in alloc; "VOLT 1;VOLT 2;VOLT {volts}"))?;
         says_and_goes(client, text.as_bytes())?;
         drop(joined_again(&rt, port, 2)?);
-        let answer = format!(in alloc; "{volts}.000\n")?;
+        let answer = allocated(format!(in alloc; "{volts}.000\n"))?;
         one.ask(b"VOLT?", answer.as_bytes())?;
     }
     Ok(())

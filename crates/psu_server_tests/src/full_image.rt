@@ -6,7 +6,8 @@ use crate::server::{formatted, removed, served};
 use psu_client::{Client, Missed, joined_as};
 use psu_server::Point;
 use std::alloc::Global;
-use std::test::Fail;
+use std::fs::File;
+use std::rt::Files;
 
 const IMAGE: &str = "full.image";
 
@@ -75,9 +76,20 @@ fn is_full(client: &mut Client, alloc: Global) -> Result<(), Missed> {
     client.ask(b"*RST;*RCL 99;VOLT?", b"1.000\n")
 }
 
+// The report on the image has all files.
+fn has_report<R: Files<File = File> + Alloc<A = Global>>(
+    rt: &R,
+    alloc: Global,
+) -> Result<(), Missed> {
+    match listed(alloc, REPORT, FILES, ["file F", ",BIN,1\n"]) {
+        Some(report) => is_reported(rt, IMAGE, report.as_str()),
+        None => Err(Missed::Ground("memory")),
+    }
+}
+
 // The first job has the first save, and is held until all other changes are made, so that there are two.
 #[test]
-fn an_image_of_the_greatest_limit_is_filled(rt: HostRuntime) -> Result<(), Fail> {
+fn an_image_of_the_greatest_limit_is_filled(rt: HostRuntime) -> Result<(), Missed> {
     let alloc = rt.alloc();
     let hold = Hold::new(rt, alloc, Some(Point::BeforeRun))?;
     formatted(&rt, alloc, IMAGE, LIMIT)?;
@@ -88,8 +100,7 @@ fn an_image_of_the_greatest_limit_is_filled(rt: HostRuntime) -> Result<(), Fail>
     fills(&mut one, alloc)?;
     hold.release()?;
     is_full(&mut one, alloc)?;
-    let report = listed(alloc, REPORT, FILES, ["file F", ",BIN,1\n"]).expect(&rt, "memory");
-    is_reported(&rt, IMAGE, report.as_str())?;
+    has_report(&rt, alloc)?;
     removed(&rt, IMAGE);
     Ok(())
 }

@@ -1,7 +1,8 @@
 //! A gate that blocks the flusher until a client releases it.
+use crate::ground::allocated;
 use psu_client::{Missed, holds};
 use psu_server::{Gate, Point};
-use std::alloc::{AllocError, Global};
+use std::alloc::Global;
 use std::sync::Arc;
 use std::sync::atomic::{AtomicBool, Ordering};
 use std::thread;
@@ -38,22 +39,22 @@ fn came_true<R: Clock>(rt: &R, flag: &AtomicBool) -> bool {
 
 impl<R: Clock + Copy> Hold<R> {
     /// Returns a gate that blocks at this point, or at none.
-    pub(crate) fn new(rt: R, alloc: Global, point: Option<Point>) -> Result<Hold<R>, AllocError> {
+    pub(crate) fn new(rt: R, alloc: Global, point: Option<Point>) -> Result<Hold<R>, Missed> {
         let state = State {
             is_at_point: AtomicBool::new(false),
             is_released: AtomicBool::new(false),
             has_timed_out: AtomicBool::new(false),
         };
-        let state = Arc::new(alloc, state)?;
+        let state = allocated(Arc::new(alloc, state))?;
         Ok(Hold { rt, point, state })
     }
 
     /// Returns another handle to this gate, for the server.
-    pub(crate) fn another(&self) -> Result<Hold<R>, AllocError> {
+    pub(crate) fn another(&self) -> Result<Hold<R>, Missed> {
         Ok(Hold {
             rt: self.rt,
             point: self.point,
-            state: Arc::try_clone(&self.state)?,
+            state: allocated(Arc::try_clone(&self.state))?,
         })
     }
 

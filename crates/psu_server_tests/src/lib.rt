@@ -20,6 +20,8 @@ mod frames;
 #[cfg(test)]
 mod full_image;
 #[cfg(test)]
+mod ground;
+#[cfg(test)]
 mod hold;
 #[cfg(test)]
 mod images;

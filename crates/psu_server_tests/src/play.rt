@@ -87,12 +87,8 @@ where
     let Some(heading) = heading_of(line) else {
         return Err(Missed::Ground("a heading"));
     };
-    let Ok(hold) = Hold::new(rt, alloc, heading.point) else {
-        return Err(Missed::Ground("memory"));
-    };
-    let Ok(gate) = hold.another() else {
-        return Err(Missed::Ground("memory"));
-    };
+    let hold = Hold::new(rt, alloc, heading.point)?;
+    let gate = hold.another()?;
     formatted(&rt, alloc, heading.image, heading.limit)?;
     let port = served(rt, alloc, heading.image, gate)?;
     Ok(Stage {

@@ -11,7 +11,6 @@ use std::io::{Eprint, Print};
 use std::net::{Net, TcpListener, TcpStream};
 use std::rt::{Clock, Files};
 use std::sync::Wait;
-use std::test::Fail;
 use std::thread::Threads;
 
 const IMAGE: &str = "older_gate.image";
@@ -72,7 +71,7 @@ where
 
 // The port is bound before the image is opened: an image whose older gate is open has the same bytes after it.
 #[test]
-fn a_taken_port_leaves_the_image_as_it_is(rt: HostRuntime) -> Result<(), Fail> {
+fn a_taken_port_leaves_the_image_as_it_is(rt: HostRuntime) -> Result<(), Missed> {
     let (_listener, taken) = listening(&rt)?;
     let before = with_older_gate(&rt, IMAGE)?;
     ends_with(rt, IMAGE, taken, ServeFault::Network)?;
@@ -84,11 +83,11 @@ fn a_taken_port_leaves_the_image_as_it_is(rt: HostRuntime) -> Result<(), Fail> {
 
 // An image that is in use, and one that is missing, are reported only where the port is free.
 #[test]
-fn an_image_is_reported_where_the_port_is_free(rt: HostRuntime) -> Result<(), Fail> {
+fn an_image_is_reported_where_the_port_is_free(rt: HostRuntime) -> Result<(), Missed> {
     let (_listener, taken) = listening(&rt)?;
     formatted(&rt, rt.alloc(), USED, IMAGE_LIMIT)?;
     let Ok(_disk) = FileDisk::of(&mut OsFiles { files: &rt }, rt.alloc(), USED) else {
-        return Err(Fail::from("an image"));
+        return Err(Missed::Ground("an image"));
     };
     ends_with(rt, USED, taken, ServeFault::Network)?;
     ends_with(rt, USED, ANY, ServeFault::File(OpenFault::NotOpened))?;

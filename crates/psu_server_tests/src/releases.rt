@@ -1,10 +1,11 @@
 //! Releases of locks and the messages sent before them, on two connections.
+use crate::ground::{allocated, now, since};
 use crate::server::new_served;
 use psu_client::{Client, Missed, bare, holds, joined_as, next, send};
 use psu_server::Open;
 use std::alloc::Global;
 use std::mem;
-use std::time::{Clock, Duration, Instant};
+use std::time::{Clock, Duration};
 
 /// The number of a message after one that `ask` sends.
 const NEXT: u32 = 0xffff_ff02;
@@ -27,12 +28,8 @@ fn hands_on(
 fn hands_round(one: &mut Client, two: &mut Client, alloc: Global) -> Result<(), Missed> {
     let (mut holder, mut other) = (one, two);
     for volts in 1..=300u32 {
-        let (Ok(text), Ok(answer)) = (
-            format!(in alloc; "VOLT {}", volts % 60),
-            format!(in alloc; "{}.000\n", volts % 60),
-        ) else {
-            return Err(Missed::Ground("memory"));
-        };
+        let text = allocated(format!(in alloc; "VOLT {}", volts % 60))?;
+        let answer = allocated(format!(in alloc; "{}.000\n", volts % 60))?;
         hands_on(holder, other, text.as_bytes(), answer.as_bytes())?;
         mem::swap(&mut holder, &mut other);
     }
@@ -54,12 +51,10 @@ fn a_release_comes_after_what_was_written(rt: HostRuntime) -> Result<(), Missed>
 
 // Returns how long a release takes.
 fn taken<R: Clock>(rt: &R, client: &mut Client, number: u32) -> Result<Duration, Missed> {
-    let Ok(start) = Instant::now(rt) else {
-        return Err(Missed::Ground("a clock"));
-    };
+    let start = now(rt)?;
     client.request_release(number)?;
     client.expect_lock_response(1)?;
-    start.elapsed(rt).map_err(|_| Missed::Ground("a clock"))
+    since(rt, start)
 }
 
 // A release waits a tenth of a second for a message that never comes.
@@ -131,17 +126,12 @@ fn is_released_in_a_clear(client: &mut Client) -> Result<(), Missed> {
 fn ends_with_a_clear<R: Clock>(rt: &R, client: &mut Client) -> Result<(), Missed> {
     for _ in 0..10u32 {
         client.lock()?;
-        let Ok(start) = Instant::now(rt) else {
-            return Err(Missed::Ground("a clock"));
-        };
+        let start = now(rt)?;
         client.request_release(NEXT)?;
         send(&mut client.other, &bare(19, 0))?;
         is_released_in_a_clear(client)?;
         client.end_clear()?;
-        if start
-            .elapsed(rt)
-            .is_ok_and(|taken| taken < Duration::from_millis(99))
-        {
+        if since(rt, start)? < Duration::from_millis(99) {
             return Ok(());
         }
         client.is_served()?;

@@ -1,11 +1,11 @@
 //! Two units wait for room while there is room for one; the other takes the last room that is made.
+use crate::ground::allocated;
 use crate::server::new_served;
 use psu_client::{Client, Missed, holds, is_silent, joined_as};
 use psu_server::{Gate, Point};
-use std::alloc::{AllocError, Global};
+use std::alloc::Global;
 use std::sync::Arc;
 use std::sync::atomic::{AtomicBool, AtomicUsize, Ordering};
-use std::test::Fail;
 use std::thread;
 use std::time::{Clock, Duration};
 
@@ -29,20 +29,20 @@ struct Rush<R: Drop> {
 }
 
 impl<R: Clock + Copy> Rush<R> {
-    fn new(rt: R, alloc: Global) -> Result<Rush<R>, AllocError> {
+    fn new(rt: R, alloc: Global) -> Result<Rush<R>, Missed> {
         let state = State {
             runs: AtomicUsize::new(0),
             is_let_go: AtomicBool::new(false),
             tries: AtomicUsize::new(0),
         };
-        let state = Arc::new(alloc, state)?;
+        let state = allocated(Arc::new(alloc, state))?;
         Ok(Rush { rt, state })
     }
 
-    fn another(&self) -> Result<Rush<R>, AllocError> {
+    fn another(&self) -> Result<Rush<R>, Missed> {
         Ok(Rush {
             rt: self.rt,
-            state: Arc::try_clone(&self.state)?,
+            state: allocated(Arc::try_clone(&self.state))?,
         })
     }
 
@@ -126,7 +126,7 @@ fn waits_for_room(client: &mut Client) -> Result<(), Missed> {
 
 // Both are executed, though no wakeup follows the last room that was made.
 #[test]
-fn two_saves_wait_for_one_room(rt: HostRuntime) -> Result<(), Fail> {
+fn two_saves_wait_for_one_room(rt: HostRuntime) -> Result<(), Missed> {
     let rush = Rush::new(rt, rt.alloc())?;
     let port = new_served(rt, rt.alloc(), "one_room.image", rush.another()?)?;
     let mut one = joined_as(&rt, port, 1)?;

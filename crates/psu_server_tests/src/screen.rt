@@ -1,6 +1,7 @@
 //! Standard error, as a test reads it.
+use crate::ground::allocated;
 use psu_client::{Missed, holds};
-use std::alloc::{AllocError, Global};
+use std::alloc::Global;
 use std::fmt::Display;
 use std::io::{self, Eprint};
 use std::sync::atomic::{AtomicBool, Ordering};
@@ -22,9 +23,9 @@ pub(crate) struct Screen<R: Drop> {
 
 impl<R: Wait + Clock + Copy> Screen<R> {
     /// Returns standard error with no text yet, which accepts what is written.
-    pub(crate) fn new(rt: R, alloc: Global) -> Result<Screen<R>, AllocError> {
-        let text = Arc::new(alloc, Mutex::new(String::new(alloc)))?;
-        let is_full = Arc::new(alloc, AtomicBool::new(false))?;
+    pub(crate) fn new(rt: R, alloc: Global) -> Result<Screen<R>, Missed> {
+        let text = allocated(Arc::new(alloc, Mutex::new(String::new(alloc))))?;
+        let is_full = allocated(Arc::new(alloc, AtomicBool::new(false)))?;
         Ok(Screen {
             rt,
             alloc,
@@ -34,12 +35,12 @@ impl<R: Wait + Clock + Copy> Screen<R> {
     }
 
     /// Returns another handle to the text, for the server.
-    pub(crate) fn another(&self) -> Result<Screen<R>, AllocError> {
+    pub(crate) fn another(&self) -> Result<Screen<R>, Missed> {
         Ok(Screen {
             rt: self.rt,
             alloc: self.alloc,
-            text: Arc::try_clone(&self.text)?,
-            is_full: Arc::try_clone(&self.is_full)?,
+            text: allocated(Arc::try_clone(&self.text))?,
+            is_full: allocated(Arc::try_clone(&self.is_full))?,
         })
     }
 

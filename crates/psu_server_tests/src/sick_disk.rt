@@ -2,8 +2,10 @@
 ghost use Rattle.std.specs.Prelude.{◌≡◌, ◌≤◌};
 ghost use Rattle.psu_disk.specs.Disk.{HasFailed};
 
+use crate::ground::allocated;
+use psu_client::Missed;
 use psu_disk::{Disk, DiskFault};
-use std::alloc::{AllocError, Global};
+use std::alloc::Global;
 use std::sync::Arc;
 use std::sync::atomic::{AtomicBool, AtomicUsize, Ordering};
 
@@ -27,7 +29,7 @@ pub(crate) struct Health {
 
 impl Health {
     /// Returns the state of a disk that accepts writes.
-    pub(crate) fn new(alloc: Global) -> Result<Health, AllocError> {
+    pub(crate) fn new(alloc: Global) -> Result<Health, Missed> {
         let state = State {
             of: AtomicUsize::new(0),
             writes: AtomicUsize::new(0),
@@ -35,14 +37,14 @@ impl Health {
             refused: AtomicUsize::new(0),
         };
         Ok(Health {
-            state: Arc::new(alloc, state)?,
+            state: allocated(Arc::new(alloc, state))?,
         })
     }
 
     /// Returns another handle to the state, for the disk.
-    pub(crate) fn another(&self) -> Result<Health, AllocError> {
+    pub(crate) fn another(&self) -> Result<Health, Missed> {
         Ok(Health {
-            state: Arc::try_clone(&self.state)?,
+            state: allocated(Arc::try_clone(&self.state))?,
         })
     }
 

@@ -1,4 +1,5 @@
 //! Stores that break, are reopened, or are worn: how often the disk is tried, and what is reported on standard error.
+use crate::ground::{allocated, now, since};
 use crate::hold::Hold;
 use crate::screen::Screen;
 use crate::server::{new_disk, served_disk};
@@ -10,7 +11,6 @@ use std::alloc::Global;
 use std::io::Print;
 use std::net::{Net, TcpListener, TcpStream};
 use std::sync::Wait;
-use std::test::Fail;
 use std::thread::{self, Threads};
 use std::time::{Clock, Duration, Instant};
 
@@ -18,7 +18,7 @@ use std::time::{Clock, Duration, Instant};
 const NUMBER: u64 = 8;
 
 // Serves a disk that is well, and opens a session. Returns its health, and standard error.
-fn served_on_sick_disk<R>(rt: R) -> Result<(Health, Screen<R>, Client), Fail>
+fn served_on_sick_disk<R>(rt: R) -> Result<(Health, Screen<R>, Client), Missed>
 where
     R: Net<Listener = TcpListener, Stream = TcpStream>
         + Alloc<A = Global>
@@ -49,10 +49,18 @@ fn is_kept(client: &mut Client) -> Result<(), Missed> {
     client.ask(b"*OPC?", b"1\n")
 }
 
+// By how much some seconds of the server's clock, which counts milliseconds, may be shorter than they are.
+const SLACK: Duration = Duration::from_millis(10);
+
+// Returns how many seconds of the server may have passed since a time.
+fn seconds_since<R: Clock>(rt: &R, begin: Instant) -> Result<u64, Missed> {
+    Ok(since(rt, begin)?.saturating_add(SLACK).as_secs())
+}
+
 // Checks that since the beginning the disk was tried, again at most once, and then once a second and no more often.
-fn is_tried_each_second<R: Clock>(rt: &R, health: &Health, begin: Instant) -> Result<(), Fail> {
+fn is_tried_each_second<R: Clock>(rt: &R, health: &Health, begin: Instant) -> Result<(), Missed> {
     let tries = u64::try_from(health.refused()).unwrap_or(u64::MAX);
-    let seconds = begin.elapsed(rt)?.as_secs();
+    let seconds = seconds_since(rt, begin)?;
     holds(
         tries >= 1 && tries.saturating_sub(2) <= seconds,
         "a try each second",
@@ -64,9 +72,9 @@ fn is_tried_each_second<R: Clock>(rt: &R, health: &Health, begin: Instant) -> Re
 // more often, whatever the client asks for meanwhile; the broken store is reported once. Once the disk accepts writes
 // again, the save is kept without a client's request, and that is reported.
 #[test]
-fn a_full_disk_is_tried_each_second(rt: HostRuntime) -> Result<(), Fail> {
+fn a_full_disk_is_tried_each_second(rt: HostRuntime) -> Result<(), Missed> {
     let (health, screen, mut one) = served_on_sick_disk(rt)?;
-    let begin = Instant::now(&rt)?;
+    let begin = now(&rt)?;
     health.be_sick(true);
     saves(&mut one)?;
     screen.shows_soon("psu: store broken\n")?;
@@ -86,27 +94,27 @@ fn a_full_disk_is_tried_each_second(rt: HostRuntime) -> Result<(), Fail> {
 const OF: usize = 8;
 
 // Saves for three seconds, while the disk fails each second commit. Each message is answered.
-fn saves_on_a_flapping_disk<R: Clock>(rt: &R, client: &mut Client) -> Result<(), Fail> {
-    let begin = Instant::now(rt)?;
+fn saves_on_a_flapping_disk<R: Clock>(rt: &R, client: &mut Client) -> Result<(), Missed> {
+    let begin = now(rt)?;
     for _ in 0..1_000_000u32 {
         saves(client)?;
-        if begin.elapsed(rt)?.as_secs() >= 3 {
+        if since(rt, begin)?.as_secs() >= 3 {
             return Ok(());
         }
     }
-    Err(Fail::from("three seconds"))
+    Err(Missed::Claim("three seconds"))
 }
 
 // A disk that fails each second commit is reported once a second and no more often, with how often the store has
 // changed its condition, and no save waits for it.
 #[test]
-fn a_flapping_disk_is_reported_once_a_second(rt: HostRuntime) -> Result<(), Fail> {
+fn a_flapping_disk_is_reported_once_a_second(rt: HostRuntime) -> Result<(), Missed> {
     let (health, screen, mut one) = served_on_sick_disk(rt)?;
-    let begin = Instant::now(&rt)?;
+    let begin = now(&rt)?;
     health.refuse_one_of(OF);
     saves_on_a_flapping_disk(&rt, &mut one)?;
     let lines = u64::try_from(screen.count()).unwrap_or(u64::MAX);
-    let seconds = begin.elapsed(&rt)?.as_secs();
+    let seconds = seconds_since(&rt, begin)?;
     holds(
         lines >= 2 && lines.saturating_sub(1) <= seconds,
         "a line each second",
@@ -120,7 +128,7 @@ fn a_flapping_disk_is_reported_once_a_second(rt: HostRuntime) -> Result<(), Fail
 // again. Then the latest condition is written. The disk refuses the save after a second too, when the store is opened
 // again, so it is broken for the second after that.
 #[test]
-fn a_line_that_cannot_be_written_holds_nothing_up(rt: HostRuntime) -> Result<(), Fail> {
+fn a_line_that_cannot_be_written_holds_nothing_up(rt: HostRuntime) -> Result<(), Missed> {
     let (health, screen, mut one) = served_on_sick_disk(rt)?;
     screen.be_full(true);
     health.be_sick(true);
@@ -140,12 +148,12 @@ fn a_line_that_cannot_be_written_holds_nothing_up(rt: HostRuntime) -> Result<(),
 
 // A store whose root numbers are used up is reported once.
 #[test]
-fn a_worn_store_is_reported_once(rt: HostRuntime) -> Result<(), Fail> {
+fn a_worn_store_is_reported_once(rt: HostRuntime) -> Result<(), Missed> {
     let alloc = rt.alloc();
     let screen = Screen::new(rt, alloc)?;
     let mut disk = new_disk(alloc)?;
     if disk.size() < NUMBER + 8 || disk.write(NUMBER, &[0xff; 8]).is_err() {
-        return Err(Fail::from("a number"));
+        return Err(Missed::Ground("a number"));
     }
     let port = served_disk(rt, alloc, disk, Open, screen.another()?)?;
     let mut one = joined_as(&rt, port, 1)?;
@@ -180,7 +188,7 @@ fn are_refused(clients: &mut [Client]) -> Result<(), Missed> {
 // and each commit after it breaks the store again. With as many changes accepted as may be unflushed, a save that waits
 // for the job is -320 at its end, and so is each save after it, at once. Once the disk accepts all writes, all is saved.
 #[test]
-fn no_save_waits_for_a_disk_that_refuses_items(rt: HostRuntime) -> Result<(), Fail> {
+fn no_save_waits_for_a_disk_that_refuses_items(rt: HostRuntime) -> Result<(), Missed> {
     let alloc = rt.alloc();
     let health = Health::new(alloc)?;
     let hold = Hold::new(rt, alloc, Some(Point::BeforeRun))?;
@@ -190,7 +198,7 @@ fn no_save_waits_for_a_disk_that_refuses_items(rt: HostRuntime) -> Result<(), Fa
     let mut one = joined_as(&rt, port, 1)?;
     let mut clients = Vec::new(alloc);
     for number in 2..SESSIONS + 2 {
-        clients.push(joined_as(&rt, port, number)?)?;
+        allocated(clients.push(joined_as(&rt, port, number)?))?;
     }
     health.spare_roots();
     health.be_sick(true);
