@@ -1,9 +1,10 @@
 -- Where nothing goes wrong, a unit is executed as the script says.
-use Rattle.std.proofs.Common.{◌≡◌, ◌≢◌, ℕ, ◌≤◌, ◌==◌, true, false, List, [], ◌∷◌, ◌++◌, refl, ap, ◌∙◌, subst, subst₂, inl, inr, arith, Some}
-use Rattle.psu_run.proofs.Common.{Acts, AreCalm, ByMacro, ByMeaning, Called, Commit, DiskAfter, EachRepresents, Early, Entry, Executed, Flush, GaveBack, HasOutcome, HasOutcomeFrom, IsContents, IsFlush, IsJob, IsUnit, Item, Job, JobData, JobEnd, Jobs, Later, MayAnswer, Nothing, Parked, Replies, Reply, Request, Rest, RunStep, Serves, Settled, State, Stored, Took, UnitOutcome, Walks, Whole, World, after_reply, after_settle, committed, flushed, items_of, job_out, nat_tests, settle_answer, settled, target, wait_of, waited, with_flush}
+use Rattle.std.proofs.Common.{◌≡◌, ◌≢◌, ℕ, ◌≤◌, ◌==◌, Bool, true, false, if◌then◌else◌, List, [], ◌∷◌, ◌++◌, refl, sym, ap, ◌∙◌, subst, subst₂, inl, inr, arith, append-nil, Option, Some}
+use Rattle.psu_run.proofs.Common.{Acts, AreCalm, Called, Commit, DiskAfter, EachRepresents, Entry, Executed, Flush, GaveBack, HasOutcome, IsContents, IsFlush, IsJob, IsUnit, Item, Job, JobData, JobEnd, Jobs, Later, MayAnswer, Nothing, Parked, Point, Replies, Reply, Request, RunStep, Serves, Settled, State, Stored, Took, Walks, Whole, World, after_settle, answer_in, answer_meant, called, finished, flushed, is_later, items_of, job_out, nat_tests, replied, settle_answer, settled, target, wait_of, with_flush, with_stored}
 use Rattle.psu_run.specs.Runs.{EndsJob}
 use Rattle.psu_lex.specs.declared.scpi_error.ScpiError.TheVariants.{OutOfMemory}
-use Rattle.psu_exec.specs.Device.{Error, Held, LockedOut, TooEarly, Runs, Expands, Means, after_unit}
+use Rattle.psu_exec.specs.Device.{Error, Held, LockedOut, TooEarly, Runs, Expands, Means, after_unit, here, meant}
+use Rattle.psu_instrument.specs.Meaning.{Meaning}
 use Rattle.psu_exec.proofs.RqsUpdates.{followed_same}
 use Rattle.psu_run.proofs.Readings.{Holds}
 use Rattle.psu_run.proofs.Walking.{calm_split, walks_split}
@@ -33,7 +34,7 @@ serves {s} {w} {new} {entry} same c = by c.walks where
 
 -- The device is in the script's state; its store is whole, and each possible crash image of its disk represents the
 -- contents that the script has stored.
-pub record Still (r : Rest) (w : World) : Type 0 where
+pub record Still (r : Point) (w : World) : Type 0 where
   pub state : w.state ≡ r.state
   pub whole : r.state.flush.store ≡ Whole
   pub kept : IsContents r.stored
@@ -41,19 +42,26 @@ pub record Still (r : Rest) (w : World) : Type 0 where
   pub disk : EachRepresents w.disk r.state.flush.limit (items_of r.stored)
 
 -- after a call that leaves the disk unchanged
-still_on : {r : Rest} {w new : World} → Still r w → (s : State) → new.state ≡ s → new.disk ≡ w.disk → s.flush.store ≡ r.state.flush.store → s.flush.limit ≡ r.state.flush.limit → IsContents s.flush.contents
-    → Still (record r { state = s }) new
-still_on q s state disk store limit sound = record { state = state; whole = store ∙ q.whole; kept = q.kept; sound = sound; disk = rw (disk, limit) q.disk }
+pub still_on : {r : Point} {w new : World} → Still r w → (answers : List (List ℕ)) (s : State) → new.state ≡ s → new.disk ≡ w.disk → s.flush.store ≡ r.state.flush.store → s.flush.limit ≡ r.state.flush.limit → IsContents s.flush.contents
+    → Still (record r { state = s; answers = answers }) new
+still_on q answers s state disk store limit sound = record { state = state; whole = store ∙ q.whole; kept = q.kept; sound = sound; disk = rw (disk, limit) q.disk }
 
 -- ---- flushes
 
+-- once a job for all changes is given back as stored
+abbrev committed : Point → Point
+committed r = record r { state = with_stored (with_flush r.state (job_out r.state.flush)); stored = r.state.flush.contents }
+
+flushed_same : (r : Point) → (flushed r).answers ≡ r.answers
+flushed_same r = grind arith
+
 -- a job that is taken
-pub take_alone : {r : Rest} {w new : World} {job : JobData} → Still r w → Calmly w (Called (Took (Job job)) ∷ []) new
+pub take_alone : {r : Point} {w new : World} {job : JobData} → Still r w → Calmly w (Called (Took (Job job)) ∷ []) new
     → (1 ≤ r.state.flush.unflushed) × (job.kind ≡ Commit) × (new.state ≡ with_flush r.state (job_out r.state.flush))
 take_alone {r} q c = let t = serves q.state c in let whole = q.whole in (grind arith, grind arith, t.0.1)
 
 -- and does not fail
-job_alone : {r : Rest} {w new : World} {steps : List RunStep} → Still r w → IsJob steps → Calmly w steps new → (1 ≤ r.state.flush.unflushed) × Still (committed r) new
+job_alone : {r : Point} {w new : World} {steps : List RunStep} → Still r w → IsJob steps → Calmly w steps new → (1 ≤ r.state.flush.unflushed) × Still (committed r) new
 job_alone {r} {w} {new} q is c =
     let a = parted (Called (Took (Job is.job)) ∷ []) (Called (GaveBack is.finished (Some is.over)) ∷ []) is.are c in
     let t = take_alone q a.1 in (t.0, by is.finished (rw (← t.1) is.own) a.0 t.2 a.2)
@@ -68,16 +76,16 @@ job_alone {r} {w} {new} q is c =
     by finished own taken out give = let good = give.calm.0 in grind arith
 
 -- a take that finds no job
-none_alone : {r : Rest} {w new : World} → Still r w → Calmly w (Called (Took Nothing) ∷ []) new → (r.state.flush.unflushed ≡ 0) × Still r new
-none_alone {r} q c = let t = serves q.state c in let whole = q.whole in (grind arith, still_on q r.state t.0.1 t.1 refl refl q.sound)
+none_alone : {r : Point} {w new : World} → Still r w → Calmly w (Called (Took Nothing) ∷ []) new → (r.state.flush.unflushed ≡ 0) × Still r new
+none_alone {r} q c = let t = serves q.state c in let whole = q.whole in (grind arith, still_on q r.answers r.state t.0.1 t.1 refl refl q.sound)
 
 -- once no change is left
-idle_alone : {r : Rest} {w new : World} {steps : List RunStep} → r.state.flush.unflushed ≡ 0 → Still r w → Jobs 3 steps → Calmly w steps new → Still r new
+idle_alone : {r : Point} {w new : World} {steps : List RunStep} → r.state.flush.unflushed ≡ 0 → Still r w → Jobs 3 steps → Calmly w steps new → Still r new
 idle_alone none q (inl nothing) c = (none_alone q (calmly_as nothing c)).1
 idle_alone none q (inr (job, more, is, rest, all)) c = let some = (job_alone q is (parted job more all c).1).0 in absurd (omega (arith, some, none))
 
 -- one job where changes are left, and otherwise none
-pub flush_alone : {r : Rest} {w new : World} {flush : List RunStep} → Still r w → IsFlush flush → Calmly w flush new → Still (flushed r) new
+pub flush_alone : {r : Point} {w new : World} {flush : List RunStep} → Still r w → IsFlush flush → Calmly w flush new → Still (flushed r) new
 flush_alone {r} {w} {new} q (inl nothing) c =
     let t = none_alone q (calmly_as nothing c) in
     let all : (r.state.flush.unflushed == 0) ≡ true = let none = t.0 in grind (arith, nat_tests, none) in rw all t.1
@@ -88,51 +96,68 @@ flush_alone {r} {w} {new} q (inr (job, more, is, rest, all)) c =
 
 -- ---- units
 
--- no lock denies the one session; and where no memory is refused, a call returns the expansion of its body, or the error
--- in its place
-calm_answer : (s : State) (c : Request) (o : Reply) → Holds c → MayAnswer s 1 c o → o ≢ Held → o ≢ Error OutOfMemory → Replies s c o
-calm_answer s c o holds (TooEarly allowed late) free calm = Early late
-calm_answer s c o holds (Runs run (Expands body is call)) free calm =
+-- no meaning of a unit answers that the unit is too early
+never_late : (f : Flush) (m : Meaning) → Later ≡ answer_meant f m → ⊥
+never_late f m is = grind arith
+
+late_answer : {s : State} {c : Request} → MayAnswer s 1 c Later → is_later s 1 c ≡ true
+late_answer (TooEarly allowed late) = late
+late_answer (Runs run (Expands body is call)) = let given = call.is in grind arith
+late_answer {s} {c} (Runs run (Means no_call (inl is))) = absurd (never_late s.flush (meant (here s 1) c.reading) is)
+late_answer (Runs run (Means no_call (inr short))) = let bad = short.0 in cc
+
+-- no lock denies the one session; where no memory is refused, a unit that is not too early is answered by the script
+calm_answer : (s : State) (c : Request) (o : Reply) → Holds c → MayAnswer s 1 c o → o ≢ Held → o ≢ Later → o ≢ Error OutOfMemory → (is_later s 1 c ≡ false) × Replies s c (called s c) o
+calm_answer s c o holds (TooEarly allowed late) free due calm = absurd (due refl)
+calm_answer s c o holds (Runs run (Expands body is call)) free due calm =
     let gives = call.gives holds.0 holds.1 in let gave = call.is in
-    ByMacro run.due body is (record { parameters = holds.0; holds = holds.1; given = call.given; gives = grind arith; is = gave })
-calm_answer s c o holds (Runs run (Means no_call may)) free calm = ByMeaning run.due no_call (grind arith)
-calm_answer s c o holds (LockedOut denied) free calm = absurd (free refl)
+    (run.due, subst (λ (b : Option (List ℕ)). Replies s c b o) (sym is) (holds.0, call.given, holds.1, grind arith, gave))
+calm_answer s c o holds (Runs run (Means no_call may)) free due calm = (run.due, subst (λ (b : Option (List ℕ)). Replies s c b o) (sym no_call) (grind arith))
+calm_answer s c o holds (LockedOut denied) free due calm = absurd (free refl)
 
--- a unit is answered as the script says
-unit_called : {r : Rest} {w new : World} {c : Request} {o : Reply} → Still r w → Holds c → o ≢ Held → Calmly w (Called (Executed 1 c o) ∷ []) new → Replies r.state c o × Still (record r { state = after_unit r.state 1 c o }) new
-unit_called {r} {w} {new} {c} {o} q holds free walk =
+-- a unit is answered, and no memory is refused
+unit_called : {r : Point} {w new : World} {c : Request} {o : Reply} (answers : List (List ℕ)) → Still r w → Calmly w (Called (Executed 1 c o) ∷ []) new
+    → MayAnswer r.state 1 c o × (o ≢ Error OutOfMemory) × Still (record r { state = after_unit r.state 1 c o; answers = answers }) new
+unit_called {r} {w} {new} {c} {o} answers q walk =
     let t = serves q.state walk in let step = t.0.1 in let sound = subst (λ (z : State). IsContents z.flush.contents) step.is step.sound in
-    (calm_answer r.state c o holds step.may free walk.calm.0, still_on q (after_unit r.state 1 c o) step.is t.1 refl refl sound)
+    (step.may, walk.calm.0, still_on q answers (after_unit r.state 1 c o) step.is t.1 refl refl sound)
 
-settle_alone : {r : Rest} {w new : World} {o : Reply} → Still r w → Calmly w (Called (Settled 1 o) ∷ []) new → (o ≡ (waited r).reply) × Still (waited r).rest new
-settle_alone {r} q c =
-    let t = serves q.state c in let reply = settle_answer (wait_of r.state.flush 1) in
-    let same : (settled r.state.flush 1 reply).contents ≡ r.state.flush.contents = grind arith in
-    (t.0.1, still_on q (after_settle r.state 1 reply) (t.0.2 ∙ ap (after_settle r.state 1) t.0.1) t.1 (grind arith) (grind arith) (rw same q.sound))
+settle_alone : {r : Point} {w new : World} {o : Reply} → Still r w → Calmly w (Called (Settled 1 o) ∷ []) new → (o ≡ settle_answer (wait_of r.state.flush 1)) × Still (replied r o (after_settle r.state 1 o)) new
+settle_alone {r} {o = o} q c =
+    let t = serves q.state c in let same : (settled r.state.flush 1 o).contents ≡ r.state.flush.contents = grind arith in
+    (t.0.1, still_on q (r.answers ++ answer_in o) (after_settle r.state 1 o) t.0.2 t.1 (grind arith) (grind arith) (rw same q.sound))
 
--- the result of a unit with this reply
-abbrev pub outcome : Rest → Reply → UnitOutcome
-outcome r reply = record { rest = r; reply = reply }
+-- the outcome of a unit that is executed at this point
+abbrev pub OutcomeAt : Point → Request → Reply → Point → Type 0
+OutcomeAt r c o new = (first : Reply) × Replies r.state c (called r.state c) first × (finished r c first ≡ (o, new))
 
 -- a finished unit, in the script's terms
-abbrev ActsAs : Rest → Request → Reply → World → Type 0
-ActsAs r c o new = (first : Reply) × (rest : Rest) × Replies r.state c first × (outcome rest o ≡ after_reply r c first) × HasOutcomeFrom r c first (outcome rest o) × Still rest new
+abbrev ActsAs : Point → Request → Reply → World → Type 0
+ActsAs r c o new = (is_later r.state 1 c ≡ false) × (rest : Point) × OutcomeAt r c o rest × Still rest new × (rest.answers ≡ r.answers ++ answer_in o)
 
-acts_alone : {r : Rest} {w new : World} {c : Request} {o : Reply} {steps : List RunStep} → Still r w → Holds c → Acts c o steps → Calmly w steps new → ActsAs r c o new
+acts_alone : {r : Point} {w new : World} {c : Request} {o : Reply} {steps : List RunStep} → Still r w → Holds c → Acts c o steps → Calmly w steps new → ActsAs r c o new
 acts_alone {r} {w} {new} {c} {o} q holds (final, inl all) walk =
-    let u = unit_called q holds (grind arith) (calmly_as all walk) in
-    (o, record r { state = after_unit r.state 1 c o }, u.0, grind arith, grind arith, u.1)
+    let u = unit_called (r.answers ++ answer_in o) q (calmly_as all walk) in let a = calm_answer r.state c o holds u.0 (grind arith) (grind arith) u.1 in
+    (a.0, replied r o (after_unit r.state 1 c o), (o, a.1, grind arith), u.2, refl)
 acts_alone {r} {w} {new} {c} {o} q holds (final, inr (wait, (flush, f, ends), all)) walk =
     let a = parted (Called (Executed 1 c Parked) ∷ []) wait all walk in let b = parted flush (Called (Settled 1 o) ∷ []) ends a.2 in
-    let u = unit_called q holds (λ e. cc) a.1 in let t = settle_alone (flush_alone u.1 f b.1) b.2 in
-    let went = waited (flushed (record r { state = after_unit r.state 1 c Parked })) in
-    let is : outcome went.rest o ≡ went = ap (outcome went.rest) t.0 in (Parked, went.rest, u.0, is, is, t.1)
+    let parked = replied r Parked (after_unit r.state 1 c Parked) in
+    let u = unit_called (r.answers ++ []) q a.1 in let t = settle_alone (flush_alone u.2 f b.1) b.2 in
+    let i = calm_answer r.state c Parked holds u.0 (λ e. cc) (λ e. cc) u.1 in let now = flushed parked in (
+      i.0,
+      replied now o (after_settle now.state 1 o),
+      (Parked, i.1, ap {B = Reply × Point} (λ (z : Reply). (z, replied now z (after_settle now.state 1 z))) (sym t.0)),
+      t.1,
+      ap (λ (l : List (List ℕ)). l ++ answer_in o) (flushed_same parked ∙ append-nil r.answers),
+    )
 
--- the result of a unit is the script's
-pub unit_alone : {r : Rest} {w new : World} {c : Request} {o : Reply} {steps : List RunStep} → Still r w → Holds c → IsUnit c o steps → Calmly w steps new → (rest : Rest) × HasOutcome r c (outcome rest o) × Still rest new
-unit_alone q holds (inl acts) walk = let a = acts_alone q holds acts walk in (a.1, (a.0, a.2, a.4), a.5)
+-- the outcome of a unit is the script's
+pub unit_alone : {r : Point} {w new : World} {c : Request} {o : Reply} {steps : List RunStep} → Still r w → Holds c → IsUnit c o steps → Calmly w steps new
+    → (rest : Point) × HasOutcome r c o rest × Still rest new × (rest.answers ≡ r.answers ++ answer_in o)
+unit_alone {r} {w} {new} {c} {o} q holds (inl acts) walk = let a = acts_alone q holds acts walk in (a.1, subst (λ (late : Bool). OutcomeAt (if late then flushed r else r) c o a.1) (sym a.0) a.2, a.3, a.4)
 unit_alone {r} {w} {new} {c} {o} q holds (inr (flush, again, f, acts, all)) walk =
     let a = parted (Called (Executed 1 c Later) ∷ []) (flush ++ again) all walk in let b = parted flush again refl a.2 in
-    let u = unit_called q holds (λ e. cc) a.1 in
-    let late : Still r a.0 = subst (λ (s : State). Still (record r { state = s }) a.0) (followed_same r.state) u.1 in
-    let t = acts_alone (flush_alone late f b.1) holds acts b.2 in (t.1, (Later, u.0, (t.0, t.2, t.3)), t.5)
+    let u = unit_called r.answers q a.1 in
+    let late : Still r a.0 = subst (λ (s : State). Still (record r { state = s }) a.0) (followed_same r.state) u.2 in
+    let t = acts_alone (flush_alone late f b.1) holds acts b.2 in
+    (t.1, subst (λ (late : Bool). OutcomeAt (if late then flushed r else r) c o t.1) (sym (late_answer u.0)) t.2, t.3, t.4 ∙ ap (λ (l : List (List ℕ)). l ++ answer_in o) (flushed_same r))

@@ -5,7 +5,7 @@ pub use Rattle.psu_disk.specs.Moments.{and_then, started, weaken}
 pub use Rattle.psu_disk.specs.Ranges.{left_size, reads_left}
 pub use Rattle.psu_disk.specs.declared.disk.Disk.{Ghosts}
 pub use Rattle.psu_exec.proofs.Ignored.{serves_gave_back, serves_opened, serves_took}
-pub use Rattle.psu_exec.specs.Calls.{Allows, Cleared, Commit, Entry, Executed, GaveBack, IsAccepted, Job, JobData, JobEnd, Nothing, Opened, Reopen, Serves, Settled, Stored, Taken, Took, after_settle, job_of, job_out, least_free, opened, settle_answer, settled, wait_cut, wait_less, with_flush}
+pub use Rattle.psu_exec.specs.Calls.{Allows, Cleared, Commit, Entry, Executed, GaveBack, IsAccepted, Job, JobData, JobEnd, Nothing, Opened, Reopen, Serves, Settled, Stored, Taken, Took, after_settle, job_of, job_out, least_free, opened, settle_answer, settled, wait_cut, wait_less, with_flush, with_stored}
 pub use Rattle.psu_exec.specs.Device.{Answer, Expand, Flush, Later, MayAnswer, Parked, Reply, State, after_unit, answer_call, answer_meant, called, count_held, here, is_broken, is_denied, is_later, is_open, is_whole, meant, power_on, target, wait_of}
 pub use Rattle.psu_exec.specs.Exec.{Exec}
 pub use Rattle.psu_exec.specs.Jobs.{finished_disk, finished_of, idle_disk, job_data, job_disk, job_store}
@@ -32,7 +32,7 @@ pub use Rattle.psu_nv.specs.Contents.{Contents, IsContents, items_of}
 pub use Rattle.psu_run.specs.Lines.{AreAsked, AreRequests, AskedBy, Brings, HasRead, Message, first_onto, has, message_of, messages, parts_of, source_of}
 pub use Rattle.psu_run.specs.Progress.{Answers, DeviceStops, EndsEarly, FaultOf, Fed, HasRun, IsDone, IsFailed, IsNow, IsOf, IsStopped, IsTied, IsTried, IsWornAtLast, IsWrittenBefore, Leads, Life, OutputState, Ran, RanAll, Reached, RunStops, Says, SaysUntil, Since, born, disk_at, disk_in, extent_in, failures_in, failures_of, held, output_state, state_in, world_of}
 pub use Rattle.psu_run.specs.Runs.{Acts, AreCalm, Begins, Breaks, Called, CallsOnWorld, EventsLead, IsAlong, IsFlush, IsJob, IsLeftBy, IsOfRun, IsSound, IsUnit, IsWait, Jobs, LineBegins, LineRuns, Makes, MemoryRefused, MessageRuns, NotStarted, PowersOn, Reopens, Restarted, RunStep, Runs, RunsUpTo, ScriptAlone, SomeBreak, StandsForPrefix, StepsTo, StopsAt, StopsFor, Walks, WritesShort, disk_from, fault_of, job_steps, never}
-pub use Rattle.psu_run.specs.Script.{ByMacro, ByMeaning, Early, HasOutcome, HasOutcomeFrom, IsScript, Replies, Rest, Scripted, Speaks, SpeaksInside, Spoken, UnitOutcome, after_reply, at_start, committed, flushed, waited, with_answer}
+pub use Rattle.psu_run.specs.Script.{Executes, ExecutesInside, ExecutesReply, HasOutcome, IsScript, Point, Replies, Scripted, at_start, finished, flushed, replied, waited}
 pub use Rattle.psu_run.specs.declared.run_cause.RunCause.TheVariants.{Memory, Read, TooLong, Write}
 pub use Rattle.psu_run.specs.declared.run_cause.RunCause.{RunCause}
 pub use Rattle.psu_run.specs.declared.run_fault.RunFault.{RunFault}

@@ -1,15 +1,15 @@
 -- Where nothing goes wrong, the messages of an input have one text, the script's.
 use Rattle.std.proofs.Common.{◌≡◌, ℕ, zero, suc, ◌||◌, ◌&&◌, Bool, true, false, List, [], ◌∷◌, ◌++◌, drop, refl, sym, ap, subst, append-nil, if◌then◌else◌, None, Some, ◌⊎◌, ◌==◌, ◌∙◌, subst₂, inl, inr, arith, append_assoc, map}
 use Rattle.psu_lex.specs.Bytes.{all_white, is_closed}
-use Rattle.psu_run.proofs.Common.{AskedBy, Called, Contents, Effect, Expand, Fault, GaveBack, HasOutcome, IsAnswered, IsScript, IsSilent, IsTry, IsUnit, Job, LineRuns, Makes, Message, Part, PowersOn, Reopens, Reply, Request, Rest, Restarted, RunStep, Runs, ScriptAlone, Scripted, Sent, Source, Speaks, SpeaksInside, Spoken, State, Took, Walks, World, answer_in, answers, at_start, first_onto, has, items_of, message_of, messages, nat_tests, opened, parts_of, reads_left, represents_one, response, text_sent, with_answer, ⊤}
+use Rattle.psu_run.proofs.Common.{AskedBy, Called, Contents, Effect, Executes, ExecutesInside, Expand, Fault, GaveBack, HasOutcome, IsAnswered, IsScript, IsSilent, IsTry, IsUnit, Job, LineRuns, Makes, Message, Part, Point, PowersOn, Reopens, Reply, Request, Restarted, RunStep, Runs, ScriptAlone, Scripted, Sent, Source, State, Took, Walks, World, answer_in, answers, at_start, first_onto, has, items_of, message_of, messages, nat_tests, opened, parts_of, reads_left, represents_one, response, text_sent, ⊤}
 use Rattle.psu_lex.specs.Message.{Reads, Token, Separator, Faulty, ended, fault_of, next_first, text_of, units_of}
 use Rattle.psu_run.proofs.Cuts.{has_none}
 use Rattle.psu_messages.specs.Effects.{Executed, Settled}
 use Rattle.psu_messages.specs.Messages.{NoMessage, OneMore, AreMessages, IsAskedIn, OverIsMessages}
 use Rattle.psu_messages.specs.Turns.{NoneInside, OneInside, Untried, Again, NoUnit, Plain, Expanded, Ended, InsideDone, IsInside, Tried, UnitsDone, acts}
 use Rattle.psu_messages.specs.Units.{Text}
-use Rattle.psu_messages.proofs.Answering.{answers_append}
-use Rattle.psu_run.proofs.Alone.{Calmly, Still, calmly_as, outcome, parted, unit_alone, take_alone}
+use Rattle.psu_messages.proofs.Answering.{answers_append, try_gives}
+use Rattle.psu_run.proofs.Alone.{Calmly, Still, calmly_as, parted, still_on, unit_alone, take_alone}
 use Rattle.psu_run.proofs.Readings.{AreLeft, AskedFrom, Holds, Ones, SomeUnits, asked_all, asked_next, asked_none, held_by, left_all, left_next, left_none}
 use Rattle.std.proofs.lemmas.Bool.{cases_Bool}
 use Rattle.psu_nv.proofs.Determining.{same_contents}
@@ -85,29 +85,29 @@ line_is source count list line (OneMore (OneMore m from earlier was) to message 
 
 -- ---- the units of a line, one after another
 
--- the device, and the answers of the line so far
-record LineState : Type 0 where
-  world : World
-  answers : List (List ℕ)
-
 -- a unit is executed, and nothing else
-abbrev Does : LineState → Effect → LineState → Type 0
-Does x (Executed request reply) y = (steps : List RunStep) × IsUnit request reply steps × Calmly x.world steps y.world × (y.answers ≡ with_answer x.answers reply)
-Does x effect y = ⊥
+abbrev Does : World → Effect → World → Type 0
+Does w (Executed request reply) new = (steps : List RunStep) × IsUnit request reply steps × Calmly w steps new
+Does w effect new = ⊥
 
-line_does : (list : List Effect) (x : LineState) (last : World) (steps : List RunStep) → Makes list steps → Calmly x.world steps last
-    → (y : LineState) × effects.Runs Does x (acts list) y × (y.world ≡ last) × (y.answers ≡ x.answers ++ answers list)
-line_does [] x last steps none c = (x, refl, sym (calmly_as none c).walks, sym (append-nil x.answers))
-line_does (Executed request reply ∷ list) x last steps (unit, more, is, makes, all) c =
-    let a = parted unit more all c in let mid : LineState = record { world = a.0; answers = with_answer x.answers reply } in
-    let t = line_does list mid last more makes a.2 in
-    (t.0, (mid, (unit, is, a.1, refl), t.1), t.2, let says = t.3 in let none = append-nil x.answers in let all = append_assoc x.answers (answer_in reply) (answers list) in grind arith)
-line_does (Settled reply ∷ list) x last steps never c = absurd never
-line_does (Sent text end ∷ list) x last steps makes c = line_does list x last steps makes c
+line_does : (list : List Effect) (w last : World) (steps : List RunStep) → Makes list steps → Calmly w steps last → effects.Runs Does w (acts list) last
+line_does [] w last steps none c = (calmly_as none c).walks
+line_does (Executed request reply ∷ list) w last steps (unit, more, is, makes, all) c = let a = parted unit more all c in (a.0, (unit, is, a.1), line_does list a.0 last more makes a.2)
+line_does (Settled reply ∷ list) w last steps never c = absurd never
+line_does (Sent text end ∷ list) w last steps makes c = line_does list w last steps makes c
 
-split : (xs ys : List Effect) (x z : LineState) → effects.Runs Does x (xs ++ ys) z → (y : LineState) × effects.Runs Does x xs y × effects.Runs Does y ys z
-split [] ys x z runs = (x, refl, runs)
-split (effect ∷ xs) ys x z (next, d, runs) = let a = split xs ys next z runs in (a.0, (next, d, a.1), a.2)
+split : (xs ys : List Effect) (w new : World) → effects.Runs Does w (xs ++ ys) new → (mid : World) × effects.Runs Does w xs mid × effects.Runs Does mid ys new
+split [] ys w new runs = (w, refl, runs)
+split (effect ∷ xs) ys w new (next, d, runs) = let a = split xs ys next new runs in (a.0, (next, d, a.1), a.2)
+
+acts_say : (list : List Effect) → answers (acts list) ≡ answers list
+acts_say [] = refl
+acts_say (Executed request reply ∷ list) = ap (λ (l : List (List ℕ)). answer_in reply ++ l) (acts_say list)
+acts_say (Settled reply ∷ list) = ap (λ (l : List (List ℕ)). answer_in reply ++ l) (acts_say list)
+acts_say (Sent text end ∷ list) = acts_say list
+
+then_say : (a : List (List ℕ)) {b c : List (List ℕ)} (xs ys : List Effect) → b ≡ a ++ answers xs → c ≡ b ++ answers ys → c ≡ a ++ answers (xs ++ ys)
+then_say a xs ys p q = let append = answers_append xs ys in let all = append_assoc a (answers xs) (answers ys) in grind arith
 
 -- ---- a unit
 
@@ -120,50 +120,44 @@ asked_holds (units.Text bytes) place request first (part, unit, e) = unit_holds 
 asked_holds (Fault error) place request first (at, is, e) = subst Holds (sym is) ([], refl)
 
 -- a unit that was executed to its end: its result by the script
-record Reported (Is : Request → Type 0) (r : Rest) (reply : Reply) (x y : LineState) : Type 0 where
+record Reported (Is : Request → Type 0) (r : Point) (reply : Reply) (unit : List Effect) (new : World) : Type 0 where
   request : Request
   is : Is request
-  rest : Rest
-  has : HasOutcome r request (outcome rest reply)
-  still : Still rest y.world
-  said : y.answers ≡ with_answer x.answers reply
+  rest : Point
+  has : HasOutcome r request reply rest
+  still : Still rest new
+  said : rest.answers ≡ r.answers ++ answers unit
 
 -- it was tried once, since each reply is final
-once : (Is : Request → Type 0) (tries : List Effect) (parked : Bool) (request : Request) (effect : Effect) (r : Rest) (reply : Reply) (x y : LineState) → ((other : Request) → Is other → Holds other) → Tried Is tries parked
-    → Is request → IsTry parked request effect reply → Still r x.world → effects.Runs Does x (tries ++ effect ∷ []) y → Reported Is r reply x y
-once Is tries parked request (Executed other answer) r reply x y hold Untried is (same, was) q (mid, (steps, unit, walk, said), here) =
+once : (Is : Request → Type 0) (tries : List Effect) (parked : Bool) (request : Request) (effect : Effect) (r : Point) (reply : Reply) (w new : World) → ((other : Request) → Is other → Holds other) → Tried Is tries parked
+    → Is request → IsTry parked request effect reply → Still r w → effects.Runs Does w (tries ++ effect ∷ []) new → Reported Is r reply (tries ++ effect ∷ []) new
+once Is tries parked request (Executed other answer) r reply w new hold Untried is (same, was) q (mid, (steps, unit, walk), here) =
     let u = unit_alone q (hold request is) (subst₂ (λ (c : Request) (o : Reply). IsUnit c o steps) same was unit) walk in
-    subst (Reported Is r reply x) (sym here) (record { request = request; is = is; rest = u.0; has = u.1; still = u.2; said = said ∙ ap (with_answer x.answers) was })
-once Is tries parked request effect r reply x y hold Untried is try q (mid, d, here) = absurd d
-once Is tries parked request effect r reply x y hold (Again {effects = before} {parked = was} t other is_other tried answer need try wants) is last q runs =
-    let a = split (before ++ tried ∷ []) (effect ∷ []) x y runs in let b = split before (tried ∷ []) x a.0 a.1 in
+    let said = u.3 ∙ ap (λ (l : List (List ℕ)). r.answers ++ l) (sym (try_gives false request (Executed other answer) reply (same, was))) in
+    subst (Reported Is r reply (Executed other answer ∷ [])) (sym here) (record { request = request; is = is; rest = u.0; has = u.1; still = u.2; said = said })
+once Is tries parked request effect r reply w new hold Untried is try q (mid, d, here) = absurd d
+once Is tries parked request effect r reply w new hold (Again {effects = before} {parked = was} t other is_other tried answer need try wants) is last q runs =
+    let a = split (before ++ tried ∷ []) (effect ∷ []) w new runs in let b = split before (tried ∷ []) w a.0 a.1 in
     let d = b.2.1 in grind arith
 
-ended_told : {Is : Request → Type 0} {unit : List Effect} {r : Rest} {reply : Reply} {x y : LineState} → ((other : Request) → Is other → Holds other) → Ended Is unit reply → Still r x.world → effects.Runs Does x unit y
-    → Reported Is r reply x y
-ended_told {Is} {unit} {r} {reply} {x} {y} hold e q runs =
-    once Is e.tries e.parked e.request e.effect r reply x y hold e.tried e.is e.last q (subst (λ (z : List Effect). effects.Runs Does x z y) e.all runs)
+ended_told : {Is : Request → Type 0} {unit : List Effect} {r : Point} {reply : Reply} {w new : World} → ((other : Request) → Is other → Holds other) → Ended Is unit reply → Still r w → effects.Runs Does w unit new
+    → Reported Is r reply unit new
+ended_told {Is} {unit} {r} {reply} {w} {new} hold e q runs =
+    subst (λ (z : List Effect). Reported Is r reply z new) (sym e.all)
+    (once Is e.tries e.parked e.request e.effect r reply w new hold e.tried e.is e.last q (subst (λ (z : List Effect). effects.Runs Does w z new) e.all runs))
 
 -- ---- units, one after another
 
-abbrev spoken : Rest → List (List ℕ) → Spoken
-spoken r answers = record { rest = r; answers = answers }
-
--- The device after the units before a place is in the script's state. Requests that are left at the place, with a result
--- by the script, continue those before them to all requests, with that result.
-abbrev Follows : (ℕ → List Request → Type 0) → (Rest → List (List ℕ) → List Request → Spoken → Type 0) → Rest → LineState → ℕ → LineState → Type 0
-Follows Left Says r x place y =
-    (rest : Rest) × Still rest y.world
-    × ((more : List Request) (end : Spoken) → Left place more → Says rest y.answers more end → (all : List Request) × Left 0 all × Says r x.answers all end)
-
--- the requests of a line, and the script's result of it
-abbrev pub LineSpeaks : Rest → Source → List ℕ → World → Type 0
-LineSpeaks r source text last =
-    (requests : List Request) × (all : Spoken) × AskedBy source requests × Speaks r [] requests all × (text ≡ response all.answers) × Still all.rest last
+-- The device after these units, which are those before a place, is in the script's state. Requests that are left at the
+-- place, with a result by the script, continue those before them to all requests, with that result.
+abbrev Follows : (ℕ → List Request → Type 0) → (Point → List Request → Point → Type 0) → Point → ℕ → List Effect → World → Type 0
+Follows Left Leads r place list new =
+    (rest : Point) × Still rest new × (rest.answers ≡ r.answers ++ answers list)
+    × ((more : List Request) (end : Point) → Left place more → Leads rest more end → (all : List Request) × Left 0 all × Leads r all end)
 
 -- ---- power
 
-abbrev restarted : Rest → Rest
+abbrev restarted : Point → Point
 restarted r = at_start r.state.flush.limit r.stored
 
 -- a device that has just been powered on
@@ -174,13 +168,13 @@ start_still image new p =
     subst (Still (at_start p.on.limit p.on.start)) (sym p.opens.1.4) (record { state = state; whole = refl; kept = sound; sound = sound; disk = rw p.opens.1.3 p.start.disk })
 
 -- or powered on again
-restart_alone : (r : Rest) (w new : World) → Still r w → Walks w (Restarted ∷ []) new → Still (restarted r) new
+restart_alone : (r : Point) (w new : World) → Still r w → Walks w (Restarted ∷ []) new → Still (restarted r) new
 restart_alone r w new q (on, (whole, at), here) =
     let p = subst (PowersOn w.disk.bytes) (sym here) at in let same = represents_one p.on.limit r.state.flush.limit (items_of p.on.start) (items_of r.stored) w.disk.bytes p.found (q.disk w.disk.bytes (reads_left w.disk)) in
     subst₂ (λ (n : ℕ) (c : Contents). Still (at_start n c) new) same.0 (same_contents p.on.start r.stored p.start.sound q.kept same.1) (start_still w.disk.bytes new p)
 
 -- the store is not broken, so it is not reopened
-reopened_alone : {r : Rest} {w new : World} {steps : List RunStep} → Still r w → Reopens steps → Calmly w steps new → new ≡ w
+reopened_alone : {r : Point} {w new : World} {steps : List RunStep} → Still r w → Reopens steps → Calmly w steps new → new ≡ w
 reopened_alone q (inl none) c = (calmly_as none c).walks
 reopened_alone q (inr (is, kind)) c =
     let commit = (take_alone q (parted (Called (Took (Job is.job)) ∷ []) (Called (GaveBack is.finished (Some is.over)) ∷ []) is.are c).1).1 in cc
@@ -214,52 +208,54 @@ parts_whole (part ∷ parts) (free, more) = let rest = parts_whole parts more in
 -- ---- lines and messages
 
 module _ (ones : Ones) (some : SomeUnits) (over_is_messages : OverIsMessages) where
-  inside_speaks : (r : Rest) (body : List ℕ) (place : ℕ) (list : List Effect) (x y : LineState) → InsideDone body place list → Still r x.world → effects.Runs Does x list y
-      → Follows (AreLeft true body) SpeaksInside r x place y
-  inside_speaks r body place list x y NoneInside q none = subst (Follows (AreLeft true body) SpeaksInside r x 0) (sym none) (r, q, λ more end left says. (more, left, says))
-  inside_speaks r body place list x y (OneInside {place = at} {effects = before} i unit reply ended) q runs =
-      let s = split before unit x y runs in let t = inside_speaks r body at before x s.0 i q s.1 in
+  inside_leads : (r : Point) (body : List ℕ) (place : ℕ) (list : List Effect) (w new : World) → InsideDone body place list → Still r w → effects.Runs Does w list new
+      → Follows (AreLeft true body) ExecutesInside r place list new
+  inside_leads r body place list w new NoneInside q none = subst (Follows (AreLeft true body) ExecutesInside r 0 []) (sym none) (r, q, sym (append-nil r.answers), λ more end left leads. (more, left, leads))
+  inside_leads r body place list w new (OneInside {place = at} {effects = before} i unit reply ended) q runs =
+      let s = split before unit w new runs in let t = inside_leads r body at before w s.0 i q s.1 in
       let one = ended_told {Is = IsInside body at} (λ request is. unit_holds is.1) ended t.1 s.2 in (
         one.rest,
         one.still,
-        λ more end left says. t.2 (one.request ∷ more) end (left_next more ones one.is.1 left)
-            (outcome one.rest reply, one.has, subst (λ (l : List (List ℕ)). SpeaksInside one.rest l more end) one.said says),
+        then_say r.answers before unit t.2 one.said,
+        λ more end left leads. t.3 (one.request ∷ more) end (left_next more ones one.is.1 left) (reply, one.rest, one.has, leads),
       )
 
-  units_speak : (r : Rest) (source : Source) (place : ℕ) (list : List Effect) (x y : LineState) → UnitsDone (IsAskedIn source 0) 0 place list → Still r x.world → effects.Runs Does x list y
-      → Follows (AskedFrom source) Speaks r x place y
-  units_speak r source place list x y NoUnit q none = subst (Follows (AskedFrom source) Speaks r x 0) (sym none) (r, q, λ more end left says. (more, left, says))
-  units_speak r source place list x y (Plain {place = at} {effects = before} u unit reply ended plain) q runs =
-      let s = split before unit x y runs in let t = units_speak r source at before x s.0 u q s.1 in
+  units_lead : (r : Point) (source : Source) (place : ℕ) (list : List Effect) (w new : World) → UnitsDone (IsAskedIn source 0) 0 place list → Still r w → effects.Runs Does w list new
+      → Follows (AskedFrom source) Executes r place list new
+  units_lead r source place list w new NoUnit q none = subst (Follows (AskedFrom source) Executes r 0 []) (sym none) (r, q, sym (append-nil r.answers), λ more end left leads. (more, left, leads))
+  units_lead r source place list w new (Plain {place = at} {effects = before} u unit reply ended plain) q runs =
+      let s = split before unit w new runs in let t = units_lead r source at before w s.0 u q s.1 in
       let one = ended_told {Is = IsAskedIn source 0 at} (λ request is. asked_holds source at request (at == 0) is) ended t.1 s.2 in (
         one.rest,
         one.still,
-        λ more end left says. t.2 (one.request ∷ more) end (asked_next ones source at one.request (at == 0) more one.is left)
-            (outcome one.rest reply, spoken one.rest y.answers, one.has, (let said = one.said in grind arith), says),
+        then_say r.answers before unit t.2 one.said,
+        λ more end left leads. t.3 (one.request ∷ more) end (asked_next ones source at one.request (at == 0) more one.is left) (reply, one.rest, one.rest, one.has, grind arith, leads),
       )
-  units_speak r source place list x y (Expanded {place = at} {effects = before} u unit body ended inner count inside over) q runs =
-      let s = split before (unit ++ inner) x y runs in let e = split unit inner s.0 y s.2 in
-      let t = units_speak r source at before x s.0 u q s.1 in
+  units_lead r source place list w new (Expanded {place = at} {effects = before} u unit body ended inner count inside over) q runs =
+      let s = split before (unit ++ inner) w new runs in let e = split unit inner s.0 new s.2 in
+      let t = units_lead r source at before w s.0 u q s.1 in
       let one = ended_told {Is = IsAskedIn source 0 at} (λ request is. asked_holds source at request (at == 0) is) ended t.1 e.1 in
-      let i = inside_speaks one.rest body count inner e.0 y inside one.still e.2 in
-      let all = i.2 [] (spoken i.0 y.answers) (left_none ones over) refl in
-      let expanded = subst (λ (l : List (List ℕ)). SpeaksInside one.rest l all.0 (spoken i.0 y.answers)) one.said all.2 in (
+      let i = inside_leads one.rest body count inner e.0 new inside one.still e.2 in
+      let all = i.3 [] i.0 (left_none ones over) refl in (
         i.0,
         i.1,
-        λ more end left says. t.2 (one.request ∷ more) end (asked_next ones source at one.request (at == 0) more one.is left)
-            (outcome one.rest (Expand body), spoken i.0 y.answers, one.has, (all.0, left_all some all.1, expanded), says),
+        then_say r.answers before (unit ++ inner) t.2 (then_say t.0.answers unit inner one.said i.2),
+        λ more end left leads. t.3 (one.request ∷ more) end (asked_next ones source at one.request (at == 0) more one.is left)
+            (Expand body, one.rest, i.0, one.has, (all.0, left_all some all.1, all.2), leads),
       )
 
-  line_alone : (r : Rest) (source : Source) (w last : World) (text : List ℕ) (steps : List RunStep) → IsLine source → Still r w → LineRuns source text steps → Calmly w steps last → LineSpeaks r source text last
+  -- the requests of a line, and the script's result of it
+  line_alone : (r : Point) (source : Source) (w last : World) (text : List ℕ) (steps : List RunStep) → IsLine source → Still r w → LineRuns source text steps → Calmly w steps last
+      → (requests : List Request) × (end : Point) × AskedBy source requests × Executes (record r { answers = [] }) requests end × (text ≡ response end.answers) × Still end last
   line_alone r source w last text steps line q l c =
       let count = l.end.standing.units in
       let m = line_is source count l.effects line (over_is_messages source l.effects l.end l.reaches l.over) in
-      let d = line_does l.effects (record { world = w; answers = [] }) last steps l.makes c in
-      let t = units_speak r source count (acts l.effects) (record { world = w; answers = [] }) d.0 m.0 q d.1 in
-      let all = t.2 [] (spoken t.0 d.0.answers) (asked_none ones source count l.over.units) refl in
-      (all.0, spoken t.0 d.0.answers, asked_all some source all.0 all.1, all.2, l.sent ∙ m.1 ∙ ap response (sym d.3), subst (Still t.0) d.2 t.1)
+      let new = still_on q [] r.state q.state refl refl refl q.sound in
+      let t = units_lead (record r { answers = [] }) source count (acts l.effects) w last m.0 new (line_does l.effects w last steps l.makes c) in
+      let all = t.3 [] t.0 (asked_none ones source count l.over.units) refl in
+      (all.0, t.0, asked_all some source all.0 all.1, all.2, l.sent ∙ m.1 ∙ ap response (sym (t.2 ∙ acts_say l.effects)), t.1)
 
-  messages_alone : (ms : List Message) (r : Rest) (w last : World) (text : List ℕ) (steps : List RunStep) → AreWhole ms → Still r w → Runs ms text steps → Calmly w steps last → Scripted r ms text
+  messages_alone : (ms : List Message) (r : Point) (w last : World) (text : List ℕ) (steps : List RunStep) → AreWhole ms → Still r w → Runs ms text steps → Calmly w steps last → Scripted r ms text
   messages_alone [] r w last text steps whole q runs c = runs.0
   messages_alone (Message.Power ∷ ms) r w last text steps whole q (first, more, made, others, (none, reopening, reopens, all), rest, is, both) c =
       let a = parted made others both c in let b = parted reopening (Restarted ∷ []) all a.1 in
@@ -267,7 +263,7 @@ module _ (ones : Ones) (some : SomeUnits) (over_is_messages : OverIsMessages) wh
       (messages_alone ms (restarted r) a.0 last more others whole (restart_alone r b.0 a.0 (subst (λ (z : World). Still r z) (sym (reopened_alone q reopens b.1)) q) b.2.walks) rest a.2)
   messages_alone (Message.Line source ∷ ms) r w last text steps whole q (first, more, made, others, one, rest, is, both) c =
       let a = parted made others both c in let s = line_alone r source w a.0 first made whole.0 q one a.1 in
-      (s.0, s.1, more, s.2, s.3, messages_alone ms s.1.rest a.0 last more others whole.1 s.5 rest a.2, is ∙ ap (λ (z : List ℕ). z ++ more) s.4)
+      (s.0, s.1, more, s.2, s.3, messages_alone ms s.1 a.0 last more others whole.1 s.5 rest a.2, is ∙ ap (λ (z : List ℕ). z ++ more) s.4)
 
   pub script_is_alone : ScriptAlone
   script_is_alone image input text steps first last p runs walks calm =

@@ -1,7 +1,7 @@
 -- Every input has a script, and only one.
-use Rattle.std.proofs.Common.{arith, ◌≡◌, ℕ, Bool, true, false, List, [], ◌∷◌, ◌++◌, refl, subst, Option, None, Some, Result, Ok, Err, is_ok, sym, ap, ◌∙◌}
+use Rattle.std.proofs.Common.{arith, ◌≡◌, ℕ, Bool, true, false, List, [], ◌∷◌, ◌++◌, refl, subst, if◌then◌else◌, Option, None, Some, Result, Ok, Err, is_ok, sym, ap, ◌∙◌}
 use Rattle.psu_lex.specs.Macros.{ExpandsTo}
-use Rattle.psu_run.proofs.Common.{AreAsked, AreRequests, AskedBy, ByMacro, ByMeaning, Command, Datum, Early, Expand, Fault, HasOutcome, HasOutcomeFrom, HoldsParameters, IsRequest, Later, MacroCall, Message, Parked, Part, Reads, Replies, Reply, Request, Rest, ScpiError, Scripted, Source, Speaks, SpeaksInside, Spoken, State, Syntax, SyntaxCalls, SyntaxGives, SyntaxMoves, UnitOutcome, after_reply, after_unit, answer_call, answer_meant, at_start, called, faulty, flushed, here, is_later, meant, path_at, response, with_answer, ⊤}
+use Rattle.psu_run.proofs.Common.{AreAsked, AreRequests, AskedBy, Command, Datum, Executes, ExecutesInside, ExecutesReply, Expand, Fault, HasOutcome, HoldsParameters, IsRequest, MacroCall, Message, Parked, Part, Point, Reads, Replies, Reply, Request, ScpiError, Scripted, Source, State, Syntax, SyntaxCalls, SyntaxGives, SyntaxMoves, after_unit, answer_call, answer_meant, at_start, called, faulty, finished, flushed, here, is_later, meant, path_at, replied, response, waited, ⊤}
 use Rattle.psu_tree.specs.Reading.{SyntaxReads}
 use Rattle.psu_lex.specs.Names.{is_label}
 use Rattle.psu_lex.specs.Shown.{HoldsData, TailLists}
@@ -11,8 +11,7 @@ use Rattle.psu_lex.specs.declared.scpi_error.ScpiError.TheVariants.{MacroRecursi
 use Rattle.psu_tree.specs.Path.{path_after}
 use Rattle.psu_instrument.specs.Macros.{ExpandsAt, written, label_in}
 use Rattle.psu_messages.specs.Units as units
-use Rattle.psu_run.specs.Script.{Expands, SpeaksReply, waited}
-use Rattle.psu_run.proofs.Alone.{outcome}
+use Rattle.psu_run.proofs.Alone.{OutcomeAt}
 use Rattle.psu_run.proofs.Readings.{Holds, SomeUnits, held_by, Ones, one_next}
 use Rattle.psu_lex.proofs.DataLists.{one_list}
 
@@ -79,47 +78,38 @@ module _ (some : Somes) where
   some_given true body args = (Err MacroRecursionError, refl)
   some_given false body args = some.expansion body args
 
-  some_reply : (s : State) (request : Request) → Holds request → (reply : Reply) × Replies s request reply
-  some_reply s request holds = by (is_later s 1 request) refl (called s request) refl where
-    by : (late : Bool) → is_later s 1 request ≡ late → (body : Option (List ℕ)) → called s request ≡ body → (reply : Reply) × Replies s request reply
-    by true late body is = (Later, Early late)
-    by false due None is = (answer_meant s.flush (meant (here s 1) request.reading), ByMeaning due is refl)
-    by false due (Some body) is =
-        let given = some_given request.inside body (written holds.0) in
-        (answer_call given.0, ByMacro due body is (record { parameters = holds.0; holds = holds.1; given = given.0; gives = given.1; is = refl }))
+  some_reply : (s : State) (request : Request) → Holds request → (body : Option (List ℕ)) → (reply : Reply) × Replies s request body reply
+  some_reply s request holds None = (answer_meant s.flush (meant (here s 1) request.reading), refl)
+  some_reply s request holds (Some body) = let given = some_given request.inside body (written holds.0) in (answer_call given.0, (holds.0, given.0, holds.1, given.1, refl))
 
-  some_unit : (r : Rest) (request : Request) → Holds request → (went : UnitOutcome) × HasOutcome r request went
-  some_unit r request holds = let first = some_reply r.state request holds in by first.0 first.1 where
-    by : (reply : Reply) → Replies r.state request reply → (went : UnitOutcome) × HasOutcome r request went
-    by Later late = let reply = some_reply (flushed r).state request holds in (after_reply (flushed r) request reply.0, (Later, late, (reply.0, reply.1, refl)))
-    by reply is = (after_reply r request reply, (reply, is, refl))
+  some_unit : (r : Point) (request : Request) → Holds request → (reply : Reply) × (new : Point) × HasOutcome r request reply new
+  some_unit r request holds =
+      let now : Point = if is_later r.state 1 request then flushed r else r in let first = some_reply now.state request holds (called now.state request) in
+      let end = finished now request first.0 in (end.0, end.1, (first.0, first.1, refl))
 
-  some_inside : (requests : List Request) (r : Rest) (answers : List (List ℕ)) → AllHold requests → (spoken : Spoken) × SpeaksInside r answers requests spoken
-  some_inside [] r answers hold = (record { rest = r; answers = answers }, refl)
-  some_inside (request ∷ requests) r answers (holds, hold) =
-      let went = some_unit r request holds in let spoken = some_inside requests went.0.rest (with_answer answers went.0.reply) hold in
-      (spoken.0, (went.0, went.1, spoken.1))
+  some_inside : (requests : List Request) (r : Point) → AllHold requests → (new : Point) × ExecutesInside r requests new
+  some_inside [] r hold = (r, refl)
+  some_inside (request ∷ requests) r (holds, hold) =
+      let one = some_unit r request holds in let rest = some_inside requests one.1 hold in (rest.0, (one.0, one.1, one.2, rest.1))
 
-  some_told : (reply : Reply) (r : Rest) (answers : List (List ℕ)) → (spoken : Spoken) × SpeaksReply r answers reply spoken
-  some_told (Expand bytes) r answers =
-      let requests = some_asked true bytes in let spoken = some_inside requests.0 r answers requests.1 in
-      (spoken.0, (requests.0, requests.2, spoken.1))
-  some_told reply r answers = (record { rest = r; answers = with_answer answers reply }, refl)
+  some_expansion : (reply : Reply) (r : Point) → (new : Point) × ExecutesReply r reply new
+  some_expansion (Expand bytes) r = let requests = some_asked true bytes in let new = some_inside requests.0 r requests.1 in (new.0, (requests.0, requests.2, new.1))
+  some_expansion reply r = (r, refl)
 
-  some_line : (requests : List Request) (r : Rest) (answers : List (List ℕ)) → AllHold requests → (spoken : Spoken) × Speaks r answers requests spoken
-  some_line [] r answers hold = (record { rest = r; answers = answers }, refl)
-  some_line (request ∷ requests) r answers (holds, hold) =
-      let went = some_unit r request holds in let reported = some_told went.0.reply went.0.rest answers in
-      let spoken = some_line requests reported.0.rest reported.0.answers hold in (spoken.0, (went.0, reported.0, went.1, reported.1, spoken.1))
+  some_line : (requests : List Request) (r : Point) → AllHold requests → (new : Point) × Executes r requests new
+  some_line [] r hold = (r, refl)
+  some_line (request ∷ requests) r (holds, hold) =
+      let one = some_unit r request holds in let mid = some_expansion one.0 one.1 in
+      let rest = some_line requests mid.0 hold in (rest.0, (one.0, one.1, mid.0, one.2, mid.1, rest.1))
 
   -- ---- messages
 
-  pub some_script : (ms : List Message) (r : Rest) → (text : List ℕ) × Scripted r ms text
+  pub some_script : (ms : List Message) (r : Point) → (text : List ℕ) × Scripted r ms text
   some_script [] r = ([], refl)
   some_script (Message.Power ∷ ms) r = some_script ms (at_start r.state.flush.limit r.stored)
   some_script (Message.Line source ∷ ms) r =
-      let requests = some_asking source in let all = some_line requests.0 r [] requests.1 in let rest = some_script ms all.0.rest in
-      (response all.0.answers ++ rest.0, (requests.0, all.0, rest.0, requests.2, all.1, rest.1, refl))
+      let requests = some_asking source in let end = some_line requests.0 (record r { answers = [] }) requests.1 in let rest = some_script ms end.0 in
+      (response end.0.answers ++ rest.0, (requests.0, end.0, rest.0, requests.2, end.1, rest.1, refl))
 
 -- ---- the data of calls
 
@@ -173,9 +163,9 @@ asked_same s same = (grind arith, grind arith)
 unit_alike : {a b : Request} (s : State) (reply : Reply) → Same a b → after_unit s 1 a reply ≡ after_unit s 1 b reply
 unit_alike s reply same = grind arith
 
-reply_alike : {a b : Request} (r : Rest) (reply : Reply) → Same a b → after_reply r a reply ≡ after_reply r b reply
-reply_alike r Parked same = ap (λ (s : State). waited (flushed (record r { state = s }))) (unit_alike r.state Parked same)
-reply_alike r reply same = ap (λ (s : State). outcome (record r { state = s }) reply) (unit_alike r.state reply same)
+finished_alike : {a b : Request} (r : Point) (reply : Reply) → Same a b → finished r a reply ≡ finished r b reply
+finished_alike r Parked same = ap (λ (s : State). waited (flushed (replied r Parked s))) (unit_alike r.state Parked same)
+finished_alike r reply same = ap {B = Reply × Point} (λ (s : State). (reply, replied r reply s)) (unit_alike r.state reply same)
 
 -- `one`: no body has two expansions
 module _ (o : Ones) (one : (body : List ℕ) (args : List (List ℕ)) (result other : Result (List ℕ) ScpiError) → ExpandsTo body args result → ExpandsTo body args other → result ≡ other) where
@@ -183,55 +173,44 @@ module _ (o : Ones) (one : (body : List ℕ) (args : List (List ℕ)) (result ot
   one_given true body args given other g h = g ∙ sym h
   one_given false body args given other g h = one body args given other g h
 
-  one_call : {a b : Request} {body : List ℕ} {x y : Reply} → Same a b → Expands a body x → Expands b body y → x ≡ y
-  one_call {a} {b} {body} same p q =
-      let gives : ExpandsAt a.inside body (written p.parameters) q.given = rw (same.place, same.parameters p.parameters q.parameters p.holds q.holds) q.gives in
-      let given = one_given a.inside body (written p.parameters) p.given q.given p.gives gives in grind arith
-
-  one_reply : {s : State} {a b : Request} {x y : Reply} → Same a b → Replies s a x → Replies s b y → x ≡ y
-  one_reply same (Early p) (Early q) = refl
-  one_reply {s} same (Early p) (ByMacro q body g h) = cc (p, q, (asked_same s same).1)
-  one_reply {s} same (Early p) (ByMeaning q g h) = cc (p, q, (asked_same s same).1)
-  one_reply {s} same (ByMacro p body f e) (Early q) = cc (p, q, (asked_same s same).1)
-  one_reply {s} {a} {b} {x} {y} same (ByMacro p body f e) (ByMacro q other g h) =
-      let is : other ≡ body = cc (f, g, (asked_same s same).0) in one_call same e (subst (λ (z : List ℕ). Expands b z y) is h)
-  one_reply {s} same (ByMacro p body f e) (ByMeaning q g h) = cc (f, g, (asked_same s same).0)
-  one_reply {s} same (ByMeaning p f e) (Early q) = cc (p, q, (asked_same s same).1)
-  one_reply {s} same (ByMeaning p f e) (ByMacro q body g h) = cc (f, g, (asked_same s same).0)
-  one_reply same (ByMeaning p f e) (ByMeaning q g h) = let reading = same.reading in grind arith
+  one_reply : (s : State) {a b : Request} {x y : Reply} → Same a b → (body : Option (List ℕ)) → Replies s a body x → Replies s b body y → x ≡ y
+  one_reply s same None p q = p ∙ ap (λ (z : Result Command ScpiError). answer_meant s.flush (meant (here s 1) z)) same.reading ∙ sym q
+  one_reply s {a} {b} same (Some body) (list, given, holds, gives, is) (others, other, holds_too, gives_too, is_too) =
+      let data_same = same.parameters list others holds holds_too in
+      let gives_same : ExpandsAt a.inside body (written list) other = rw (same.place, data_same) gives_too in
+      is ∙ ap answer_call (one_given a.inside body (written list) given other gives gives_same) ∙ sym is_too
 
   -- ---- units
 
-  one_from : (r : Rest) (a b : Request) → Same a b → (reply : Reply) (x y : UnitOutcome) → HasOutcomeFrom r a reply x → HasOutcomeFrom r b reply y → x ≡ y
-  one_from r a b same Later x y (p, replies, is) (q, replies_too, is_too) = let reply = one_reply same replies replies_too in let then = reply_alike (flushed r) q same in grind arith
-  one_from r a b same reply x y is is_too = let then = reply_alike r reply same in grind arith
+  one_unit : (r : Point) {a b : Request} → Same a b → {reply other : Reply} {x y : Point} → HasOutcome r a reply x → HasOutcome r b other y → (reply ≡ other) × (x ≡ y)
+  one_unit r {a} {b} same {reply} {other} {x} {y} (first, replies, is) q =
+      let now : Point = if is_later r.state 1 a then flushed r else r in
+      let too : OutcomeAt now b other y = subst (λ (late : Bool). OutcomeAt (if late then flushed r else r) b other y) (sym (asked_same r.state same).1) q in
+      let one = one_reply now.state same (called now.state a) replies (subst (λ (body : Option (List ℕ)). Replies now.state b body too.0) (sym (asked_same now.state same).0) too.1) in
+      let all = sym is ∙ ap (finished now a) one ∙ finished_alike now too.0 same ∙ too.2 in (ap (λ (z : Reply × Point). z.0) all, ap (λ (z : Reply × Point). z.1) all)
 
-  one_unit : (r : Rest) (a b : Request) → Same a b → (x y : UnitOutcome) → HasOutcome r a x → HasOutcome r b y → x ≡ y
-  one_unit r a b same x y (p, replies, goes) (q, replies_too, goes_too) = one_from r a b same p x y goes (rw (one_reply same replies replies_too) goes_too)
+  one_inside : (requests others : List Request) (r x y : Point) → Alike requests others → ExecutesInside r requests x → ExecutesInside r others y → x ≡ y
+  one_inside [] [] r x y alike p q = p ∙ sym q
+  one_inside (a ∷ more) (b ∷ rest) r x y (same, alike) (reply, mid, goes, tells) (other, there, goes_too, tells_too) =
+      let one = one_unit r same goes goes_too in one_inside more rest mid x y alike tells (rw one.1 tells_too)
+  one_inside requests others r x y alike p q = absurd alike
 
-  one_inside : (requests others : List Request) (r : Rest) (answers : List (List ℕ)) (x y : Spoken) → Alike requests others → SpeaksInside r answers requests x → SpeaksInside r answers others y → x ≡ y
-  one_inside [] [] r answers x y alike p q = p ∙ sym q
-  one_inside (a ∷ more) (b ∷ rest) r answers x y (same, alike) (went, goes, tells) (there, goes_too, tells_too) =
-      one_inside more rest went.rest (with_answer answers went.reply) x y alike tells (rw (one_unit r a b same went there goes goes_too) tells_too)
-  one_inside requests others r answers x y alike p q = absurd alike
+  one_expansion : (reply : Reply) (r x y : Point) → ExecutesReply r reply x → ExecutesReply r reply y → x ≡ y
+  one_expansion (Expand bytes) r x y (requests, asks, p) (others, asks_too, q) = one_inside requests others r x y (one_asked o true bytes requests others asks asks_too) p q
+  one_expansion reply r x y p q = p ∙ sym q
 
-  one_told : (reply : Reply) (r : Rest) (answers : List (List ℕ)) (x y : Spoken) → SpeaksReply r answers reply x → SpeaksReply r answers reply y → x ≡ y
-  one_told (Expand bytes) r answers x y (requests, asks, tells) (others, asks_too, tells_too) =
-      one_inside requests others r answers x y (one_asked o true bytes requests others asks asks_too) tells tells_too
-  one_told reply r answers x y p q = p ∙ sym q
-
-  one_line : (requests others : List Request) (r : Rest) (answers : List (List ℕ)) (x y : Spoken) → Alike requests others → Speaks r answers requests x → Speaks r answers others y → x ≡ y
-  one_line [] [] r answers x y alike p q = p ∙ sym q
-  one_line (a ∷ more) (b ∷ rest) r answers x y (same, alike) (went, some, goes, reported, tells) (there, some_too, goes_too, reported_too, tells_too) =
-      let is : some ≡ some_too = one_told went.reply went.rest answers some some_too reported (rw (one_unit r a b same went there goes goes_too) reported_too) in
-      one_line more rest some.rest some.answers x y alike tells (rw is tells_too)
-  one_line requests others r answers x y alike p q = absurd alike
+  one_line : (requests others : List Request) (r x y : Point) → Alike requests others → Executes r requests x → Executes r others y → x ≡ y
+  one_line [] [] r x y alike p q = p ∙ sym q
+  one_line (a ∷ more) (b ∷ rest) r x y (same, alike) (reply, mid, next, goes, puts, tells) (other, there, later, goes_too, puts_too, tells_too) =
+      let one = one_unit r same goes goes_too in let is : next ≡ later = one_expansion reply mid next later puts (rw (one.0, one.1) puts_too) in
+      one_line more rest next x y alike tells (rw is tells_too)
+  one_line requests others r x y alike p q = absurd alike
 
   -- ---- messages
 
-  pub one_script : (ms : List Message) (r : Rest) (text other : List ℕ) → Scripted r ms text → Scripted r ms other → text ≡ other
+  pub one_script : (ms : List Message) (r : Point) (text other : List ℕ) → Scripted r ms text → Scripted r ms other → text ≡ other
   one_script [] r text other a b = a ∙ sym b
   one_script (Message.Power ∷ ms) r text other a b = one_script ms (at_start r.state.flush.limit r.stored) text other a b
   one_script (Message.Line source ∷ ms) r text other (requests, all, more, asks, tells, script, is) (others, every, rest, asks_too, tells_too, script_too, is_too) =
-      let same : all ≡ every = one_line requests others r [] all every (one_asking o source requests others asks asks_too) tells tells_too in
-      let after = one_script ms all.rest more rest script (rw same script_too) in grind arith
+      let same : all ≡ every = one_line requests others (record r { answers = [] }) all every (one_asking o source requests others asks asks_too) tells tells_too in
+      let after = one_script ms all more rest script (rw same script_too) in grind arith

@@ -1,5 +1,5 @@
 -- What `recover` reports of an image, and the text of the report. The texts are this project's own.
-use Rattle.std.specs.Prelude.{◌≡◌, ℕ, true, List, [], ◌∷◌, length, map, Bool, false, Option, Some, None, ◌++◌, codes, decimal}
+use Rattle.std.specs.Prelude.{◌≡◌, ℕ, true, List, [], ◌∷◌, length, map, flat_map, Option, Some, None, ◌++◌, codes, decimal, if◌then◌else◌}
 use Rattle.psu_map.specs.Map.{Item, cost}
 use Rattle.psu_items.specs.Image.{current_root, number_in, version_in, Represents}
 use Rattle.psu_nv.specs.Contents.{items_of, fits, IsContents, Contents}
@@ -10,8 +10,6 @@ use Rattle.psu_status.specs.Status.{prescribed}
 use Rattle.psu_run.specs.declared.recovery.report.Report.{Report}
 use Rattle.psu_run.specs.declared.recovery.report.ReportedFile.{ReportedFile}
 use Rattle.psu_status.specs.declared.groups.Enables.{Enables}
-
--- ---- files
 
 -- the type and the size of a file as it is kept: the byte of its type, and then its own bytes
 abbrev pub of_value : List ℕ → FileKind × ℕ
@@ -25,8 +23,6 @@ entry file = (file.key, of_value file.value)
 -- a file as it is reported
 abbrev pub reported : {A : Type 0} → ReportedFile A → List ℕ × (FileKind × ℕ)
 reported file = (file.name, (file.kind, file.size))
-
--- ---- reports
 
 -- The report has what is kept of these contents, and this version, root, limit, cost and first service request: the enables,
 -- the number of bytes of user data, the number of macros, the files in byte order of their names, and whether the
@@ -52,40 +48,27 @@ pub record IsReported {A : Type 0} (image : List ℕ) (report : Report A) : Type
   pub stands : Represents image report.limit (items_of contents)
   pub reports : Reports contents (prescribed contents.enables) (version_in (current_root image) image) (number_in (current_root image) image) report.limit (cost (items_of contents)) report
 
--- ---- the text of a report: a line for each fact
+-- ---- the text of a report
 
-abbrev pub image_line : ℕ → ℕ → List ℕ
-image_line version root = codes "image version " ++ decimal version ++ codes " root " ++ decimal root ++ codes "\n"
+abbrev pub enables_text : Option Enables → List ℕ
+enables_text None = codes "none"
+enables_text (Some enables) = decimal enables.sre ++ codes " " ++ decimal enables.ese
 
-abbrev pub pages_line : ℕ → ℕ → List ℕ
-pages_line pages limit = codes "pages " ++ decimal pages ++ codes " of " ++ decimal limit ++ codes "\n"
+abbrev pub request_text : Option ℕ → List ℕ
+request_text None = codes "none"
+request_text (Some byte) = decimal byte
 
-abbrev pub enables_line : Option Enables → List ℕ
-enables_line None = codes "enables none\n"
-enables_line (Some enables) = codes "enables " ++ decimal enables.sre ++ codes " " ++ decimal enables.ese ++ codes "\n"
+abbrev pub file_line : {A : Type 0} → ReportedFile A → List ℕ
+file_line file = codes "file " ++ file.name ++ codes "," ++ kind_text file.kind ++ codes "," ++ decimal file.size ++ codes "\n"
 
--- some words and a number
-abbrev pub count_line : List ℕ → ℕ → List ℕ
-count_line words count = words ++ decimal count ++ codes "\n"
-
-abbrev pub request_line : Option ℕ → List ℕ
-request_line None = codes "request none\n"
-request_line (Some byte) = count_line (codes "request ") byte
-
--- a line only where the settings at power-on are those of register 0
-abbrev pub power_line : Bool → List ℕ
-power_line true = codes "power RCL0\n"
-power_line false = []
-
-abbrev pub file_line : List ℕ → FileKind → ℕ → List ℕ
-file_line name kind size = codes "file " ++ name ++ codes "," ++ kind_text kind ++ codes "," ++ decimal size ++ codes "\n"
-
--- a line for each file
-abbrev pub file_lines : {A : Type 0} → List (ReportedFile A) → List ℕ
-file_lines [] = []
-file_lines (file ∷ files) = file_line file.name file.kind file.size ++ file_lines files
-
+-- a line for each fact; that on the settings at power-on is there where they are those of register 0
 abbrev pub report_text_of : {A : Type 0} → Report A → List ℕ
 report_text_of r =
-    image_line r.version r.root ++ pages_line r.pages r.limit ++ enables_line r.enables ++ request_line r.request
-    ++ power_line r.recall ++ count_line (codes "user ") r.user ++ count_line (codes "macros ") r.macros ++ file_lines r.files.items
+    codes "image version " ++ decimal r.version ++ codes " root " ++ decimal r.root ++ codes "\n"
+    ++ codes "pages " ++ decimal r.pages ++ codes " of " ++ decimal r.limit ++ codes "\n"
+    ++ codes "enables " ++ enables_text r.enables ++ codes "\n"
+    ++ codes "request " ++ request_text r.request ++ codes "\n"
+    ++ (if r.recall then codes "power RCL0\n" else [])
+    ++ codes "user " ++ decimal r.user ++ codes "\n"
+    ++ codes "macros " ++ decimal r.macros ++ codes "\n"
+    ++ flat_map file_line r.files.items

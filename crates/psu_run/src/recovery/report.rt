@@ -1,6 +1,6 @@
 //! What a restart would find in an image.
-ghost use Rattle.std.specs.Prelude.{◌≡◌, IfOk, OnOk, ◌++◌};
-ghost use Rattle.psu_run.specs.Recover.{image_line, pages_line, enables_line, request_line, power_line, count_line, file_line, file_lines, report_text_of};
+ghost use Rattle.std.specs.Prelude.{◌≡◌, IfOk, OnOk, ◌++◌, [], if◌then◌else◌, codes, decimal, flat_map};
+ghost use Rattle.psu_run.specs.Recover.{enables_text, request_text, file_line, report_text_of};
 
 use itoa::Buffer;
 use psu_lex::Bytes;
@@ -66,7 +66,7 @@ fn put_image<A: Allocator + Copy>(
     text: &mut Vec<u8, A>,
     report: &Report<A>,
 ) -> Result<(), AllocError>
-    ensures { OnOk result (text.new.items ≡ text.old.items ++ image_line report.now.version report.now.root) }
+    ensures { OnOk result (text.new.items ≡ text.old.items ++ codes "image version " ++ decimal report.now.version ++ codes " root " ++ decimal report.now.root ++ codes "\n") }
 {
     let mut version = Buffer::new();
     let mut root = Buffer::new();
@@ -82,7 +82,7 @@ fn put_pages<A: Allocator + Copy>(
     text: &mut Vec<u8, A>,
     report: &Report<A>,
 ) -> Result<(), AllocError>
-    ensures { OnOk result (text.new.items ≡ text.old.items ++ pages_line report.now.pages report.now.limit) }
+    ensures { OnOk result (text.new.items ≡ text.old.items ++ codes "pages " ++ decimal report.now.pages ++ codes " of " ++ decimal report.now.limit ++ codes "\n") }
 {
     let mut pages = Buffer::new();
     let mut limit = Buffer::new();
@@ -98,7 +98,7 @@ fn put_enables<A: Allocator + Copy>(
     text: &mut Vec<u8, A>,
     enables: Option<Enables>,
 ) -> Result<(), AllocError>
-    ensures { OnOk result (text.new.items ≡ text.old.items ++ enables_line enables) }
+    ensures { OnOk result (text.new.items ≡ text.old.items ++ codes "enables " ++ enables_text enables ++ codes "\n") }
 {
     let Some(Enables { sre, ese }) = enables else {
         text.extend_from_slice(b"enables none\n")?;
@@ -118,7 +118,7 @@ fn put_request<A: Allocator + Copy>(
     text: &mut Vec<u8, A>,
     request: Option<u8>,
 ) -> Result<(), AllocError>
-    ensures { OnOk result (text.new.items ≡ text.old.items ++ request_line request) }
+    ensures { OnOk result (text.new.items ≡ text.old.items ++ codes "request " ++ request_text request ++ codes "\n") }
 {
     let Some(byte) = request else {
         text.extend_from_slice(b"request none\n")?;
@@ -130,7 +130,7 @@ fn put_request<A: Allocator + Copy>(
 
 // Appends the line on the settings at power-on, which is written only where they are those of register 0.
 fn put_power<A: Allocator + Copy>(text: &mut Vec<u8, A>, recall: bool) -> Result<(), AllocError>
-    ensures { OnOk result (text.new.items ≡ text.old.items ++ power_line recall) }
+    ensures { OnOk result (text.new.items ≡ text.old.items ++ (if recall then codes "power RCL0\n" else [])) }
 {
     if recall {
         text.extend_from_slice(b"power RCL0\n")?;
@@ -143,7 +143,7 @@ fn put_count<A: Allocator + Copy>(
     words: &[u8],
     count: usize,
 ) -> Result<(), AllocError>
-    ensures { OnOk result (text.new.items ≡ text.old.items ++ count_line words.now count) }
+    ensures { OnOk result (text.new.items ≡ text.old.items ++ words.now ++ decimal count ++ codes "\n") }
 {
     let mut number = Buffer::new();
     text.extend_from_slice(words)?;
@@ -156,7 +156,7 @@ fn put_file<A: Allocator + Copy>(
     text: &mut Vec<u8, A>,
     file: &ReportedFile<A>,
 ) -> Result<(), AllocError>
-    ensures { OnOk result (text.new.items ≡ text.old.items ++ file_line file.now.name file.now.kind file.now.size) }
+    ensures { OnOk result (text.new.items ≡ text.old.items ++ file_line file.now) }
 {
     let mut size = Buffer::new();
     text.extend_from_slice(b"file ")?;
@@ -173,7 +173,7 @@ fn put_files<A: Allocator + Copy>(
     text: &mut Vec<u8, A>,
     files: &[ReportedFile<A>],
 ) -> Result<(), AllocError>
-    ensures { OnOk result (text.new.items ≡ text.old.items ++ file_lines files.now) }
+    ensures { OnOk result (text.new.items ≡ text.old.items ++ flat_map file_line files.now) }
 {
     for file in files {
         put_file(text, file)?;

@@ -1,6 +1,6 @@
-use Rattle.std.proofs.Common.{◌≡◌, ◌++◌, drop}
-use Rattle.psu_run.specs.Recover.{file_lines}
+use Rattle.std.proofs.Common.{◌≡◌, ◌++◌, drop, flat_map}
+use Rattle.psu_run.specs.Recover.{file_line}
 use Rattle.psu_run.proofs.recovery.report.put_files.Given as goal
 
 abbrev pub invariant-loop-file : goal.invariant-loop-file
-invariant-loop-file g l = l.text.items ++ file_lines (drop l.file-index l.files) ≡ l.initial.text.items ++ file_lines l.files
+invariant-loop-file g l = l.text.items ++ flat_map file_line (drop l.file-index l.files) ≡ l.initial.text.items ++ flat_map file_line l.files
