@@ -49,12 +49,13 @@ fn is_kept(client: &mut Client) -> Result<(), Missed> {
     client.ask(b"*OPC?", b"1\n")
 }
 
-// By how much some seconds of the server's clock, which counts milliseconds, may be shorter than they are.
-const SLACK: Duration = Duration::from_millis(10);
+// By how many milliseconds some seconds of the server's clock, which counts milliseconds, may be shorter than they are.
+const SLACK: u64 = 10;
 
 // Returns how many seconds of the server may have passed since a time.
 fn seconds_since<R: Clock>(rt: &R, begin: Instant) -> Result<u64, Missed> {
-    Ok(since(rt, begin)?.saturating_add(SLACK).as_secs())
+    let passed = since(rt, begin)?.saturating_add(Duration::from_millis(SLACK));
+    Ok(passed.as_secs())
 }
 
 // Checks that since the beginning the disk was tried, again at most once, and then once a second and no more often.
