@@ -34,9 +34,9 @@ stands_stops since before now rest last image left limit contents (Start start.N
 stands_stops since before now rest last image left limit contents (Start start.BadRoot) later sound stands why = absurd (represents_unrefused image limit (items_of contents) BadImage.BadRoot stands why)
 stands_stops since before now rest last image left limit contents (Start start.BadVersion) later sound stands why = absurd (represents_unrefused image limit (items_of contents) BadImage.BadVersion stands why)
 stands_stops since before now rest last image left limit contents (Start start.BadItems) later sound stands why =
-    let one = represents_one limit why.limit (items_of contents) why.map image stands why.stands in
+    let one = represents_one limit why.0 (items_of contents) why.1 image stands why.2 in
     let cheap = represents_within image limit (items_of contents) stands in let few = sound.most_macros in let fitting : fits limit contents ≡ true = grind (arith, nat_tests, cheap, few) in
-    absurd (why.none contents sound (subst (λ (n : ℕ). fits n contents ≡ true) one.0 fitting) one.1)
+    absurd (why.3 contents sound (subst (λ (n : ℕ). fits n contents ≡ true) one.0 fitting) one.1)
 stands_stops since before now rest last image left limit contents start_fault.Memory later sound stands why = tt
 
 pub restart_stops : (since before now : ℕ) (rest : List Message) (last : World) (disk : DiskState) (left : List ℕ) (why : StartFault) (f : Flush) → since ≤ before → IsConsistent f

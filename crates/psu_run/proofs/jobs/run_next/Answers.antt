@@ -9,15 +9,15 @@ pub returns-then-run_job-clause-stops : goal.returns-then-run_job-clause-stops
 returns-then-run_job-clause-stops g c =
     record { leads = steps_job _ _ _ _ _ _ c.in-Ok.ensures.step c.in-Ok.ensures.job c.run_job.ensures.run tt; why = λ before t. tt }
 
-pub returns-in-Err-Nothing-clause-steps : goal.returns-in-Err-Nothing-clause-steps
-returns-in-Err-Nothing-clause-steps g c = steps_take _ _ Nothing _ (rw c.in-Err-Nothing.field-0-is at c.in-Err-Nothing.ensures.step) c.in-Err-Nothing.ensures.idle_store refl
+pub returns-in-Err-Nothing-clause-take : goal.returns-in-Err-Nothing-clause-take
+returns-in-Err-Nothing-clause-take g c = λ e. steps_take _ _ Nothing _ (rw c.in-Err-Nothing.field-0-is at c.in-Err-Nothing.ensures.step) c.in-Err-Nothing.ensures.idle_store refl
 
 pub returns-in-Err-Memory-clause-stops : goal.returns-in-Err-Memory-clause-stops
 returns-in-Err-Memory-clause-stops g c =
     record { leads = steps_take _ _ Memory _ (rw c.in-Err-Memory.field-0-is at c.in-Err-Memory.ensures.step) c.in-Err-Memory.ensures.idle_store tt; why = λ before t. tt }
 
-pub returns-else-run_job-clause-steps : goal.returns-else-run_job-clause-steps
-returns-else-run_job-clause-steps g c =
+pub returns-else-run_job-clause-job : goal.returns-else-run_job-clause-job
+returns-else-run_job-clause-job g c = λ e.
     let run = c.run_job.ensures.run in steps_job _ _ c.run_job.new.exec _ _ _ c.in-Ok.ensures.step c.in-Ok.ensures.job run
     (record { job = job_data c.in-Ok.job; finished = run.finished; over = run.over; are = refl; own = run.own; long = λ e. let short = run.short_is.1 e in let long = c.if-run_job.false in cc })
 
