@@ -168,7 +168,8 @@ module _ {D A : Type 0} {G : Ghosts D} {X : Type 0} (exec : X → Exec D A G) (o
         text,
         subst (λ (z : Exec D A G). DeviceStops (exec x) z (LineBegins source text) cause) (sym d.0) (record {
           leads = steps_as (exec x) (exec mid) (Makes a.added) (LineBegins source text) f.0 (λ xs m. subst (LineBegins source text) (append-nil xs) (line x mid c a xs [] m (inl refl)));
-          why = λ before t. let own = d.2 in grind arith;
+          own = inr d.2;
+          why = λ e. let own = d.2 in absurd (grind arith);
         }),
         until_rest cause (output x) (output mid) (output y) (text_sent a.added) c.text.rest f.1 d.1,
       )
@@ -179,7 +180,8 @@ module _ {D A : Type 0} {G : Ghosts D} {X : Type 0} (exec : X → Exec D A G) (o
         text,
         subst (λ (z : Exec D A G). DeviceStops (exec x) z (LineBegins source text) cause) (sym s.0) (record {
           leads = steps_then (exec x) (exec mid) (exec here) (Makes a.added) (Begins (request ∷ [])) (LineBegins source text) f.0 d.1 (λ xs ys m b. line x mid c a xs ys m (inr (request, next, b)));
-          why = λ before t. let own = s.2 in grind arith;
+          own = inr s.2;
+          why = λ e. let own = s.2 in absurd (grind arith);
         }),
         until_rest cause (output x) (output mid) (output y) (text_sent a.added) c.text.rest f.1 (subst (λ (t : OutputState). SaysUntil cause t (output y) []) d.0 s.1),
       )

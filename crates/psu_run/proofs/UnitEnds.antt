@@ -83,7 +83,8 @@ steps_wait old mid new reply flushes serves there =
 pub device_stops_cleared : {D A : Type 0} {G : Ghosts D} (old mid new : Exec D A G) (cause : RunCause) → DeviceStops old mid (Begins []) cause → Serves mid.device (Cleared 1) new.device → new.idle_store ≡ mid.idle_store → DeviceStops old new (Begins []) cause
 device_stops_cleared old mid new cause stops serves there = record {
   leads = steps_then _ _ _ _ (Begins []) _ stops.leads (steps_call _ _ (Cleared 1) _ serves there (grind arith) (λ life d e. e) (λ image. tt) (λ e. e) tt) (λ xs ys b e. begins_idle xs ys [] b e);
-  why = λ before t. let w = stops.why before t in grind arith;
+  own = stops.own;
+  why = λ e before t. let w = stops.why e before t in grind arith;
 }
 
 -- ---- a unit whose reply is `Later`

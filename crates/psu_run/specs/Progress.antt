@@ -21,7 +21,7 @@ use Rattle.psu_messages.specs.ResponseBuffer.{Text}
 use Rattle.psu_run.specs.Lines.{Message, messages}
 use Rattle.psu_run.specs.Runs.{EndsJob, IsAlong, IsByFailure, IsFlush, IsSound, IsUnit, IsWornOut, MemoryRefused, RunStep, Runs, RunsUpTo, SomeBreak, StopsAt, StoreBroken, Walks, WritesShort, fault_of, never}
 use Rattle.psu_run.specs.declared.run_cause.RunCause.{RunCause}
-use Rattle.psu_run.specs.declared.run_cause.RunCause.TheVariants.{Device, Open, Read, TooLong, Write}
+use Rattle.psu_run.specs.declared.run_cause.RunCause.TheVariants.{Device, Memory, Write}
 use Rattle.psu_run.specs.declared.run_fault.RunFault.{RunFault}
 
 -- ---- the disk of a device at rest
@@ -117,19 +117,12 @@ pub record Leads {D A : Type 0} {G : Ghosts D} (old new : Exec D A G) (P : List 
   pub ran : Ran old (disk_in new.idle_store) (λ steps last. IsOf new last × P steps)
   pub tied : (before : ℕ) → IsTied before old → IsTied before new
 
--- A unit or a flush fails to end only where the disk failed after this count, or where changes are left and no number is
--- left for a commit.
-abbrev pub IsHaltedBy : {D A : Type 0} {G : Ghosts D} → ℕ → Exec D A G → RunCause → Type 0
-IsHaltedBy before exec Device = HasFailed before (failures_of exec) ⊎ ((exec.device.flush.store ≡ Worn) × (1 ≤ exec.device.flush.unflushed))
-IsHaltedBy before exec TooLong = ⊥
-IsHaltedBy before exec Read = ⊥
-IsHaltedBy before exec (Open cause) = ⊥
-IsHaltedBy before exec cause = ⊤
-
--- these steps lead to a device that stops for this cause
+-- These steps lead to a device that stops for this cause: the disk failed after each count that is tied, or changes are
+-- left and no number is left for a commit; or memory is refused, or the writer failed.
 pub record DeviceStops {D A : Type 0} {G : Ghosts D} (old new : Exec D A G) (P : List RunStep → Type 0) (cause : RunCause) : Type 0 where
   pub leads : Leads old new P
-  pub why : (before : ℕ) → IsTied before old → IsHaltedBy before new cause
+  pub own : (cause ≡ Device) ⊎ (cause ≡ Memory) ⊎ (cause ≡ Write)
+  pub why : cause ≡ Device → (before : ℕ) → IsTied before old → HasFailed before (failures_of new) ⊎ ((new.device.flush.store ≡ Worn) × (1 ≤ new.device.flush.unflushed))
 
 -- the early end of a run for this cause: the disk and the condition of the store are those of the device
 pub record FaultOf {D A : Type 0} {G : Ghosts D} (exec : Exec D A G) (cause : RunCause) (fault : RunFault D) : Type 0 where

@@ -27,7 +27,8 @@ returns-then-is_later-clause-stops g c =
     record {
       leads = steps_then _ _ _ _ _ _ late again (λ xs ys late t.
           begins_none (xs ++ ys) _ (begins_behind xs ys [] (late_begins _ xs late) (rw t ([], refl, tt))));
-      why = λ before t.
+      own = inl refl;
+      why = λ e before t.
           let room = c.in_ok-outcome-2.ensures.room still in
           let left = c.in_ok-flush.ensures.clean before ((c.in_ok-outcome.ensures.late (c.is_later.ensures.0 c.if-not-is_later.false)).tied before t) in let after = again.ran.later in
           grind arith;

@@ -1,4 +1,4 @@
-use Rattle.std.proofs.Common.{refl, ◌≢◌, Some, arith}
+use Rattle.std.proofs.Common.{refl, ◌≢◌, Some, arith, inl, inr}
 use Rattle.psu_run.proofs.Common.{MemoryRefused, Nothing, fault_of, job_data}
 use Rattle.psu_exec.specs.Calls.{Memory}
 use Rattle.psu_run.proofs.SessionOne.{job_free}
@@ -7,14 +7,14 @@ use Rattle.psu_run.proofs.jobs.run_next.Goals as goal
 
 pub returns-then-run_job-clause-stops : goal.returns-then-run_job-clause-stops
 returns-then-run_job-clause-stops g c =
-    record { leads = steps_job _ _ _ _ _ _ c.in-Ok.ensures.step c.in-Ok.ensures.job c.run_job.ensures.run tt; why = λ before t. tt }
+    record { leads = steps_job _ _ _ _ _ _ c.in-Ok.ensures.step c.in-Ok.ensures.job c.run_job.ensures.run tt; own = inr (inl refl); why = λ e. cc }
 
 pub returns-in-Err-Nothing-clause-take : goal.returns-in-Err-Nothing-clause-take
 returns-in-Err-Nothing-clause-take g c = λ e. steps_take _ _ Nothing _ (rw c.in-Err-Nothing.field-0-is at c.in-Err-Nothing.ensures.step) c.in-Err-Nothing.ensures.idle_store refl
 
 pub returns-in-Err-Memory-clause-stops : goal.returns-in-Err-Memory-clause-stops
 returns-in-Err-Memory-clause-stops g c =
-    record { leads = steps_take _ _ Memory _ (rw c.in-Err-Memory.field-0-is at c.in-Err-Memory.ensures.step) c.in-Err-Memory.ensures.idle_store tt; why = λ before t. tt }
+    record { leads = steps_take _ _ Memory _ (rw c.in-Err-Memory.field-0-is at c.in-Err-Memory.ensures.step) c.in-Err-Memory.ensures.idle_store tt; own = inr (inl refl); why = λ e. cc }
 
 pub returns-else-run_job-clause-job : goal.returns-else-run_job-clause-job
 returns-else-run_job-clause-job g c = λ e.
