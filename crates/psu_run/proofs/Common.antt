@@ -30,7 +30,7 @@ pub use Rattle.psu_messages.specs.ResponseBuffer.{Text, nothing}
 pub use Rattle.psu_messages.specs.Units.{Fault, IsRequest, Source, faulty, path_at}
 pub use Rattle.psu_nv.specs.Contents.{Contents, IsContents, items_of}
 pub use Rattle.psu_run.specs.Lines.{AreAsked, AreRequests, AskedBy, Brings, HasRead, Message, first_onto, has, message_of, messages, parts_of, source_of}
-pub use Rattle.psu_run.specs.Progress.{Answers, DeviceStops, EndsEarly, FaultOf, Fed, HasRun, IsDone, IsNow, IsOf, IsTied, IsWornAtLast, IsWrittenBefore, Leads, Life, OutputState, Ran, RanAll, Reached, RunStops, Says, SaysUntil, Since, born, disk_at, disk_in, extent_in, failures_in, failures_of, held, output_state, state_in, world_of}
+pub use Rattle.psu_run.specs.Progress.{Answers, DeviceStops, EndsEarly, FaultOf, Fed, IsDone, IsNow, IsOf, IsTied, IsWornAtLast, IsWrittenBefore, Leads, Life, OutputState, Ran, RanAll, Reached, RunStops, Says, SaysUntil, Since, born, disk_at, disk_in, extent_in, failures_in, failures_of, held, output_state, state_in, world_of}
 pub use Rattle.psu_run.specs.Runs.{Acts, AreCalm, Begins, Breaks, Called, CallsOnWorld, EventsLead, IsAlong, IsFlush, IsJob, IsLeftBy, IsOfRun, IsSound, IsUnit, Jobs, LineBegins, LineRuns, Makes, MemoryRefused, MessageRuns, NotStarted, PowersOn, Reopens, Restarted, RunStep, Runs, RunsUpTo, SomeBreak, StandsForPrefix, StepsTo, StopsAt, StopsFor, Walks, WritesShort, disk_from, fault_of, never}
 pub use Rattle.psu_run.specs.Script.{Executes, ExecutesInside, ExecutesReply, HasOutcome, IsScript, Point, Replies, Scripted, at_start, finished, flushed, replied, waited}
 pub use Rattle.psu_run.specs.declared.run_cause.RunCause.TheVariants.{Memory, Read, TooLong, Write}

@@ -1,25 +1,22 @@
 -- The progress of a run: what its parts leave of the device, of its disk and of the output.
-use Rattle.std.specs.Prelude.{◌≡◌, ◌≢◌, ◌⊎◌, ◌↔◌, Bool, true, IsTrue, ℕ, ◌+◌, ◌≤◌, ◌^◌, List, [], ◌++◌, Option, Some, None, ⊤}
+use Rattle.std.specs.Prelude.{◌≡◌, ◌≢◌, ◌⊎◌, ◌↔◌, true, IsTrue, ℕ, ◌+◌, ◌≤◌, ◌^◌, List, [], ◌++◌, Option, Some, None, ⊤}
 use Rattle.std.specs.Io.KnownBytes.{Appends}
 use Rattle.psu_disk.specs.Disk.{DiskState, HasFailed, IsCrashImage, LeavesOnly}
 use Rattle.psu_disk.specs.declared.disk.Disk.{Ghosts}
-use Rattle.psu_items.specs.Image.{IsEither}
 use Rattle.psu_items.specs.Standing.{MapOn}
 use Rattle.psu_nv.specs.Contents.{Contents}
-use Rattle.psu_exec.specs.Calls.{Commit, GaveBack, JobEnd, Serves}
-use Rattle.psu_exec.specs.Device.{is_broken, target}
+use Rattle.psu_exec.specs.Device.{is_broken}
 use Rattle.psu_exec.specs.Exec.{Exec}
-use Rattle.psu_exec.specs.Jobs.{idle_disk, job_data, job_disk}
-use Rattle.psu_exec.specs.World.{Event, IsStart, IsTrueOf, PastUnit, Run, Running, World}
+use Rattle.psu_exec.specs.Jobs.{idle_disk}
+use Rattle.psu_exec.specs.World.{Event, IsStart, PastUnit, Run, Running, World}
 use Rattle.psu_exec.specs.declared.idle_store.Condition.TheVariants.{Worn}
 use Rattle.psu_exec.specs.declared.idle_store.IdleStore.{IdleStore}
 use Rattle.psu_exec.specs.declared.idle_store.IdleStore.TheVariants as idle_store
-use Rattle.psu_exec.specs.declared.job.Job.{Job}
 use Rattle.psu_messages.specs.Effects as effect
 use Rattle.psu_messages.specs.Effects.{Effect, needs}
 use Rattle.psu_messages.specs.ResponseBuffer.{Text}
 use Rattle.psu_run.specs.Lines.{Message, messages}
-use Rattle.psu_run.specs.Runs.{EndsJob, IsAlong, IsByFailure, IsFlush, IsSound, IsUnit, IsWornOut, MemoryRefused, RunStep, Runs, RunsUpTo, SomeBreak, StopsAt, StoreBroken, Walks, WritesShort, fault_of, never}
+use Rattle.psu_run.specs.Runs.{IsAlong, IsByFailure, IsFlush, IsUnit, IsWornOut, RunStep, Runs, RunsUpTo, SomeBreak, StopsAt, Walks, WritesShort, never}
 use Rattle.psu_run.specs.declared.run_cause.RunCause.{RunCause}
 use Rattle.psu_run.specs.declared.run_cause.RunCause.TheVariants.{Device, Memory, Write}
 use Rattle.psu_run.specs.declared.run_fault.RunFault.{RunFault}
@@ -136,23 +133,6 @@ pub record FaultOf {D A : Type 0} {G : Ghosts D} (exec : Exec D A G) (cause : Ru
 -- an idle store is worn only where its number is the last
 abbrev pub IsWornAtLast : {D A : Type 0} {G : Ghosts D} → Exec D A G → Type 0
 IsWornAtLast {D} exec = (store : MapOn D) → exec.idle_store ≡ Some (idle_store.Whole store) → exec.device.flush.store ≡ Worn → 2 ^ 64 ≤ store.number + 1
-
--- the job that was out is given back; only a failed disk call breaks a store that was whole
-pub record HasRun {D A : Type 0} {G : Ghosts D} (old : Exec D A G) (job : Job D A G) (new : Exec D A G) (short : Bool) : Type 0 where
-  pub finished : JobEnd
-  pub over : List ℕ
-  pub give : Serves old.device (GaveBack finished (Some over)) new.device
-  pub short_is : IsTrue short ↔ (fault_of finished ≡ Some MemoryRefused)
-  pub own : EndsJob (job_data job).kind finished
-  pub stands : Ghosts.honest G → IsTrueOf (target old.device.flush) finished (disk_at new.idle_store)
-  pub later : Ghosts.failures G (job_disk job) ≤ failures_of new
-  pub extent : extent_of new ≡ Ghosts.extent G (job_disk job)
-  pub worn : IsWornAtLast new
-  pub sound : Ghosts.honest G → IsSound (GaveBack finished (Some over)) (disk_at new.idle_store).bytes
-  pub time : Ghosts.honest G → Ghosts.records G
-      → Since G (Some (job_disk job)) (disk_in new.idle_store) (IsEither (job_data job).limit (job_data job).before (job_data job).target)
-  pub failed : Ghosts.honest G → fault_of finished ≡ Some StoreBroken → HasFailed (Ghosts.failures G (job_disk job)) (failures_of new)
-  pub breaks : (job_data job).kind ≡ Commit → is_broken new.device.flush.store ≡ true → HasFailed (Ghosts.failures G (job_disk job)) (failures_of new)
 
 -- ---- the output
 

@@ -1,12 +1,14 @@
 //! The flush: jobs are run until there is none.
-ghost use Rattle.std.specs.Prelude.{◌≡◌, ◌≢◌, ◌⊎◌, ◌↔◌, ℕ, [], ◌∷◌, OnOk, IfOk, IfErr, IsTrue, true, false, None, Some};
+ghost use Rattle.std.specs.Prelude.{◌≡◌, ◌≢◌, ◌⊎◌, ◌↔◌, ◌≤◌, ℕ, List, [], ◌∷◌, OnOk, IfOk, IfErr, IsTrue, true, false, None, Some};
 ghost use Rattle.psu_disk.specs.Disk.{HasFailed};
-ghost use Rattle.psu_exec.specs.Calls.{HasNone, HasWork, Nothing, Took, job_of};
-ghost use Rattle.psu_exec.specs.Device.{is_broken, is_open, wait_of};
-ghost use Rattle.psu_exec.specs.Jobs.{finished_of, job_data};
+ghost use Rattle.psu_items.specs.Image.{IsEither};
+ghost use Rattle.psu_exec.specs.World.{IsTrueOf};
+ghost use Rattle.psu_exec.specs.Calls.{Commit, GaveBack, HasNone, HasWork, JobEnd, Nothing, Serves, Took, job_of};
+ghost use Rattle.psu_exec.specs.Device.{is_broken, is_open, target, wait_of};
+ghost use Rattle.psu_exec.specs.Jobs.{finished_of, job_data, job_disk};
 ghost use Rattle.psu_exec.specs.declared.idle_store.Condition.TheVariants.{Whole, Worn};
-ghost use Rattle.psu_run.specs.Progress.{DeviceStops, HasRun, IsTied, IsWornAtLast, Leads, failures_of};
-ghost use Rattle.psu_run.specs.Runs.{Begins, Called, IsFlush, IsJob, MemoryRefused, Reopens, fault_of};
+ghost use Rattle.psu_run.specs.Progress.{DeviceStops, IsTied, IsWornAtLast, Leads, Since, disk_at, disk_in, extent_of, failures_of};
+ghost use Rattle.psu_run.specs.Runs.{Begins, Called, EndsJob, IsFlush, IsJob, IsSound, MemoryRefused, Reopens, StoreBroken, fault_of};
 
 use crate::RunCause;
 use psu_disk::Disk;
@@ -46,7 +48,17 @@ fn is_broken(condition: Condition) -> bool
 fn run_job<D: Disk, A: Allocator + Copy>(exec: &mut Exec<D, A>, job: Job<D, A>) -> bool
     requires out { exec.old.device.flush.out ≡ true }
     requires own { job_data job ≡ job_of exec.old.device.flush }
-    ensures run { HasRun exec.old job exec.new result }
+    ensures run { (finished : JobEnd) × (over : List ℕ) × Serves exec.old.device (GaveBack finished (Some over)) exec.new.device
+        × (IsTrue result ↔ (fault_of finished ≡ Some MemoryRefused)) × EndsJob (job_data job).kind finished
+        × (D.honest → IsTrueOf (target exec.old.device.flush) finished (disk_at exec.new.idle_store)
+        × IsSound (GaveBack finished (Some over)) (disk_at exec.new.idle_store).bytes
+        × (fault_of finished ≡ Some StoreBroken → HasFailed (D.failures (job_disk job)) (failures_of exec.new))) }
+    ensures later { D.failures (job_disk job) ≤ failures_of exec.new }
+    ensures extent { extent_of exec.new ≡ D.extent (job_disk job) }
+    ensures worn { IsWornAtLast exec.new }
+    ensures time { D.honest → D.records → Since D.Disk (Some (job_disk job)) (disk_in exec.new.idle_store) (IsEither (job_data job).limit (job_data job).before (job_data job).target) }
+    // Only a failed disk call breaks a store that was whole.
+    ensures breaks { (job_data job).kind ≡ Commit → is_broken exec.new.device.flush.store ≡ true → HasFailed (D.failures (job_disk job)) (failures_of exec.new) }
 {
     let finished = job.run();
     let short = is_short(finished.end());
