@@ -9,6 +9,10 @@ pub returns-then-run_job-clause-stops : goal.returns-then-run_job-clause-stops
 returns-then-run_job-clause-stops g c =
     let r = c.run_job.ensures in record { leads = steps_job _ c.take.new.self c.run_job.new.exec _ _ _ _ c.in-Ok.ensures.step c.in-Ok.ensures.job r.run.2 r.run.5 r.later r.extent r.time r.breaks tt; own = inr (inl refl); why = λ e. cc }
 
+pub returns-then-run_job-clause-free : goal.returns-then-run_job-clause-free
+returns-then-run_job-clause-free g c =
+    let run = c.run_job.ensures.run in job_free c.args.exec.now.device c.take.new.self.device c.run_job.new.exec.device (job_data c.in-Ok.job) run.0 run.1 c.in-Ok.ensures.step run.2
+
 pub returns-in-Err-Nothing-clause-take : goal.returns-in-Err-Nothing-clause-take
 returns-in-Err-Nothing-clause-take g c = λ e. steps_take _ _ Nothing _ (rw c.in-Err-Nothing.field-0-is at c.in-Err-Nothing.ensures.step) c.in-Err-Nothing.ensures.idle_store refl
 
