@@ -139,8 +139,8 @@ acts_alone : {r : Point} {w new : World} {c : Request} {o : Reply} {steps : List
 acts_alone {r} {w} {new} {c} {o} q holds (final, inl all) walk =
     let u = unit_called (r.answers ++ answer_in o) q (calmly_as all walk) in let a = calm_answer r.state c o holds u.0 (grind arith) (grind arith) u.1 in
     (a.0, replied r o (after_unit r.state 1 c o), (o, a.1, grind arith), u.2, refl)
-acts_alone {r} {w} {new} {c} {o} q holds (final, inr (wait, (flush, f, ends), all)) walk =
-    let a = parted (Called (Executed 1 c Parked) ∷ []) wait all walk in let b = parted flush (Called (Settled 1 o) ∷ []) ends a.2 in
+acts_alone {r} {w} {new} {c} {o} q holds (final, inr (flush, f, all)) walk =
+    let a = parted (Called (Executed 1 c Parked) ∷ []) (flush ++ Called (Settled 1 o) ∷ []) all walk in let b = parted flush (Called (Settled 1 o) ∷ []) refl a.2 in
     let parked = replied r Parked (after_unit r.state 1 c Parked) in
     let u = unit_called (r.answers ++ []) q a.1 in let t = settle_alone (flush_alone u.2 f b.1) b.2 in
     let i = calm_answer r.state c Parked holds u.0 (λ e. cc) (λ e. cc) u.1 in let now = flushed parked in (

@@ -1,7 +1,7 @@
 -- The lines of a piece, one after another, and the pieces of an input.
-use Rattle.std.proofs.Common.{arith, ◌≡◌, ℕ, ◌+◌, ◌-◌, Bool, true, false, List, [], ◌∷◌, ◌++◌, length, take, drop, refl, sym, ap, ◌∙◌, subst, inr, append_assoc, Some, ◌⊎◌, inl, append-nil, bytes_eq, codes}
+use Rattle.std.proofs.Common.{arith, ◌≡◌, ◌≢◌, ℕ, ◌+◌, ◌-◌, Bool, true, false, List, [], ◌∷◌, ◌++◌, length, take, drop, refl, sym, ap, ◌∙◌, subst, inr, append_assoc, Some, ◌⊎◌, inl, append-nil, bytes_eq, codes}
 use Rattle.memchr.specs.Find.{IsFirstByte, is_byte}
-use Rattle.psu_run.proofs.Common.{Answer, Answers, Begins, DeviceStops, Effect, EndsEarly, Exec, FaultOf, Fed, Ghosts, IsDone, IsFailed, IsStopped, IsTry, IsUnit, Leads, LineBegins, LineRuns, Makes, Memory, Message, OutputState, Request, RunCause, RunFault, RunStep, Runs, Says, SaysUntil, Sent, Source, Text, has, held, message_of, messages, never, source_of, text_sent}
+use Rattle.psu_run.proofs.Common.{Answer, Answers, Begins, DeviceStops, Effect, EndsEarly, Exec, FaultOf, Fed, Ghosts, IsDone, IsTry, IsUnit, Leads, LineBegins, LineRuns, Makes, Memory, Message, OutputState, Request, RunCause, RunFault, RunStep, Runs, Says, SaysUntil, Sent, Source, Text, Write, has, held, message_of, messages, never, source_of, text_sent}
 use Rattle.psu_run.proofs.Cuts.{found_parts, line_end, whole_tail, says_join, says_none, until_after, until_none, until_rest}
 use Rattle.psu_run.proofs.Going.{device_stops_then, steps_as, steps_none, steps_then}
 use Rattle.psu_run.proofs.Stopping.{runs_join, runs_one, stops_now, stops_then}
@@ -142,8 +142,8 @@ responded mid here now then parked request effect response never d = grind arith
 
 module _ {D A : Type 0} {G : Ghosts D} {X : Type 0} (exec : X → Exec D A G) (output : X → OutputState) (r : Relations X RunCause) (source : Source)
     (on : (x y : X) (effect : Effect) → r.does x effect y → IsDone (exec x) (output x) effect (exec y) (output y))
-    (fail : (x y : X) (request : Request) (cause : RunCause) → r.fails x request cause y → IsFailed (exec x) (output x) request cause (exec y) (output y))
-    (stop : (x y : X) (cause : RunCause) → r.stops x cause y → IsStopped (exec x) (output x) cause (exec y) (output y)) where
+    (fail : (x y : X) (request : Request) (cause : RunCause) → r.fails x request cause y → (output y ≡ output x) × DeviceStops (exec x) (exec y) (Begins (request ∷ [])) cause × (cause ≢ Write))
+    (stop : (x y : X) (cause : RunCause) → r.stops x cause y → (exec y ≡ exec x) × SaysUntil cause (output x) (output y) [] × ((cause ≡ Memory) ⊎ (cause ≡ Write))) where
   -- the line up to a stop, and its output with what is in the response buffer
   abbrev Broken : X → X → RunCause → Text → Type 0
   Broken x y cause left = (part : List ℕ) × DeviceStops (exec x) (exec y) (LineBegins source part) cause × SaysUntil cause (output x) (held (output y).written ((output y).gathered ++ left.rest)) part
@@ -168,7 +168,8 @@ module _ {D A : Type 0} {G : Ghosts D} {X : Type 0} (exec : X → Exec D A G) (o
         text,
         subst (λ (z : Exec D A G). DeviceStops (exec x) z (LineBegins source text) cause) (sym d.0) (record {
           leads = steps_as (exec x) (exec mid) (Makes a.added) (LineBegins source text) f.0 (λ xs m. subst (LineBegins source text) (append-nil xs) (line x mid c a xs [] m (inl refl)));
-          why = λ before t. let own = d.2 in grind arith;
+          own = inr d.2;
+          why = λ e. let own = d.2 in absurd (grind arith);
         }),
         until_rest cause (output x) (output mid) (output y) (text_sent a.added) c.text.rest f.1 d.1,
       )
@@ -179,7 +180,8 @@ module _ {D A : Type 0} {G : Ghosts D} {X : Type 0} (exec : X → Exec D A G) (o
         text,
         subst (λ (z : Exec D A G). DeviceStops (exec x) z (LineBegins source text) cause) (sym s.0) (record {
           leads = steps_then (exec x) (exec mid) (exec here) (Makes a.added) (Begins (request ∷ [])) (LineBegins source text) f.0 d.1 (λ xs ys m b. line x mid c a xs ys m (inr (request, next, b)));
-          why = λ before t. let own = s.2 in grind arith;
+          own = inr s.2;
+          why = λ e. let own = s.2 in absurd (grind arith);
         }),
         until_rest cause (output x) (output mid) (output y) (text_sent a.added) c.text.rest f.1 (subst (λ (t : OutputState). SaysUntil cause t (output y) []) d.0 s.1),
       )

@@ -126,4 +126,4 @@ steps_call {D} {A} {G} old new entry P serves there keeps stays sound calm p =
 
 pub device_stops_then : {D A : Type 0} {G : Ghosts D} (old mid new : Exec D A G) (P Q R : List RunStep → Type 0) (cause : RunCause) → Leads old mid P → DeviceStops mid new Q cause
     → ((xs ys : List RunStep) → P xs → Q ys → R (xs ++ ys)) → DeviceStops old new R cause
-device_stops_then old mid new P Q R cause p s join = record { leads = steps_then old mid new P Q R p s.leads join; why = λ before t. s.why before (p.tied before t) }
+device_stops_then old mid new P Q R cause p s join = record { leads = steps_then old mid new P Q R p s.leads join; own = s.own; why = λ e before t. s.why e before (p.tied before t) }

@@ -15,7 +15,7 @@ use Rattle.psu_exec.specs.declared.start_cause.StartFault.TheVariants.{Start}
 use Rattle.psu_exec.specs.declared.start_cause.StartCause.TheVariants as start
 use Rattle.psu_messages.specs.Executions.{beginning}
 use Rattle.psu_messages.specs.Executions.Reaches.{Begins as Beginning}
-use Rattle.psu_run.specs.Progress.{IsHaltedBy, extent_of}
+use Rattle.psu_run.specs.Progress.{extent_of}
 use Rattle.psu_run.specs.Runs.{IsAtPower, IsByFailure, IsWornOut, NextBegins, NotStarted, cause_of, never}
 use Rattle.psu_run.specs.declared.run_cause.RunCause.TheVariants.{Device, Open, Read, TooLong}
 use Rattle.psu_run.proofs.Going.{failed_before, failed_on, steps_as, steps_none, ran_then, ran_with, steps_then, since_as, since_to}
@@ -34,9 +34,9 @@ stands_stops since before now rest last image left limit contents (Start start.N
 stands_stops since before now rest last image left limit contents (Start start.BadRoot) later sound stands why = absurd (represents_unrefused image limit (items_of contents) BadImage.BadRoot stands why)
 stands_stops since before now rest last image left limit contents (Start start.BadVersion) later sound stands why = absurd (represents_unrefused image limit (items_of contents) BadImage.BadVersion stands why)
 stands_stops since before now rest last image left limit contents (Start start.BadItems) later sound stands why =
-    let one = represents_one limit why.limit (items_of contents) why.map image stands why.stands in
+    let one = represents_one limit why.0 (items_of contents) why.1 image stands why.2 in
     let cheap = represents_within image limit (items_of contents) stands in let few = sound.most_macros in let fitting : fits limit contents ≡ true = grind (arith, nat_tests, cheap, few) in
-    absurd (why.none contents sound (subst (λ (n : ℕ). fits n contents ≡ true) one.0 fitting) one.1)
+    absurd (why.3 contents sound (subst (λ (n : ℕ). fits n contents ≡ true) one.0 fitting) one.1)
 stands_stops since before now rest last image left limit contents start_fault.Memory later sound stands why = tt
 
 pub restart_stops : (since before now : ℕ) (rest : List Message) (last : World) (disk : DiskState) (left : List ℕ) (why : StartFault) (f : Flush) → since ≤ before → IsConsistent f
@@ -48,16 +48,12 @@ restart_stops since before now rest last disk left why f later c stands reason =
 worn_shows : {D A : Type 0} {G : Ghosts D} (exec : Exec D A G) (cause : RunCause) (fault : RunFault D) → FaultOf exec cause fault → fault.is_worn ≡ true → Ghosts.honest G → IsWornOut (Ghosts.state G fault.disk).bytes
 worn_shows exec cause fault f worn h = f.worn h (f.worn_is.0 worn)
 
-pub halted_fails : {D A : Type 0} {G : Ghosts D} (before : ℕ) (new : Exec D A G) (cause : RunCause) (fault : RunFault D) → FaultOf new cause fault → IsHaltedBy before new cause → IsByFailure G before fault
-halted_fails {D} {A} {G} before new cause fault f why = record {
-  opening = λ e. absurd (by cause why (sym f.cause_is ∙ e));
-  device = λ e whole. ⊎_elim (λ x. subst (λ (to : Option D). HasFailed before (failures_in G to)) f.disk x) (λ x. let bad = f.worn_is.1 x.0 in cc) (subst (IsHaltedBy before new) (sym f.cause_is ∙ e) why);
+pub halted_fails : {D A : Type 0} {G : Ghosts D} (before : ℕ) (old new : Exec D A G) (P : List RunStep → Type 0) (cause : RunCause) (fault : RunFault D) → FaultOf new cause fault → DeviceStops old new P cause → IsTied before old → IsByFailure G before fault
+halted_fails {D} {A} {G} before old new P cause fault f s t = record {
+  opening = λ e. let own = s.own in let is : cause ≡ Open start.Device = sym f.cause_is ∙ e in absurd (grind arith);
+  device = λ e whole. ⊎_elim (λ x. subst (λ (to : Option D). HasFailed before (failures_in G to)) f.disk x) (λ x. let bad = f.worn_is.1 x.0 in cc) (s.why (sym f.cause_is ∙ e) before t);
   worn = worn_shows new cause fault f;
 }
-  where
-    by : (cause : RunCause) → IsHaltedBy before new cause → cause ≡ Open start.Device → ⊥
-    by (Open c) why e = why
-    by cause why e = cc
 
 -- the device gives no such cause
 abbrev pub IsOther : (RunCause → Type 0) → RunCause → Type 0
@@ -152,7 +148,8 @@ stops_at {D} {A} {G} by_input old new fault rest part goes there why counted =
 pub halted : {D A : Type 0} {G : Ghosts D} (old new : Exec D A G) (cause : RunCause) (fault : RunFault D) (rest : List Message) (part : List ℕ) → DeviceStops old new (NextBegins rest part) cause → FaultOf new cause fault → (IsAtPower rest → ⊥)
     → RunStops never old fault rest part
 halted {D} {A} {G} old new cause fault rest part s f plain = stops_at never old new fault rest part s.leads f.disk
-    (λ h life. let why = s.why (failures_of old) (omega arith, inl h) in grind arith) (λ before t. halted_fails before new cause fault f (s.why before t))
+    (λ h life. let own = s.own in let tied : IsTied (failures_of old) old = (omega arith, inl h) in let why = λ (e : cause ≡ Device). s.why e (failures_of old) tied in grind arith)
+    (λ before t. halted_fails before old new (NextBegins rest part) cause fault f s t)
 
 -- before anything of these messages is executed
 pub stops_now : {D A : Type 0} {G : Ghosts D} (by_input : RunCause → Type 0) (exec : Exec D A G) (cause : RunCause) (fault : RunFault D) (rest : List Message) → FaultOf exec cause fault → IsOther by_input cause → RunStops by_input exec fault rest []
@@ -198,13 +195,13 @@ stops_for {D} {A} {G} by_input other old fault cause due text s turn counted = r
 
 -- a flush that stops
 pub flush_stops : {D A : Type 0} {G : Ghosts D} (old new : Exec D A G) (cause : RunCause) (fault : RunFault D) → DeviceStops old new (Begins []) cause → FaultOf new cause fault → RunStops never old fault [] []
-flush_stops old new cause fault s f = halted old new cause fault [] [] (record { leads = steps_as old new (Begins []) (NextBegins [] []) s.leads (λ steps b. (b, refl)); why = s.why }) f (λ at. at)
+flush_stops old new cause fault s f = halted old new cause fault [] [] (record { leads = steps_as old new (Begins []) (NextBegins [] []) s.leads (λ steps b. (b, refl)); own = s.own; why = s.why }) f (λ at. at)
 
 -- a flush that leaves changes
 pub unflushed_stops : {D A : Type 0} {G : Ghosts D} (old new : Exec D A G) (fault : RunFault D) → Leads old new IsFlush → FaultOf new Device fault
     → ((before : ℕ) → IsTied before old → HasFailed before (failures_of new) ⊎ (new.device.flush.store ≡ Worn) ⊎ (new.device.flush.unflushed ≡ 0)) → (new.device.flush.unflushed ≡ 0 → ⊥) → RunStops never old fault [] []
 unflushed_stops old new fault g f clean some =
-    flush_stops old new Device fault (record { leads = steps_as old new IsFlush (Begins []) g (λ steps x. flush_begins steps x); why = λ before t. let left = clean before t in grind arith }) f
+    flush_stops old new Device fault (record { leads = steps_as old new IsFlush (Begins []) g (λ steps x. flush_begins steps x); own = inl refl; why = λ e before t. let left = clean before t in grind arith }) f
 
 -- ---- a power loss at rest, and a restart
 
@@ -307,5 +304,5 @@ pub reopen_stops : {D A : Type 0} {G : Ghosts D} (old new : Exec D A G) (cause :
     → (cause ≡ Device → (before : ℕ) → IsTied before old → HasFailed before (failures_of new)) → RunStops never old fault (Message.Power ∷ rest) []
 reopen_stops {D} {A} {G} old new cause fault rest s f failed =
     stops_at never old new fault (Message.Power ∷ rest) [] (steps_as old new (Begins []) (NextBegins (Message.Power ∷ rest) []) s.leads (λ steps b. (b, refl))) f.disk
-    (λ h life. let tied : IsTied (failures_of old) old = (omega arith, inl h) in let why = s.why (failures_of old) tied in let broke : cause ≡ Device → HasFailed (failures_of old) (failures_of new) = λ e. failed e (failures_of old) tied in grind arith)
-    (λ before t. halted_fails before new cause fault f (s.why before t))
+    (λ h life. let tied : IsTied (failures_of old) old = (omega arith, inl h) in let own = s.own in let broke : cause ≡ Device → HasFailed (failures_of old) (failures_of new) = λ e. failed e (failures_of old) tied in grind arith)
+    (λ before t. halted_fails before old new (Begins []) cause fault f s t)

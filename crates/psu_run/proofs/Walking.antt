@@ -1,6 +1,6 @@
 -- Steps, one after another.
 use Rattle.std.proofs.Common.{◌≡◌, ◌⊎◌, ℕ, zero, suc, List, [], ◌∷◌, ◌++◌, refl, sym, ap, ◌∙◌, subst, append_assoc, append-nil, inl, inr, ⊎_elim, arith}
-use Rattle.psu_run.proofs.Common.{Acts, AreCalm, Begins, Called, Executed, IsAlong, IsFlush, IsJob, IsUnit, IsWait, Jobs, Reply, Request, Restarted, RunStep, Running, Settled, SomeBreak, StandsForPrefix, Walks, World}
+use Rattle.psu_run.proofs.Common.{Acts, AreCalm, Begins, Called, Executed, IsAlong, IsFlush, IsJob, IsUnit, Jobs, Reply, Request, Restarted, RunStep, Running, Settled, SomeBreak, StandsForPrefix, Walks, World}
 
 pub walks_join : (xs ys : List RunStep) (w mid new : World) → Walks w xs mid → Walks mid ys new → Walks w (xs ++ ys) new
 walks_join [] ys w mid new p q = subst (λ (z : World). Walks z ys new) p q
@@ -66,12 +66,12 @@ jobs_begin (suc n) steps (inr (job, more, is, rest, all)) = rw all (begins_behin
 pub flush_begins : (steps : List RunStep) → IsFlush steps → Begins [] steps
 flush_begins steps f = jobs_begin 4 steps f
 
-pub wait_begins : (reply : Reply) (steps : List RunStep) → IsWait reply steps → Begins [] steps
-wait_begins reply steps (flush, f, all) = rw all (begins_behind flush (Called (Settled 1 reply) ∷ []) [] (flush_begins flush f) tt)
+pub wait_begins : (reply : Reply) (flush : List RunStep) → IsFlush flush → Begins [] (flush ++ Called (Settled 1 reply) ∷ [])
+wait_begins reply flush f = begins_behind flush (Called (Settled 1 reply) ∷ []) [] (flush_begins flush f) tt
 
 acts_begin : (request : Request) (reply : Reply) (steps : List RunStep) → Acts request reply steps → Begins (request ∷ []) steps
 acts_begin request reply steps (final, inl at_once) = rw at_once ([], grind arith, tt)
-acts_begin request reply steps (final, inr (wait, w, all)) = rw all ([], refl, wait_begins reply wait w)
+acts_begin request reply steps (final, inr (flush, f, all)) = rw all ([], refl, wait_begins reply flush f)
 
 pub unit_begins : (request : Request) (reply : Reply) (steps : List RunStep) → IsUnit request reply steps → Begins (request ∷ []) steps
 unit_begins request reply steps (inl acts) = acts_begin request reply steps acts

@@ -1,30 +1,24 @@
 -- The progress of a run: what its parts leave of the device, of its disk and of the output.
-use Rattle.std.specs.Prelude.{◌≡◌, ◌≢◌, ◌⊎◌, ◌↔◌, Bool, true, IsTrue, ℕ, ◌+◌, ◌≤◌, ◌^◌, List, [], ◌∷◌, ◌++◌, Option, Some, None, ⊤}
+use Rattle.std.specs.Prelude.{◌≡◌, ◌≢◌, ◌⊎◌, ◌↔◌, true, IsTrue, ℕ, ◌+◌, ◌≤◌, ◌^◌, List, [], ◌++◌, Option, Some, None, ⊤}
 use Rattle.std.specs.Io.KnownBytes.{Appends}
-use Rattle.std.specs.Option.{ForSome}
 use Rattle.psu_disk.specs.Disk.{DiskState, HasFailed, IsCrashImage, LeavesOnly}
 use Rattle.psu_disk.specs.declared.disk.Disk.{Ghosts}
-use Rattle.psu_items.specs.Image.{IsEither}
+use Rattle.psu_items.specs.Standing.{MapOn}
 use Rattle.psu_nv.specs.Contents.{Contents}
-use Rattle.psu_tree.specs.declared.command.Request.{Request}
-use Rattle.psu_exec.specs.Calls.{Commit, Executed, GaveBack, JobEnd, Nothing, Serves, Took}
-use Rattle.psu_exec.specs.Device.{Flush, Later, Reply, is_broken, target}
+use Rattle.psu_exec.specs.Device.{is_broken}
 use Rattle.psu_exec.specs.Exec.{Exec}
-use Rattle.psu_exec.specs.Jobs.{idle_disk, job_data, job_disk}
-use Rattle.psu_exec.specs.World.{Event, IsStart, IsTrueOf, PastUnit, Run, Running, World}
-use Rattle.psu_exec.specs.declared.idle_store.Condition.TheVariants.{Whole, Worn}
+use Rattle.psu_exec.specs.Jobs.{idle_disk}
+use Rattle.psu_exec.specs.World.{Event, IsStart, PastUnit, Run, Running, World}
+use Rattle.psu_exec.specs.declared.idle_store.Condition.TheVariants.{Worn}
 use Rattle.psu_exec.specs.declared.idle_store.IdleStore.{IdleStore}
 use Rattle.psu_exec.specs.declared.idle_store.IdleStore.TheVariants as idle_store
-use Rattle.psu_exec.specs.declared.job.Job.{Job}
 use Rattle.psu_messages.specs.Effects as effect
 use Rattle.psu_messages.specs.Effects.{Effect, needs}
 use Rattle.psu_messages.specs.ResponseBuffer.{Text}
 use Rattle.psu_run.specs.Lines.{Message, messages}
-use Rattle.psu_run.specs.Runs.{Acts, Begins, Called, EndsJob, IsAlong, IsByFailure, IsFlush, IsJob, IsSound, IsUnit, IsWornOut, MemoryRefused, RunStep, Runs, RunsUpTo, SomeBreak, StopsAt, StoreBroken, Walks, WritesShort, fault_of, never}
-use Rattle.psu_run.specs.declared.jobs.Work.{Work}
-use Rattle.psu_run.specs.declared.jobs.Work.TheVariants as work
+use Rattle.psu_run.specs.Runs.{IsAlong, IsByFailure, IsFlush, IsUnit, IsWornOut, RunStep, Runs, RunsUpTo, SomeBreak, StopsAt, Walks, WritesShort, never}
 use Rattle.psu_run.specs.declared.run_cause.RunCause.{RunCause}
-use Rattle.psu_run.specs.declared.run_cause.RunCause.TheVariants.{Device, Memory, Open, Read, TooLong, Write}
+use Rattle.psu_run.specs.declared.run_cause.RunCause.TheVariants.{Device, Memory, Write}
 use Rattle.psu_run.specs.declared.run_fault.RunFault.{RunFault}
 
 -- ---- the disk of a device at rest
@@ -120,19 +114,12 @@ pub record Leads {D A : Type 0} {G : Ghosts D} (old new : Exec D A G) (P : List 
   pub ran : Ran old (disk_in new.idle_store) (λ steps last. IsOf new last × P steps)
   pub tied : (before : ℕ) → IsTied before old → IsTied before new
 
--- A unit or a flush fails to end only where the disk failed after this count, or where changes are left and no number is
--- left for a commit.
-abbrev pub IsHaltedBy : {D A : Type 0} {G : Ghosts D} → ℕ → Exec D A G → RunCause → Type 0
-IsHaltedBy before exec Device = HasFailed before (failures_of exec) ⊎ ((exec.device.flush.store ≡ Worn) × (1 ≤ exec.device.flush.unflushed))
-IsHaltedBy before exec TooLong = ⊥
-IsHaltedBy before exec Read = ⊥
-IsHaltedBy before exec (Open cause) = ⊥
-IsHaltedBy before exec cause = ⊤
-
--- these steps lead to a device that stops for this cause
+-- These steps lead to a device that stops for this cause: the disk failed after each count that is tied, or changes are
+-- left and no number is left for a commit; or memory is refused, or the writer failed.
 pub record DeviceStops {D A : Type 0} {G : Ghosts D} (old new : Exec D A G) (P : List RunStep → Type 0) (cause : RunCause) : Type 0 where
   pub leads : Leads old new P
-  pub why : (before : ℕ) → IsTied before old → IsHaltedBy before new cause
+  pub own : (cause ≡ Device) ⊎ (cause ≡ Memory) ⊎ (cause ≡ Write)
+  pub why : cause ≡ Device → (before : ℕ) → IsTied before old → HasFailed before (failures_of new) ⊎ ((new.device.flush.store ≡ Worn) × (1 ≤ new.device.flush.unflushed))
 
 -- the early end of a run for this cause: the disk and the condition of the store are those of the device
 pub record FaultOf {D A : Type 0} {G : Ghosts D} (exec : Exec D A G) (cause : RunCause) (fault : RunFault D) : Type 0 where
@@ -143,42 +130,9 @@ pub record FaultOf {D A : Type 0} {G : Ghosts D} (exec : Exec D A G) (cause : Ru
 
 -- ---- jobs
 
--- The number of the current root of a whole store. (That of a broken one is never used.)
-abbrev pub idle_number : {D A : Type 0} {G : Ghosts D} → IdleStore D A G → ℕ
-idle_number (idle_store.Whole store) = store.number
-idle_number (idle_store.Failed broken) = 2 ^ 64
-
 -- an idle store is worn only where its number is the last
 abbrev pub IsWornAtLast : {D A : Type 0} {G : Ghosts D} → Exec D A G → Type 0
-IsWornAtLast exec = ForSome exec.idle_store (λ h. exec.device.flush.store ≡ Worn → 2 ^ 64 ≤ idle_number h + 1)
-
--- the job that was out is given back; only a failed disk call breaks a store that was whole
-pub record HasRun {D A : Type 0} {G : Ghosts D} (old : Exec D A G) (job : Job D A G) (new : Exec D A G) (short : Bool) : Type 0 where
-  pub finished : JobEnd
-  pub over : List ℕ
-  pub give : Serves old.device (GaveBack finished (Some over)) new.device
-  pub short_is : IsTrue short ↔ (fault_of finished ≡ Some MemoryRefused)
-  pub own : EndsJob (job_data job).kind finished
-  pub stands : Ghosts.honest G → IsTrueOf (target old.device.flush) finished (disk_at new.idle_store)
-  pub later : Ghosts.failures G (job_disk job) ≤ failures_of new
-  pub extent : extent_of new ≡ Ghosts.extent G (job_disk job)
-  pub worn : IsWornAtLast new
-  pub sound : Ghosts.honest G → IsSound (GaveBack finished (Some over)) (disk_at new.idle_store).bytes
-  pub time : Ghosts.honest G → Ghosts.records G
-      → Since G (Some (job_disk job)) (disk_in new.idle_store) (IsEither (job_data job).limit (job_data job).before (job_data job).target)
-  pub failed : Ghosts.honest G → fault_of finished ≡ Some StoreBroken → HasFailed (Ghosts.failures G (job_disk job)) (failures_of new)
-  pub breaks : (job_data job).kind ≡ Commit → is_broken new.device.flush.store ≡ true → HasFailed (Ghosts.failures G (job_disk job)) (failures_of new)
-
--- After a job that did not end out of memory: a disk call failed, or no number is left for a commit, or the store is
--- whole, and all changes are flushed where it was whole before.
-abbrev pub LeavesStore : ℕ → ℕ → Flush → Flush → Type 0
-LeavesStore before now old new = HasFailed before now ⊎ (new.store ≡ Worn)
-    ⊎ ((new.store ≡ Whole) × (old.store ≡ Whole → new.unflushed ≡ 0))
-
--- a job, or a take that finds none
-abbrev pub IsWork : Work → List RunStep → Type 0
-IsWork work.Job steps = IsJob steps
-IsWork work.Nothing steps = steps ≡ Called (Took Nothing) ∷ []
+IsWornAtLast {D} exec = (store : MapOn D) → exec.idle_store ≡ Some (idle_store.Whole store) → exec.device.flush.store ≡ Worn → 2 ^ 64 ≤ store.number + 1
 
 -- ---- the output
 
@@ -205,24 +159,12 @@ pub record SaysUntil (cause : RunCause) (old new : OutputState) (more : List ℕ
 
 -- ---- the effects of a line on the device and on the output
 
--- a unit that was tried once, and may be `Later`
-abbrev pub IsTried : Request → Reply → List RunStep → Type 0
-IsTried request reply steps = ((reply ≡ Later) × (steps ≡ Called (Executed 1 request Later) ∷ [])) ⊎ Acts request reply steps
-
 -- A unit is executed with the flushes that it waits for, so its reply is final and no unit is settled. A text that is
 -- sent is appended to the output.
 abbrev pub IsDone : {D A : Type 0} {G : Ghosts D} → Exec D A G → OutputState → Effect → Exec D A G → OutputState → Type 0
 IsDone old output (effect.Executed request reply) new now = (now ≡ output) × (needs reply ≡ None) × Leads old new (IsUnit request reply)
 IsDone old output (effect.Settled reply) new now = ⊥
 IsDone old output (effect.Sent text last) new now = (new ≡ old) × Says output now text
-
--- the device stops in a unit
-abbrev pub IsFailed : {D A : Type 0} {G : Ghosts D} → Exec D A G → OutputState → Request → RunCause → Exec D A G → OutputState → Type 0
-IsFailed old output request cause new now = (now ≡ output) × DeviceStops old new (Begins (request ∷ [])) cause × (cause ≢ Write)
-
--- a text is not output: memory is refused, or the writer failed
-abbrev pub IsStopped : {D A : Type 0} {G : Ghosts D} → Exec D A G → OutputState → RunCause → Exec D A G → OutputState → Type 0
-IsStopped old output cause new now = (new ≡ old) × SaysUntil cause output now [] × ((cause ≡ Memory) ⊎ (cause ≡ Write))
 
 -- ---- messages, with the text that is output for them
 

@@ -24,7 +24,7 @@ use Rattle.psu_messages.specs.Effects as effect
 use Rattle.psu_messages.specs.Effects.{Effect, needs}
 use Rattle.psu_messages.specs.Executions.{IsNext, IsOver, Progress, Reaches}
 use Rattle.psu_messages.specs.Units.{Source}
-use Rattle.psu_run.specs.Lines.{Brings, IsTooLong, Message, Reads, messages}
+use Rattle.psu_run.specs.Lines.{Brings, IsTooLong, Message, Reads}
 use Rattle.psu_run.specs.Script.{IsScript}
 use Rattle.psu_run.specs.declared.run_cause.RunCause.{RunCause}
 use Rattle.psu_run.specs.declared.run_cause.RunCause.TheVariants.{Device, Memory, Open, Read, TooLong, Write}
@@ -107,9 +107,6 @@ SomeBreak (step ∷ steps) = Breaks step ⊎ SomeBreak steps
 
 -- ---- a unit
 
-abbrev pub job_steps : JobData → JobEnd → List ℕ → List RunStep
-job_steps job finished over = Called (Took (Job job)) ∷ Called (GaveBack finished (Some over)) ∷ []
-
 -- a job of this kind may end this way
 abbrev pub EndsJob : JobKind → JobEnd → Type 0
 EndsJob Commit (Reopened limit map) = ⊥
@@ -122,7 +119,7 @@ pub record IsJob (steps : List RunStep) : Type 0 where
   pub job : JobData
   pub finished : JobEnd
   pub over : List ℕ
-  pub are : steps ≡ job_steps job finished over
+  pub are : steps ≡ Called (Took (Job job)) ∷ Called (GaveBack finished (Some over)) ∷ []
   pub own : EndsJob job.kind finished
   pub long : fault_of finished ≢ Some MemoryRefused
 
@@ -135,15 +132,11 @@ Jobs (suc n) steps = (steps ≡ Called (Took Nothing) ∷ [])
 abbrev pub IsFlush : List RunStep → Type 0
 IsFlush steps = Jobs 4 steps
 
--- a wait, which a flush ends
-abbrev pub IsWait : Reply → List RunStep → Type 0
-IsWait reply steps = (flush : List RunStep) × IsFlush flush × (steps ≡ flush ++ Called (Settled 1 reply) ∷ [])
-
--- a unit that is answered at once, or after its wait
+-- a unit that is answered at once, or after its wait, which a flush ends
 abbrev pub Acts : Request → Reply → List RunStep → Type 0
 Acts request reply steps = (needs reply ≡ None)
     × ((steps ≡ Called (Executed 1 request reply) ∷ [])
-    ⊎ ((wait : List RunStep) × IsWait reply wait × (steps ≡ Called (Executed 1 request Parked) ∷ wait)))
+    ⊎ ((flush : List RunStep) × IsFlush flush × (steps ≡ Called (Executed 1 request Parked) ∷ (flush ++ Called (Settled 1 reply) ∷ []))))
 
 -- a unit; where its reply is `Later`, it is executed again after a flush
 abbrev pub IsUnit : Request → Reply → List RunStep → Type 0
@@ -221,11 +214,6 @@ pub record RunsUpTo (rest due : List Message) (text : List ℕ) (steps : List Ru
   pub sent : text ≡ said ++ part
   pub all : steps ≡ made ++ next
 
--- where nothing goes wrong, what may be written is the script
-abbrev pub ScriptAlone : Type 0
-ScriptAlone = (image input text : List ℕ) (steps : List RunStep) (first last : World)
-    → PowersOn image first → Runs (messages input) text steps → Walks first steps last → AreCalm steps → IsScript first.start first.limit input text
-
 -- ---- what is on the disk
 
 -- The image represents the contents after a prefix of the units executed since power-on. That prefix contains every
@@ -250,21 +238,15 @@ EventsLead w new = (events : List Event) × Run w events new
 
 -- ---- why a run ends early
 
--- The image represents items that are not those of any contents that fit.
-pub record HasBadItems (image : List ℕ) : Type 0 where
-  pub limit : ℕ
-  pub map : List Item
-  pub stands : Represents image limit map
-  pub none : AreBad limit map
-
 -- A disk with this image does not power on for this cause; `before` and `now` are the counts of failures. A failed call
--- says nothing about the image. Out of memory is possible only where no call failed and a root can be read.
+-- says nothing about the image. Bad items are not those of any contents that fit. Out of memory is possible only where no
+-- call failed and a root can be read.
 abbrev pub NotStarted : List ℕ → ℕ → ℕ → StartFault → Type 0
 NotStarted image before now (start_fault.Start start.Device) = HasFailed before now
 NotStarted image before now (start_fault.Start start.NoRoot) = HasNoRoot image
 NotStarted image before now (start_fault.Start start.BadRoot) = HasBadRoot image
 NotStarted image before now (start_fault.Start start.BadVersion) = HasOtherVersion image
-NotStarted image before now (start_fault.Start start.BadItems) = HasBadItems image
+NotStarted image before now (start_fault.Start start.BadItems) = (limit : ℕ) × (map : List Item) × Represents image limit map × AreBad limit map
 NotStarted image before now start_fault.Memory = (now ≡ before) × HasReadableRoot image
 
 abbrev pub cause_of : StartFault → RunCause

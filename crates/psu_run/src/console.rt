@@ -1,12 +1,12 @@
 //! The executor of a run: it executes units on the device and outputs their answers.
-ghost use Rattle.std.specs.Prelude.{◌≡◌, ◌∷◌, [], List, ℕ, IfErr, IfOk, IfSome, OnOk, None};
+ghost use Rattle.std.specs.Prelude.{◌≡◌, ◌≢◌, ◌⊎◌, ◌∷◌, [], List, ℕ, IfErr, IfOk, IfSome, OnOk, None};
 ghost use Rattle.psu_messages.specs.Executions.{Advances, IsOver, StopsAt};
 ghost use Rattle.psu_messages.specs.Relations.{IsAwaited};
 ghost use Rattle.psu_messages.specs.ResponseBuffer.{nothing};
 ghost use Rattle.psu_messages.specs.Shown.{progress_of};
 ghost use Rattle.psu_run.specs.Lines.{Message, source_of};
-ghost use Rattle.psu_run.specs.Progress.{Answers, DeviceStops, IsDone, IsFailed, IsStopped, SaysUntil, held, output_state};
-ghost use Rattle.psu_run.specs.Runs.{LineBegins};
+ghost use Rattle.psu_run.specs.Progress.{Answers, DeviceStops, IsDone, SaysUntil, held, output_state};
+ghost use Rattle.psu_run.specs.Runs.{Begins, LineBegins};
 
 use crate::RunCause;
 use crate::acting::unit;
@@ -60,13 +60,18 @@ impl<'r, 'w, W: Write, D: Disk, A: Allocator + Copy> Executor<A> for Console<'r,
     // There is none: a unit is executed with the flushes that it waits for.
     type Wait = Infallible;
 
+    ghost use Rattle.psu_run.specs.declared.run_cause.RunCause.{RunCause};
+
     ghost relations = { record {
       does = λ x effect y. (y.responder.ghost_name ≡ x.responder.ghost_name) × (y.writer.ghost_name ≡ x.writer.ghost_name)
           × IsDone x.responder.now.powered.exec (held (W.contents x.writer.now) x.responder.now.output.items) effect y.responder.now.powered.exec (held (W.contents y.writer.now) y.responder.now.output.items);
       fails = λ x request cause y. (y.responder.ghost_name ≡ x.responder.ghost_name) × (y.writer.ghost_name ≡ x.writer.ghost_name)
-          × IsFailed x.responder.now.powered.exec (held (W.contents x.writer.now) x.responder.now.output.items) request cause y.responder.now.powered.exec (held (W.contents y.writer.now) y.responder.now.output.items);
+          × (held (W.contents y.writer.now) y.responder.now.output.items ≡ held (W.contents x.writer.now) x.responder.now.output.items)
+          × DeviceStops x.responder.now.powered.exec y.responder.now.powered.exec (Begins (request ∷ [])) cause × (cause ≢ RunCause.Write);
       stops = λ x cause y. (y.responder.ghost_name ≡ x.responder.ghost_name) × (y.writer.ghost_name ≡ x.writer.ghost_name)
-          × IsStopped x.responder.now.powered.exec (held (W.contents x.writer.now) x.responder.now.output.items) cause y.responder.now.powered.exec (held (W.contents y.writer.now) y.responder.now.output.items);
+          × (y.responder.now.powered.exec ≡ x.responder.now.powered.exec)
+          × SaysUntil cause (held (W.contents x.writer.now) x.responder.now.output.items) (held (W.contents y.writer.now) y.responder.now.output.items) []
+          × ((cause ≡ RunCause.Memory) ⊎ (cause ≡ RunCause.Write));
       yields = λ _. ⊥;
     } };
 

@@ -1,12 +1,14 @@
 //! The flush: jobs are run until there is none.
-ghost use Rattle.std.specs.Prelude.{◌≡◌, ◌≢◌, ◌⊎◌, ◌↔◌, ℕ, [], OnOk, IfOk, IfErr, IsTrue, true, false, None, Some};
+ghost use Rattle.std.specs.Prelude.{◌≡◌, ◌≢◌, ◌⊎◌, ◌↔◌, ◌≤◌, ℕ, List, [], ◌∷◌, OnOk, IfOk, IfErr, IsTrue, true, false, None, Some};
 ghost use Rattle.psu_disk.specs.Disk.{HasFailed};
-ghost use Rattle.psu_exec.specs.Calls.{HasNone, HasWork, job_of};
-ghost use Rattle.psu_exec.specs.Device.{is_broken, is_open, wait_of};
-ghost use Rattle.psu_exec.specs.Jobs.{finished_of, job_data};
-ghost use Rattle.psu_exec.specs.declared.idle_store.Condition.TheVariants.{Worn};
-ghost use Rattle.psu_run.specs.Progress.{DeviceStops, HasRun, IsTied, IsWork, IsWornAtLast, Leads, LeavesStore, failures_of};
-ghost use Rattle.psu_run.specs.Runs.{Begins, IsFlush, MemoryRefused, Reopens, fault_of};
+ghost use Rattle.psu_items.specs.Image.{IsEither};
+ghost use Rattle.psu_exec.specs.World.{IsTrueOf};
+ghost use Rattle.psu_exec.specs.Calls.{Commit, GaveBack, HasNone, HasWork, JobEnd, Nothing, Serves, Took, job_of};
+ghost use Rattle.psu_exec.specs.Device.{is_broken, is_open, target, wait_of};
+ghost use Rattle.psu_exec.specs.Jobs.{finished_of, job_data, job_disk};
+ghost use Rattle.psu_exec.specs.declared.idle_store.Condition.TheVariants.{Whole, Worn};
+ghost use Rattle.psu_run.specs.Progress.{DeviceStops, IsTied, IsWornAtLast, Leads, Since, disk_at, disk_in, extent_of, failures_of};
+ghost use Rattle.psu_run.specs.Runs.{Begins, Called, EndsJob, IsFlush, IsJob, IsSound, MemoryRefused, Reopens, StoreBroken, fault_of};
 
 use crate::RunCause;
 use psu_disk::Disk;
@@ -46,7 +48,17 @@ fn is_broken(condition: Condition) -> bool
 fn run_job<D: Disk, A: Allocator + Copy>(exec: &mut Exec<D, A>, job: Job<D, A>) -> bool
     requires out { exec.old.device.flush.out ≡ true }
     requires own { job_data job ≡ job_of exec.old.device.flush }
-    ensures run { HasRun exec.old job exec.new result }
+    ensures run { (finished : JobEnd) × (over : List ℕ) × Serves exec.old.device (GaveBack finished (Some over)) exec.new.device
+        × (IsTrue result ↔ (fault_of finished ≡ Some MemoryRefused)) × EndsJob (job_data job).kind finished
+        × (D.honest → IsTrueOf (target exec.old.device.flush) finished (disk_at exec.new.idle_store)
+        × IsSound (GaveBack finished (Some over)) (disk_at exec.new.idle_store).bytes
+        × (fault_of finished ≡ Some StoreBroken → HasFailed (D.failures (job_disk job)) (failures_of exec.new))) }
+    ensures later { D.failures (job_disk job) ≤ failures_of exec.new }
+    ensures extent { extent_of exec.new ≡ D.extent (job_disk job) }
+    ensures worn { IsWornAtLast exec.new }
+    ensures time { D.honest → D.records → Since D.Disk (Some (job_disk job)) (disk_in exec.new.idle_store) (IsEither (job_data job).limit (job_data job).before (job_data job).target) }
+    // Only a failed disk call breaks a store that was whole.
+    ensures breaks { (job_data job).kind ≡ Commit → is_broken exec.new.device.flush.store ≡ true → HasFailed (D.failures (job_disk job)) (failures_of exec.new) }
 {
     let finished = job.run();
     let short = is_short(finished.end());
@@ -59,7 +71,8 @@ fn run_job<D: Disk, A: Allocator + Copy>(exec: &mut Exec<D, A>, job: Job<D, A>) 
 // Takes a job, runs it and gives it back, if there is one. A job that ends out of memory ends the run.
 fn run_next<D: Disk, A: Allocator + Copy>(exec: &mut Exec<D, A>) -> Result<Work, RunCause>
     requires idle { exec.old.device.flush.out ≡ false }
-    ensures steps { IfOk result (λ work. Leads exec.old exec.new (IsWork work)) }
+    ensures job { IfOk result (λ work. work ≡ Work.Job → Leads exec.old exec.new IsJob) }
+    ensures take { IfOk result (λ work. work ≡ Work.Nothing → Leads exec.old exec.new (λ steps. steps ≡ Called (Took Nothing) ∷ [])) }
     ensures stops { IfErr result (DeviceStops exec.old exec.new (Begins [])) }
     ensures memory { IfErr result (λ cause. cause ≡ RunCause.Memory) }
     ensures idle { exec.new.device.flush.out ≡ false }
@@ -68,8 +81,11 @@ fn run_next<D: Disk, A: Allocator + Copy>(exec: &mut Exec<D, A>) -> Result<Work,
     ensures free { wait_of exec.old.device.flush 1 ≡ None → wait_of exec.new.device.flush 1 ≡ None }
     ensures worn { IsWornAtLast exec.old → IsWornAtLast exec.new }
     ensures some { IfOk result (λ work. work ≡ Work.Job → HasWork exec.old.device.flush) }
+    // A disk call failed, or no number is left for a commit, or the store is whole, and all changes are flushed where it was
+    // whole before.
     ensures left { IfOk result (λ work. work ≡ Work.Job → (before : ℕ) → IsTied before exec.old
-        → LeavesStore before (failures_of exec.new) exec.old.device.flush exec.new.device.flush) }
+        → HasFailed before (failures_of exec.new) ⊎ (exec.new.device.flush.store ≡ Worn)
+        ⊎ ((exec.new.device.flush.store ≡ Whole) × (exec.old.device.flush.store ≡ Whole → exec.new.device.flush.unflushed ≡ 0))) }
     ensures none { IfOk result (λ work. work ≡ Work.Nothing → (exec.new.device ≡ exec.old.device) × HasNone exec.old.device.flush) }
 {
     match exec.take() {

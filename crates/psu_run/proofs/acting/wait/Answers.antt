@@ -1,4 +1,4 @@
-use Rattle.std.proofs.Common.{arith}
+use Rattle.std.proofs.Common.{arith, inl, refl}
 use Rattle.psu_run.proofs.Common.{Serves, Settled, outcome_of}
 use Rattle.psu_run.proofs.Going.{steps_as}
 use Rattle.psu_run.proofs.UnitEnds.{steps_wait, device_stops_cleared}
@@ -17,6 +17,7 @@ returns-clause-stops g c =
     let serves : Serves c.flush.new.exec.device (Settled 1 reply) c.settle-outcome.new.self.device = grind arith in
     let waits = steps_wait _ _ _ reply c.in-Ok.ensures.flushes serves c.settle-outcome.ensures.idle_store in
     device_stops_cleared _ c.settle-outcome.new.self _ _ (record {
-      leads = steps_as _ _ _ _ waits (λ steps w. wait_begins reply steps w);
-      why = λ before t. let left = c.in-Ok.ensures.clean before t in grind arith;
+      leads = steps_as _ _ _ _ waits (λ steps w. rw w.2 (wait_begins reply w.0 w.1));
+      own = inl refl;
+      why = λ e before t. let left = c.in-Ok.ensures.clean before t in grind arith;
     }) (grind arith) c.clear-2.ensures.idle_store

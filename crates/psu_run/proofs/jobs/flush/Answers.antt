@@ -17,12 +17,12 @@ returns-in_err-run_next-clause-stops g c =
 pub returns-in-Nothing-clause-flushes : goal.returns-in-Nothing-clause-flushes
 returns-in-Nothing-clause-flushes g c =
     let some : 4 - c.loop.counter ≡ suc (4 - (c.loop.counter + 1)) = omega (arith, c.loop-test.true) in
-    steps_then _ _ _ _ _ _ c.loop.invariant.jobs (rw c.in-Nothing.is at c.in_ok-run_next.ensures.steps) (λ xs ys p none. p.1 ys (subst (λ (n : ℕ). Jobs n ys) (sym some) (inl none)))
+    steps_then _ _ _ _ _ _ c.loop.invariant.jobs (c.in_ok-run_next.ensures.take c.in-Nothing.is) (λ xs ys p none. p.1 ys (subst (λ (n : ℕ). Jobs n ys) (sym some) (inl none)))
 
 pub loop-preserved : goal.loop-preserved
 loop-preserved g c =
     let some : 4 - c.loop.counter ≡ suc (4 - (c.loop.counter + 1)) = omega (arith, c.loop-test.true) in
-    let job = rw c.in-Job.is at c.in_ok-run_next.ensures.steps in let count : c.loop.counter + 1 ≤ 4 = omega (arith, c.loop-test.true) in
+    let job = c.in_ok-run_next.ensures.job c.in-Job.is in let count : c.loop.counter + 1 ≤ 4 = omega (arith, c.loop-test.true) in
     let jobs = one_more c.args.exec.now c.loop.exec c.run_next.new.exec (4 - (c.loop.counter + 1)) (rw (← some) c.loop.invariant.jobs) job in
     let flushed : (before : ℕ) → IsTied before c.args.exec.now → IsFlushed before (failures_of c.run_next.new.exec) (c.loop.counter + 1) c.run_next.new.exec.device.flush = λ before t.
     let was = c.loop.invariant.flushed before t in

@@ -8,10 +8,8 @@ pub returns-then-not-is_broken-clause-reopens : goal.returns-then-not-is_broken-
 returns-then-not-is_broken-clause-reopens g c = steps_none _ _ (inl refl)
 
 pub returns-then-is_broken-clause-stops : goal.returns-then-is_broken-clause-stops
-returns-then-is_broken-clause-stops g c = record {
-  leads = steps_as _ _ _ _ (rw c.in-Job.is at c.in_ok-run_next.ensures.steps) (λ steps is. job_begins steps is);
-  why = λ before t. let leaves = c.in_ok-run_next.ensures.left c.in-Job.is before t in grind arith;
-}
+returns-then-is_broken-clause-stops g c =
+    record { leads = steps_as _ _ _ _ (c.in_ok-run_next.ensures.job c.in-Job.is) (λ steps is. job_begins steps is); own = inl refl; why = λ e before t. let leaves = c.in_ok-run_next.ensures.left c.in-Job.is before t in grind arith }
 
 pub returns-clause-reopens : goal.returns-clause-reopens
-returns-clause-reopens g c = job_reopens _ _ (grind arith) (rw c.in-Job.is at c.in_ok-run_next.ensures.steps)
+returns-clause-reopens g c = job_reopens _ _ (grind arith) (c.in_ok-run_next.ensures.job c.in-Job.is)

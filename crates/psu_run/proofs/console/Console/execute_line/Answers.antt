@@ -9,7 +9,7 @@ pub returns-clause-breaks : goal.returns-clause-breaks
 returns-clause-breaks g c =
     let before = c.args.self.now.responder.now in
     let s = broken (λ x. x.responder.now.powered.exec) (λ x. held (g.W.Write.contents x.writer.now) x.responder.now.output.items) _ (source_of c.args.line.now)
-    (λ x y effect d. d.2) (λ x y request cause f. f.2) (λ x y cause s. s.2) _ c.proceed-done.new.executor c.in-Err.cause c.proceed-done.new.progress.gathered _ c.new-progress.ensures c.in-Err.ensures.stops in
+    (λ x y effect d. d.2) (λ x y request cause f. (f.2, f.3, f.4)) (λ x y cause s. (s.2, s.3, s.4)) _ c.proceed-done.new.executor c.in-Err.cause c.proceed-done.new.progress.gathered _ c.new-progress.ensures c.in-Err.ensures.stops in
     rw (told_alone before.output.items before.gathered c.requires.fresh) (s.0, s.2, s.1)
 
 pub returns-clause-responder : goal.returns-clause-responder

@@ -9,7 +9,7 @@ use Rattle.psu_run.proofs.powered_device.PoweredDevice.of_store.Goals as goal
 
 -- why the power-on failed, where the image represents the map
 refused : (cause : PowerCause) (image : List ℕ) (limit n : ℕ) (map : List Item) → Represents image limit map → (cause ≡ power.BadItems → AreBad limit map) → NotStarted image n n (start_of_power_on cause)
-refused power.BadItems image limit n map stands bad = record { limit = limit; map = map; stands = stands; none = bad refl }
+refused power.BadItems image limit n map stands bad = (limit, map, stands, bad refl)
 refused power.Memory image limit n map stands bad = (refl, represents_readable image limit map stands)
 
 pub returns-in-Err-clause-refused : goal.returns-in-Err-clause-refused
