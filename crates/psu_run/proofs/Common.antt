@@ -1,5 +1,5 @@
 -- The names that several proofs use.
-use Rattle.std.proofs.Common.{◌≡◌, IfErr, IsErrAnd, List, Result, arith, ℕ}
+use Rattle.std.proofs.Common.{◌≡◌, IfErr, IsErrAnd, Result, arith}
 pub use Rattle.psu_disk.specs.Disk.{DiskState, HasFailed, IsCrashImage, LeavesOnly}
 pub use Rattle.psu_disk.specs.Moments.{and_then, started, weaken}
 pub use Rattle.psu_disk.specs.Ranges.{left_size, reads_left}
@@ -31,7 +31,7 @@ pub use Rattle.psu_messages.specs.Units.{Fault, IsRequest, Source, faulty, path_
 pub use Rattle.psu_nv.specs.Contents.{Contents, IsContents, items_of}
 pub use Rattle.psu_run.specs.Lines.{AreAsked, AreRequests, AskedBy, Brings, HasRead, Message, first_onto, has, message_of, messages, parts_of, source_of}
 pub use Rattle.psu_run.specs.Progress.{Answers, DeviceStops, EndsEarly, FaultOf, Fed, IsDone, IsNow, IsOf, IsTied, IsWornAtLast, IsWrittenBefore, Leads, Life, OutputState, Ran, RanAll, Reached, RunStops, Says, SaysUntil, Since, born, disk_at, disk_in, extent_in, failures_in, failures_of, held, output_state, state_in, world_of}
-pub use Rattle.psu_run.specs.Runs.{Acts, AreCalm, Begins, Breaks, Called, CallsOnWorld, EventsLead, IsAlong, IsFlush, IsJob, IsLeftBy, IsOfRun, IsSound, IsUnit, Jobs, LineBegins, LineRuns, Makes, MemoryRefused, MessageRuns, NotStarted, PowersOn, Reopens, Restarted, RunStep, Runs, RunsUpTo, SomeBreak, StandsForPrefix, StepsTo, StopsAt, StopsFor, Walks, WritesShort, disk_from, fault_of, never}
+pub use Rattle.psu_run.specs.Runs.{Acts, AreCalm, Begins, Breaks, Called, CallsOnWorld, EventsLead, IsAlong, IsFlush, IsJob, IsLeftBy, IsOfRun, IsSound, IsUnit, Jobs, LineBegins, LineRuns, Makes, MemoryRefused, MessageRuns, NotStarted, PowersOn, Reopens, Restarted, RunStep, Runs, RunsUpTo, ScriptAlone, SomeBreak, StandsForPrefix, StepsTo, StopsAt, StopsFor, Walks, WritesShort, disk_from, fault_of, never}
 pub use Rattle.psu_run.specs.Script.{Executes, ExecutesInside, ExecutesReply, HasOutcome, IsScript, Point, Replies, Scripted, at_start, finished, flushed, replied, waited}
 pub use Rattle.psu_run.specs.declared.run_cause.RunCause.TheVariants.{Memory, Read, TooLong, Write}
 pub use Rattle.psu_run.specs.declared.run_cause.RunCause.{RunCause}
@@ -52,7 +52,3 @@ pub use Rattle.std.specs.Prelude.{⊤}
 -- a fault that is propagated
 pub passed : {A E : Type 0} (r : Result A E) (e : E) (P : E → Type 0) → IsErrAnd r (λ reported. reported ≡ e) → P e → IfErr r P
 passed x0 e x2 is p = grind arith
-
--- where nothing goes wrong, what may be written is the script
-abbrev pub ScriptAlone : Type 0
-ScriptAlone = (image input text : List ℕ) (steps : List RunStep) (first last : World) → PowersOn image first → Runs (messages input) text steps → Walks first steps last → AreCalm steps → IsScript first.start first.limit input text

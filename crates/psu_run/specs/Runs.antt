@@ -24,7 +24,7 @@ use Rattle.psu_messages.specs.Effects as effect
 use Rattle.psu_messages.specs.Effects.{Effect, needs}
 use Rattle.psu_messages.specs.Executions.{IsNext, IsOver, Progress, Reaches}
 use Rattle.psu_messages.specs.Units.{Source}
-use Rattle.psu_run.specs.Lines.{Brings, IsTooLong, Message, Reads}
+use Rattle.psu_run.specs.Lines.{Brings, IsTooLong, Message, Reads, messages}
 use Rattle.psu_run.specs.Script.{IsScript}
 use Rattle.psu_run.specs.declared.run_cause.RunCause.{RunCause}
 use Rattle.psu_run.specs.declared.run_cause.RunCause.TheVariants.{Device, Memory, Open, Read, TooLong, Write}
@@ -213,6 +213,11 @@ pub record RunsUpTo (rest due : List Message) (text : List ℕ) (steps : List Ru
   pub begun : NextBegins rest part next
   pub sent : text ≡ said ++ part
   pub all : steps ≡ made ++ next
+
+-- where nothing goes wrong, what may be written is the script
+abbrev pub ScriptAlone : Type 0
+ScriptAlone = (image input text : List ℕ) (steps : List RunStep) (first last : World)
+    → PowersOn image first → Runs (messages input) text steps → Walks first steps last → AreCalm steps → IsScript first.start first.limit input text
 
 -- ---- what is on the disk
 

@@ -1,9 +1,7 @@
 //! The laws of the text that a run writes.
 ghost use Rattle.std.specs.Prelude.{ℕ, List, ◌≡◌};
 ghost use Rattle.psu_nv.specs.Contents.{Contents};
-ghost use Rattle.psu_run.specs.Runs.{AreCalm, PowersOn, RunStep, Runs, Walks};
-ghost use Rattle.psu_run.specs.Lines.{messages};
-ghost use Rattle.psu_exec.specs.World.{World};
+ghost use Rattle.psu_run.specs.Runs.{ScriptAlone};
 ghost use Rattle.psu_run.specs.Script.{IsScript};
 
 use psu_lex::{
@@ -15,8 +13,7 @@ use psu_tree::{every_unit_reads, one_reading_of_a_unit};
 
 /// Where no memory is refused, no disk call fails and the store isn't worn, the text that may be written is the script.
 pub fn script_is_the_only_text()
-    ensures { (image input text : List ℕ) (steps : List RunStep) (first last : World) → PowersOn image first → Runs (messages input) text steps
-        → Walks first steps last → AreCalm steps → IsScript first.start first.limit input text }
+    ensures { ScriptAlone }
 {
     every_list_has_units();
     one_list_of_units();
