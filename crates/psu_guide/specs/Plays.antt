@@ -2,8 +2,10 @@
 use Rattle.std.specs.Prelude.{◌≡◌, ◌⊎◌, ⊤, ℕ, List, [], length, None, Some}
 use Rattle.psu_disk.specs.Disk.{DiskState, IsCrashImage}
 use Rattle.psu_items.specs.Image.{EachRepresents, current_root, number_in}
-use Rattle.psu_run.specs.Runs.{DoesNotStart, GivenByInput, WritesFirst, WritesRun}
+use Rattle.psu_run.specs.Runs.{DoesNotStart, WritesTo}
+use Rattle.psu_run.specs.Lines.{IsTooLong}
 use Rattle.psu_run.specs.declared.run_cause.RunCause.{RunCause}
+use Rattle.psu_run.specs.declared.run_cause.RunCause.TheVariants.{TooLong}
 use Rattle.psu_guide.specs.declared.play_fault.PlayFault.{PlayFault}
 use Rattle.psu_guide.specs.declared.play_fault.PlayFault.TheVariants.{Memory, Run}
 
@@ -19,7 +21,7 @@ pub record Plays (sent text : List ℕ) : Type 0 where
   pub disk : DiskState
   pub is_new : IsNew disk
   pub over : DiskState
-  pub writes : WritesRun disk.bytes (Some sent) 0 0 (Some []) (Some text) over
+  pub writes : WritesTo None disk.bytes (Some sent) 0 0 (Some []) (Some text) over
 
 -- On a new image a run to which this is sent ends early for this cause, and no call of its disk fails. `rest` is what it
 -- did not read, and `text` what it wrote.
@@ -30,7 +32,8 @@ pub record FailsWith (sent : List ℕ) (cause : RunCause) : Type 0 where
   pub rest : List ℕ
   pub text : List ℕ
   pub ends : DoesNotStart cause 0 0 (Some sent) (Some rest) (Some []) (Some text) disk over
-      ⊎ WritesFirst (GivenByInput (Some sent) (Some rest) None None) cause disk.bytes (Some sent) 0 0 (Some []) (Some text) over
+      ⊎ WritesTo (Some cause) disk.bytes (Some sent) 0 0 (Some []) (Some text) over
+  pub long : cause ≡ TooLong → IsTooLong (Some sent) (Some rest) None None
 
 -- Why a new instrument cannot answer. A contract cannot see that an allocation failed.
 abbrev pub CannotAnswer : List ℕ → PlayFault → Type 0

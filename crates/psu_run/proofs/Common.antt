@@ -1,11 +1,11 @@
 -- The names that several proofs use.
-use Rattle.std.proofs.Common.{◌≡◌, IfErr, IsErrAnd, Result, arith}
+pub use Rattle.std.proofs.Common.{[], ⊎_elim, ◌&&◌, ◌++◌, ◌+◌, ◌-◌, ◌<◌, ◌==◌, ◌^◌, ◌||◌, ◌∙◌, ◌∷◌, ◌≡◌, ◌≢◌, ◌≤◌, ◌⊎◌, add-one, Any, ap, append-nil, append_assoc, arith, Bool, bytes_eq, codes, drop, drop-cons, Err, false, flat_map, IfErr, IfSome, if◌then◌else◌, inl, inr, is_ok, IsErrAnd, length, length-append, List, map, None, not, Ok, Option, option_map, refl, Result, rules, slice_index, slice_index_or, slice_set, Some, subst, subst₂, suc, sym, take, true, zero, ℕ}
 pub use Rattle.psu_disk.specs.Disk.{DiskState, HasFailed, IsCrashImage, LeavesOnly}
 pub use Rattle.psu_disk.specs.Moments.{and_then, started, weaken}
 pub use Rattle.psu_disk.specs.Ranges.{left_size, reads_left}
 pub use Rattle.psu_disk.specs.declared.disk.Disk.{Ghosts}
 pub use Rattle.psu_exec.proofs.Ignored.{serves_gave_back, serves_opened, serves_took}
-pub use Rattle.psu_exec.specs.Calls.{Allows, Cleared, Commit, Entry, Executed, GaveBack, IsAccepted, Job, JobData, JobEnd, Nothing, Opened, Reopen, Serves, Settled, Stored, Taken, Took, after_settle, job_of, job_out, least_free, opened, settle_answer, settled, wait_cut, wait_less, with_flush, with_stored}
+pub use Rattle.psu_exec.specs.Calls.{Allows, Cleared, Commit, Entry, Executed, GaveBack, IsAccepted, Job, JobData, JobEnd, JobKind, Nothing, Opened, Reopen, Serves, Settled, Stored, Taken, Took, after_settle, job_of, job_out, least_free, opened, settle_answer, settled, wait_cut, wait_less, with_flush, with_stored}
 pub use Rattle.psu_exec.specs.Device.{Answer, Expand, Flush, Later, MayAnswer, Parked, Reply, State, after_unit, answer_call, answer_meant, called, count_held, here, is_broken, is_denied, is_later, is_open, is_whole, meant, power_on, target, wait_of}
 pub use Rattle.psu_exec.specs.Exec.{Exec}
 pub use Rattle.psu_exec.specs.Jobs.{finished_disk, finished_of, idle_disk, job_data, job_disk, job_store}
@@ -30,10 +30,9 @@ pub use Rattle.psu_messages.specs.ResponseBuffer.{Text, nothing}
 pub use Rattle.psu_messages.specs.Units.{Fault, IsRequest, Source, faulty, path_at}
 pub use Rattle.psu_nv.specs.Contents.{Contents, IsContents, items_of}
 pub use Rattle.psu_run.specs.Lines.{AreAsked, AreRequests, AskedBy, Brings, HasRead, Message, first_onto, has, message_of, messages, parts_of, source_of}
-pub use Rattle.psu_run.specs.Progress.{Answers, DeviceStops, EndsEarly, FaultOf, Fed, IsDone, IsNow, IsOf, IsTied, IsWornAtLast, IsWrittenBefore, Leads, Life, OutputState, Ran, RanAll, Reached, RunStops, Says, SaysUntil, Since, born, disk_at, disk_in, extent_in, failures_in, failures_of, held, output_state, state_in, world_of}
-pub use Rattle.psu_run.specs.Runs.{Acts, AreCalm, Begins, Breaks, Called, CallsOnWorld, EventsLead, IsAlong, IsFlush, IsJob, IsLeftBy, IsOfRun, IsSound, IsUnit, Jobs, LineBegins, LineRuns, Makes, MemoryRefused, MessageRuns, NotStarted, PowersOn, Reopens, Restarted, RunStep, Runs, RunsUpTo, ScriptAlone, SomeBreak, StandsForPrefix, StepsTo, StopsAt, StopsFor, Walks, WritesShort, disk_from, fault_of, never}
+pub use Rattle.psu_run.specs.Runs.{Acts, Answers, Begins, Calls, DeviceStops, Does, Ends, EndsEarly, EndsJob, EventsLead, FaultOf, OneCall, IsAlong, IsAt, IsByFailure, IsDone, IsFlush, IsJob, IsLeftBy, IsOfRun, IsTied, IsUnit, IsWornAtLast, IsWornOut, Jobs, Leads, LeadsTo, MemoryRefused, NextBegins, NoNumber, NotStarted, OutputState, PowersOn, Ran, RunPoint, RunTo, Runs, RunsUpTo, Says, SaysUntil, ScriptAlone, StandsForPrefix, NoCall, Steps, StopsFor, StoreBroken, WritesShort, WritesTo, at_power_on, cause_of, disk_from, disk_in, executed_by, failures_of, fault_of, held, is_calm}
 pub use Rattle.psu_run.specs.Script.{Executes, ExecutesInside, ExecutesReply, HasOutcome, IsScript, Point, Replies, Scripted, at_start, finished, flushed, replied, waited}
-pub use Rattle.psu_run.specs.declared.run_cause.RunCause.TheVariants.{Memory, Read, TooLong, Write}
+pub use Rattle.psu_run.specs.declared.run_cause.RunCause.TheVariants.{Device, Memory, Open, Read, TooLong, Write}
 pub use Rattle.psu_run.specs.declared.run_cause.RunCause.{RunCause}
 pub use Rattle.psu_run.specs.declared.run_fault.RunFault.{RunFault}
 pub use Rattle.psu_tree.specs.Reading.{Reads, SyntaxCalls, SyntaxMoves}
@@ -44,6 +43,7 @@ pub use Rattle.std.proofs.KnownBytes.{Appends-nil, Appends-trans, Consumes-kept,
 pub use Rattle.std.proofs.Math.Seq.{take-add, take-append-add, take-nil}
 pub use Rattle.std.proofs.lemmas.Bool.Decides.{nat_tests}
 pub use Rattle.std.proofs.lemmas.Grind.{common_steps}
+pub use Rattle.std.proofs.lemmas.Option.{same_Some}
 pub use Rattle.std.proofs.lemmas.List.{drop-drop, drop_all, get_or-take, get_or_past, nil_from_length, take-append-drop, take-append-le}
 pub use Rattle.std.specs.Io.KnownBytes.{Appends, Consumes, Keeps}
 pub use Rattle.std.specs.Option.{ForSome}

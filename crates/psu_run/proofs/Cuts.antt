@@ -1,9 +1,8 @@
 -- Lemmas on the parts of a text, and on the prefixes that are written of it.
-use Rattle.std.proofs.Common.{◌≡◌, ℕ, ◌+◌, ◌-◌, ◌==◌, ◌<◌, ◌≤◌, true, false, List, [], ◌∷◌, ◌++◌, length, take, drop, map, refl, sym, ap, ◌∙◌, arith, slice_index, append_assoc, inl, inr, Some, None, zero, suc, add-one, drop-cons, ◌⊎◌, codes, bytes_eq, if◌then◌else◌, subst, Option, length-append, ◌≢◌, append-nil}
 use Rattle.std.proofs.lemmas.Bool.{cases_Bool}
 use Rattle.memchr.specs.Find.{IsFirstByte, is_byte}
 use Rattle.std.proofs.lemmas.Slice.Eq.{bytes_eq-Decides}
-use Rattle.psu_run.proofs.Common.{Appends, Appends-nil, Appends-trans, Fault, Message, OutputState, RunCause, Says, SaysUntil, Text, TooMuchData, Write, WritesShort, common_steps, first_onto, get_or-take, has, held, message_of, messages, nat_tests, nothing, parts_of, take-add, take-append-add, take-append-drop, take-append-le}
+use Rattle.psu_run.proofs.Common.{◌≡◌, ℕ, ◌+◌, ◌-◌, ◌==◌, ◌<◌, ◌≤◌, true, false, List, [], ◌∷◌, ◌++◌, length, take, drop, map, refl, sym, ap, ◌∙◌, arith, slice_index, append_assoc, inl, inr, Some, None, zero, suc, add-one, drop-cons, ◌⊎◌, codes, bytes_eq, if◌then◌else◌, subst, Option, length-append, ◌≢◌, append-nil, Appends, Appends-nil, Appends-trans, Fault, Message, OutputState, RunCause, Says, SaysUntil, Text, TooMuchData, Write, WritesShort, common_steps, first_onto, get_or-take, has, held, message_of, messages, nat_tests, nothing, parts_of, take-add, take-append-add, take-append-drop, take-append-le}
 use Rattle.std.specs.Io.{StartsWith}
 
 -- the first part, without its end, and what comes after it
@@ -149,15 +148,15 @@ short_after a b c m n p q = (
   subst (λ (z : List ℕ). length (p.0 ++ q.0) < length z) (told_on a b c m n p) (longer p.0 q.0 (b.gathered ++ n) q.3),
 )
 
-pub until_after : (cause : RunCause) (a b c : OutputState) (m n : List ℕ) → Says a b m → SaysUntil cause b c n → SaysUntil cause a c (m ++ n)
-until_after cause a b c m n p q = record { whole = λ e. says_join a b c m n p (q.whole e); missing = λ e. short_after a b c m n p (q.missing e) }
+pub until_after : (end : Option RunCause) (a b c : OutputState) (m n : List ℕ) → Says a b m → SaysUntil end b c n → SaysUntil end a c (m ++ n)
+until_after end a b c m n p q = record { whole = λ e. says_join a b c m n p (q.whole e); missing = λ e. short_after a b c m n p (q.missing e) }
 
--- a fault other than a write fault
-pub until_said : (cause : RunCause) (a b : OutputState) (m : List ℕ) → cause ≢ Write → Says a b m → SaysUntil cause a b m
-until_said cause a b m own p = grind arith
+-- an end at which the writer did not fail
+pub until_said : (end : Option RunCause) (a b : OutputState) (m : List ℕ) → end ≢ Some Write → Says a b m → SaysUntil end a b m
+until_said end a b m own p = grind arith
 
-pub until_none : (cause : RunCause) (t : OutputState) → cause ≢ Write → SaysUntil cause t t []
-until_none cause t own = until_said cause t t [] own (says_none t)
+pub until_none : (end : Option RunCause) (t : OutputState) → end ≢ Some Write → SaysUntil end t t []
+until_none end t own = until_said end t t [] own (says_none t)
 
 -- what is missing of a text is also missing of a longer text
 pub short_more : (old new : Option (List ℕ)) (text more : List ℕ) → WritesShort old new text → WritesShort old new (text ++ more)
@@ -165,8 +164,8 @@ short_more old new text more (front, grows, starts, less) =
     (front, grows, take-append-le (length front) text more (omega (arith, less)) ∙ starts, subst (λ (n : ℕ). length front < n) (sym (length-append text more)) (omega (arith, less)))
 
 -- the rest of a text is buffered after the output, up to a fault
-pub until_rest : (cause : RunCause) (a b c : OutputState) (m rest : List ℕ) → Says a b m → SaysUntil cause b c [] → SaysUntil cause a (held c.written (c.gathered ++ rest)) (m ++ rest)
-until_rest cause a b c m rest p q = record {
+pub until_rest : (end : Option RunCause) (a b c : OutputState) (m rest : List ℕ) → Says a b m → SaysUntil end b c [] → SaysUntil end a (held c.written (c.gathered ++ rest)) (m ++ rest)
+until_rest end a b c m rest p q = record {
   whole = λ e. says_join a b (held c.written (c.gathered ++ rest)) m rest p (says_join b c (held c.written (c.gathered ++ rest)) [] rest (q.whole e) ([], Appends-nil c.written, refl));
   missing = λ e. short_after a b (held c.written (c.gathered ++ rest)) m rest p (short_more b.written c.written b.gathered rest (subst (WritesShort b.written c.written) (append-nil b.gathered) (q.missing e)));
 }

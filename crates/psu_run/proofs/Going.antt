@@ -1,129 +1,125 @@
 -- From a device at rest to a later moment, step by step.
-use Rattle.std.proofs.Common.{◌≡◌, ℕ, ◌≤◌, List, [], ◌∷◌, ◌++◌, refl, sym, ap, ◌∙◌, subst, inl, inr, arith, ⊎_elim, Option, Some, None}
-use Rattle.psu_run.proofs.Common.{Breaks, Called, CallsOnWorld, DeviceStops, DiskAfter, DiskState, Entry, Exec, ForSome, Ghosts, HasFailed, IdleStore, IsAlong, IsCrashImage, IsNow, IsOf, IsSound, Leads, LeavesOnly, Life, Ran, RunCause, RunStep, Serves, Since, SomeBreak, State, Walks, World, and_then, disk_at, disk_in, extent_in, failures_in, failures_of, idle_disk, is_broken, recorded, started, weaken, world_of}
-use Rattle.psu_run.proofs.OneList.{reached_walk, prefix_of_reached}
-use Rattle.psu_run.proofs.Walking.{along_behind, along_here, along_more, breaks_split, walks_join}
+use Rattle.std.specs.Prelude.{unwrap_or}
+use Rattle.psu_run.proofs.Common.{◌≡◌, ℕ, ◌≤◌, ◌&&◌, List, ◌∷◌, refl, sym, ap, ◌∙◌, subst, inl, inr, arith, ⊎_elim, Option, Some, option_map, Calls, DeviceStops, DiskAfter, DiskState, Entry, Exec, ForSome, GaveBack, Ghosts, HasFailed, IdleStore, IsAlong, IsAt, IsCrashImage, IsWornOut, JobEnd, Leads, LeavesOnly, NoNumber, Ran, RunCause, RunPoint, Running, Serves, State, StoreBroken, World, and_then, disk_in, failures_of, fault_of, idle_disk, is_broken, is_calm, recorded, started, weaken, same_Some}
+use Rattle.psu_run.proofs.OneList.{Continues, Reached, along_here, goes_then, prefix_of_reached, reached_on, stays_on, step_goes}
 
--- ---- the possible crash images at each moment, one part of a run after another
-
-pub since_then : {D : Type 0} (G : Ghosts D) (a b c : Option D) (P Q R : List ℕ → Type 0) → Since G a b P → Since G b c Q → ((x : List ℕ) → P x → R x) → ((x : List ℕ) → Q x → R x) → Since G a c R
-since_then G None b c P Q R p q one two = tt
-since_then G (Some a) None c P Q R p q one two = absurd p
-since_then G (Some a) (Some b) None P Q R p q one two = absurd q
-since_then G (Some a) (Some b) (Some c) P Q R p q one two =
-    let first = weaken (Ghosts.moment G) (Ghosts.left_since G) a b P R p one in
-    and_then (Ghosts.moment G) (Ghosts.left_since G) a b c R Q first q two
-
-pub since_as : {D : Type 0} (G : Ghosts D) (a b : Option D) (P R : List ℕ → Type 0) → Since G a b P → ((x : List ℕ) → P x → R x) → Since G a b R
-since_as G None b P R p turn = tt
-since_as G (Some a) None P R p turn = absurd p
-since_as G (Some a) (Some b) P R p turn = weaken (Ghosts.moment G) (Ghosts.left_since G) a b P R p turn
-
--- the disk of the idle store stays
-pub since_idle : {D A : Type 0} {G : Ghosts D} (there : Option (IdleStore D A G)) (P : List ℕ → Type 0) → IsNow G → ((x : List ℕ) → IsCrashImage (disk_at there) x → P x) → Since G (disk_in there) (disk_in there) P
-since_idle None P now here = tt
-since_idle {D} {A} {G} (Some h) P now here = started (Ghosts.moment G) (Ghosts.left_since G) (idle_disk h) P (λ x since. here x (now (idle_disk h) x since))
-
--- to the disk of the idle store afterwards
-pub since_to : {D A : Type 0} {G : Ghosts D} (there : Option (IdleStore D A G)) (disk : D) (P : List ℕ → Type 0) → (there ≡ None → ⊥)
-    → ForSome there (λ h. LeavesOnly (Ghosts.moment G) (Ghosts.left_since G) disk (idle_disk h) P) → Since G (Some disk) (disk_in there) P
-since_to x0 disk x2 some p = grind arith
-
--- ---- failures
-
--- a failure remains one
-pub failed_on : (a b c : ℕ) → b ≤ c → HasFailed a b → HasFailed a c
-failed_on a b c later f = grind arith
+-- ---- failures, and the disk of the idle store
 
 pub failed_before : (a b c : ℕ) → a ≤ b → HasFailed b c → HasFailed a c
 failed_before a b c later f = grind arith
 
+pub failures_is : {D A : Type 0} {G : Ghosts D} (exec : Exec D A G) (disk : D) → disk_in exec ≡ Some disk → failures_of exec ≡ Ghosts.failures G disk
+failures_is {D} {A} {G} exec disk is = ap (λ (z : Option D). unwrap_or (option_map (Ghosts.failures G) z) 0) is
+
+pub for_disk : {D A : Type 0} {G : Ghosts D} (exec : Exec D A G) {disk : D} (P : D → Type 0) → disk_in exec ≡ Some disk → P disk → ForSome (disk_in exec) P
+for_disk exec {disk} P there p other is = subst P (same_Some disk other (sym there ∙ is)) p
+
 -- ---- one after another
 
--- Steps to a device at rest, and those from it. The first may be given the failures of the jobs among them.
-pub ran_then : {D A : Type 0} {G : Ghosts D} (old mid : Exec D A G) (to : Option D) (P : List RunStep → Type 0) (Q R : List RunStep → World → Type 0) → Leads old mid P → Ran mid to Q
-    → ((xs ys : List RunStep) (last : World) → (SomeBreak xs → HasFailed (failures_of old) (failures_of mid)) → P xs → Q ys last → R (xs ++ ys) last) → Ran old to R
-ran_then {D} {A} {G} old mid to P Q R p q join = record {
-  extent = q.extent ∙ p.ran.extent;
-  later = let one = p.ran.later in let two = q.later in omega (arith, one, two);
-  walked = λ h life.
-      let a = p.ran.walked h life in let next = a.is.0.0 in let b = q.walked h next in let w = world_of life old in let v = world_of next mid in
-      let walks : Walks w a.steps v = subst (λ (z : World). Walks w a.steps z) a.is.0.1 a.walks in
-      record {
-        steps = a.steps ++ b.steps;
-        last = b.last;
-        walks = walks_join a.steps b.steps w v b.last walks b.walks;
-        is = join a.steps b.steps b.last a.failed a.is.1 b.is;
-        failed = λ e. ⊎_elim (λ f. failed_on _ _ _ q.later (a.failed f)) (λ f. failed_before _ _ _ p.ran.later (b.failed f)) (breaks_split a.steps b.steps e);
-        time = λ t now r. since_then G (disk_in old.idle_store) (disk_in mid.idle_store) to (IsAlong w a.steps) (IsAlong v b.steps) (IsAlong w (a.steps ++ b.steps))
-            (a.time t now r) (b.time t now (reached_walk a.steps w v walks r)) (λ x m. along_more w a.steps b.steps x m) (λ x m. along_behind w v a.steps b.steps x walks m);
-      };
+-- to a device at rest, and from it
+pub ran_then : {D A : Type 0} {G : Ghosts D} {old mid : Exec D A G} {from there to : D} {P Q : RunPoint → RunPoint → Type 0} (R : RunPoint → RunPoint → Type 0) → Ran old from there (λ p m. IsAt mid there m × P p m) → Ran mid there to Q
+    → ((p m q : RunPoint) → P p m → Q m q → R p q) → Ran old from to R
+ran_then {D} {A} {G} {from = from} {there = there} {to = to} R first second join = record {
+  extent = second.extent ∙ first.extent;
+  later = let one = first.later in let two = second.later in omega (arith, one, two);
+  leads = λ h p at.
+      let (m, (there_at, a), on, moments) = first.leads h p at in let (q, b, further, later) = second.leads h m there_at in (
+        q,
+        join p m q a b,
+        goes_then p m q on further,
+        λ t now r. and_then (Ghosts.moment G) (Ghosts.left_since G) from there to (IsAlong q) (IsAlong q)
+            (weaken (Ghosts.moment G) (Ghosts.left_since G) from there (IsAlong m) (IsAlong q) (moments t now r) further.1) (later t now (reached_on p.world m.world on.0 r)) (λ x along. along),
+      );
 }
 
-pub steps_then : {D A : Type 0} {G : Ghosts D} (old mid new : Exec D A G) (P Q R : List RunStep → Type 0) → Leads old mid P → Leads mid new Q → ((xs ys : List RunStep) → P xs → Q ys → R (xs ++ ys)) → Leads old new R
-steps_then old mid new P Q R p q join = record {
-  ran = ran_then old mid (disk_in new.idle_store) P (λ steps last. IsOf new last × Q steps) (λ steps last. IsOf new last × R steps) p q.ran (λ xs ys last failed a b. (b.0, join xs ys a b.1));
-  tied = λ before t. q.tied before (p.tied before t);
+-- to a device at rest, and to a further disk with no step
+pub ran_on : {D A : Type 0} {G : Ghosts D} {old : Exec D A G} (mid : Exec D A G) {from there : D} {P : RunPoint → RunPoint → Type 0} (to : D) → Ran old from there (λ p m. IsAt mid there m × P p m) → Ghosts.extent G to ≡ Ghosts.extent G there
+    → Ghosts.failures G there ≤ Ghosts.failures G to → (Ghosts.honest G → Ghosts.records G → (m : RunPoint) → IsAt mid there m → Reached m.world → LeavesOnly (Ghosts.moment G) (Ghosts.left_since G) there to (IsAlong m))
+    → Ran old from to (λ p m. IsAt mid there m × P p m)
+ran_on {G = G} mid {from} {there} to ran size rose time = record {
+  extent = size ∙ ran.extent;
+  later = let one = ran.later in omega (arith, one, rose);
+  leads = λ h p at.
+      let (m, a, on, moments) = ran.leads h p at in
+      (m, a, on, λ t now r. and_then (Ghosts.moment G) (Ghosts.left_since G) from there to (IsAlong m) (IsAlong m) (moments t now r) (time h t m a.0 (reached_on p.world m.world on.0 r)) (λ x along. along));
 }
 
--- what is known of the steps, in other words
-pub ran_with : {D A : Type 0} {G : Ghosts D} (old : Exec D A G) (to : Option D) (P Q : List RunStep → World → Type 0) → Ran old to P
-    → (Ghosts.honest G → (life : Life) (steps : List RunStep) (last : World) → Walks (world_of life old) steps last → (SomeBreak steps → HasFailed (failures_of old) (failures_in G to)) → P steps last → Q steps last) → Ran old to Q
-ran_with old to P Q p turn =
-    record { extent = p.extent; later = p.later; walked = λ h life. let a = p.walked h life in record { steps = a.steps; last = a.last; walks = a.walks; is = turn h life a.steps a.last a.walks a.failed a.is; failed = a.failed; time = a.time } }
+-- what is known of the points, in other words
+pub ran_as : {D A : Type 0} {G : Ghosts D} {old : Exec D A G} {from to : D} {P : RunPoint → RunPoint → Type 0} (Q : RunPoint → RunPoint → Type 0) → Ran old from to P
+    → (Ghosts.honest G → (p q : RunPoint) → IsAt old from p → P p q → Q p q) → Ran old from to Q
+ran_as Q ran turn = record { extent = ran.extent; later = ran.later; leads = λ h p at. let a = ran.leads h p at in (a.0, turn h p a.0 at a.1, a.2, a.3) }
 
-pub steps_as : {D A : Type 0} {G : Ghosts D} (old new : Exec D A G) (P Q : List RunStep → Type 0) → Leads old new P → ((steps : List RunStep) → P steps → Q steps) → Leads old new Q
-steps_as old new P Q p turn =
-    record { ran = ran_with old (disk_in new.idle_store) (λ steps last. IsOf new last × P steps) (λ steps last. IsOf new last × Q steps) p.ran (λ h life steps last walks failed a. (a.0, turn steps a.1)); tied = p.tied }
+pub steps_then : {D A : Type 0} {G : Ghosts D} {old mid new : Exec D A G} {P Q : RunPoint → RunPoint → Type 0} (R : RunPoint → RunPoint → Type 0) → Leads old mid P → Leads mid new Q → ((p m q : RunPoint) → P p m → Q m q → R p q) → Leads old new R
+steps_then {new = new} R first second join = record {
+  ran = λ from is.
+      let a = first.ran from is in let b = second.ran a.0 a.1 in
+      (b.0, b.1, ran_then (λ (p q : RunPoint). IsAt new b.0 q × R p q) a.2 b.2 (λ p m q x y. (y.0, join p m q x y.1)));
+  later = let one = first.later in let two = second.later in omega (arith, one, two);
+  tied = λ before t. second.tied before (first.tied before t);
+}
+
+pub steps_as : {D A : Type 0} {G : Ghosts D} {old new : Exec D A G} {P : RunPoint → RunPoint → Type 0} (Q : RunPoint → RunPoint → Type 0) → Leads old new P → ((p q : RunPoint) → P p q → Q p q) → Leads old new Q
+steps_as {new = new} Q goes turn = record {
+  ran = λ from is. let a = goes.ran from is in (a.0, a.1, ran_as (λ (p q : RunPoint). IsAt new a.0 q × Q p q) a.2 (λ h p q at b. (b.0, turn p q b.1)));
+  later = goes.later;
+  tied = goes.tied;
+}
 
 -- ---- no step, and one
 
--- nothing is done
-pub steps_none : {D A : Type 0} {G : Ghosts D} (exec : Exec D A G) (P : List RunStep → Type 0) → P [] → Leads exec exec P
-steps_none {D} {A} {G} exec P p = record {
-  ran = record {
-    extent = refl;
-    later = omega arith;
-    walked = λ h life. let w = world_of life exec in
-        record { steps = []; last = w; walks = refl; is = ((life, refl), p); failed = λ e. absurd e; time = λ t now r. since_idle exec.idle_store (IsAlong w []) now (λ x left. along_here w [] x (prefix_of_reached w x r left)) };
-  };
+-- The disk stays as it is.
+ran_still : {D A : Type 0} {G : Ghosts D} {old : Exec D A G} {from : D} (P : RunPoint → RunPoint → Type 0) → ((p : RunPoint) → IsAt old from p → (q : RunPoint) × P p q × Continues p q × (q.world.disk ≡ Ghosts.state G from)) → Ran old from from P
+ran_still {G = G} {from = from} P goes = record {
+  extent = refl;
+  later = omega arith;
+  leads = λ h p at.
+      let (q, is, on, disk) = goes p at in let here = λ (x : List ℕ) (left : IsCrashImage (Ghosts.state G from) x) (r : Reached p.world). prefix_of_reached q.world x (reached_on p.world q.world on.0 r) (subst (λ (d : DiskState). IsCrashImage d x) (sym disk) left) in
+      (q, is, on, λ t now r. started (Ghosts.moment G) (Ghosts.left_since G) from (IsAlong q) (λ x left. along_here q x (here x (now from x left) r)));
+}
+
+-- The device stays as it is, and each point stays, but for its text.
+pub steps_none : {D A : Type 0} {G : Ghosts D} (exec : Exec D A G) (text : List ℕ → List ℕ) (P : RunPoint → RunPoint → Type 0) → ((p : RunPoint) → P p (record p { text = text p.text })) → Leads exec exec P
+steps_none exec text P same = record {
+  ran = λ from is. (from, is, ran_still _ (λ p at. (record p { text = text p.text }, (at, same p), stays_on p, at.2)));
+  later = omega arith;
   tied = λ before t. t;
 }
 
--- a life after one more call
-abbrev lived : Life → State → Entry → Life
-lived life s entry = record life { history = recorded s entry life.history }
+-- the point after a call
+abbrev pub stepped : RunPoint → Entry → State → DiskState → ℕ → RunPoint
+stepped p entry s disk failures = record p {
+  world = record p.world { state = s; history = recorded p.world.state entry p.world.history; disk = disk };
+  failures = failures;
+  calm = p.calm && is_calm (Some entry);
+  passed = p.world ∷ p.passed;
+}
 
--- a call that leaves the disk unchanged
-pub called : {D A : Type 0} {G : Ghosts D} (old new : Exec D A G) (life : Life) (entry : Entry) → Serves old.device entry new.device → new.idle_store ≡ old.idle_store
-    → ((d : DiskState) → d ≡ disk_at old.idle_store → DiskAfter (world_of life old) entry d) → CallsOnWorld (world_of life old) entry (world_of (lived life old.device entry) new)
-called {D} {A} {G} old new life entry serves there stays = (disk_at new.idle_store, (new.device, refl, serves, stays (disk_at new.idle_store) (ap (λ (z : Option (IdleStore D A G)). disk_at z) there), refl))
+pub call_steps : (p : RunPoint) (entry : Entry) (s : State) (disk : DiskState) (failures : ℕ) → p.world.mode ≡ Running → Serves p.world.state entry s → DiskAfter p.world entry disk → p.failures ≤ failures
+    → ((finished : JobEnd) (over : Option (List ℕ)) → entry ≡ GaveBack finished over → (fault_of finished ≡ Some StoreBroken → HasFailed p.failures failures) × (fault_of finished ≡ Some NoNumber → IsWornOut disk.bytes))
+    → Calls p entry (stepped p entry s disk failures)
+call_steps p entry s disk failures on serves after later gave = record { leads = (disk, (s, on, serves, after, refl)); later = later; gave = λ finished over e. gave finished over (same_Some entry (GaveBack finished over) e); is = refl }
 
--- The premise on the store's condition is met by each call but the end of a job.
-pub steps_call : {D A : Type 0} {G : Ghosts D} (old new : Exec D A G) (entry : Entry) (P : List RunStep → Type 0) → Serves old.device entry new.device → new.idle_store ≡ old.idle_store → new.device.flush.store ≡ old.device.flush.store
-    → ((life : Life) (d : DiskState) → d ≡ disk_at old.idle_store → DiskAfter (world_of life old) entry d) → ((image : List ℕ) → IsSound entry image) → (Breaks (Called entry) → ⊥) → P (Called entry ∷ []) → Leads old new P
-steps_call {D} {A} {G} old new entry P serves there keeps stays sound calm p =
-    let same : failures_of new ≡ failures_of old = ap (λ (z : Option (IdleStore D A G)). failures_in G (disk_in z)) there in record {
-      ran = record {
-        extent = ap (λ (z : Option (IdleStore D A G)). extent_in G (disk_in z)) there;
-        later = omega (arith, same);
-        walked = λ h life.
-            let w = world_of life old in
-            let next = lived life old.device entry in record {
-              steps = Called entry ∷ [];
-              last = world_of next new;
-              walks = (world_of next new, (called old new life entry serves there (stays life), sound (disk_at new.idle_store).bytes), refl);
-              is = ((next, refl), p);
-              failed = λ e. ⊎_elim (λ b. absurd (calm b)) (λ b. absurd b) e;
-              time = λ t now r. subst (λ (z : Option (IdleStore D A G)). Since G (disk_in old.idle_store) (disk_in z) (IsAlong w (Called entry ∷ []))) (sym there)
-                  (since_idle old.idle_store (IsAlong w (Called entry ∷ [])) now (λ x left. along_here w (Called entry ∷ []) x (prefix_of_reached w x r left)));
-            };
-      };
-      tied = λ before t. (omega (arith, same, t.0), ⊎_elim inl (λ counts. inr (λ broke. subst (HasFailed before) (sym same) (counts (sym (ap is_broken keeps) ∙ broke)))) t.1);
-    }
+-- A call that leaves the store as it is, so no end of a job.
+pub steps_call : {D A : Type 0} {G : Ghosts D} {old new : Exec D A G} (entry : Entry) (P : RunPoint → RunPoint → Type 0) → Serves old.device entry new.device → new.idle_store ≡ old.idle_store → new.device.flush.store ≡ old.device.flush.store
+    → ((w : World) → DiskAfter w entry w.disk) → ((finished : JobEnd) (over : Option (List ℕ)) → entry ≡ GaveBack finished over → ⊥) → ((p q : RunPoint) → Calls p entry q → P p q) → Leads old new P
+steps_call {D} {A} {G} {old} {new} entry P serves there keeps stays other turn = record {
+  ran = λ from is. (
+    from,
+    ap (λ (z : Option (IdleStore D A G)). option_map idle_disk z) there ∙ is,
+    ran_still _ (λ p at.
+        let (state, on, disk, count) = at in
+        let c = call_steps p entry new.device p.world.disk p.failures on (subst (λ (s : State). Serves s entry new.device) (sym state) serves) (stays p.world) (omega arith) (λ finished over e. absurd (other finished over e)) in
+        (stepped p entry new.device p.world.disk p.failures, ((refl, on, disk, count), turn p _ c), step_goes c, disk)),
+  );
+  later = omega (arith, same);
+  tied = λ before t. (omega (arith, same, t.0), ⊎_elim inl (λ counts. inr (λ broke. subst (HasFailed before) (sym same) (counts (sym (ap is_broken keeps) ∙ broke)))) t.1);
+}
+  where
+    same : failures_of new ≡ failures_of old
+    same = ap (λ (z : Option (IdleStore D A G)). unwrap_or (option_map (Ghosts.failures G) (option_map idle_disk z)) 0) there
 
 -- ---- a device that stops
 
-pub device_stops_then : {D A : Type 0} {G : Ghosts D} (old mid new : Exec D A G) (P Q R : List RunStep → Type 0) (cause : RunCause) → Leads old mid P → DeviceStops mid new Q cause
-    → ((xs ys : List RunStep) → P xs → Q ys → R (xs ++ ys)) → DeviceStops old new R cause
-device_stops_then old mid new P Q R cause p s join = record { leads = steps_then old mid new P Q R p s.leads join; own = s.own; why = λ e before t. s.why e before (p.tied before t) }
+pub device_stops_then : {D A : Type 0} {G : Ghosts D} {old mid new : Exec D A G} {P Q : RunPoint → RunPoint → Type 0} (R : RunPoint → RunPoint → Type 0) {cause : RunCause} → Leads old mid P → DeviceStops mid new Q cause
+    → ((p m q : RunPoint) → P p m → Q m q → R p q) → DeviceStops old new R cause
+device_stops_then R goes s join = record { leads = steps_then R goes s.leads join; own = s.own; why = λ e before t. s.why e before (goes.tied before t) }

@@ -1,6 +1,5 @@
 -- The reads of an input, one after another.
-use Rattle.std.proofs.Common.{◌≡◌, ℕ, ◌+◌, ◌≤◌, List, [], ◌++◌, length, take, refl, subst, sym, arith, append-nil, Option}
-use Rattle.psu_run.proofs.Common.{Consumes, Consumes-kept, Consumes-nil, Consumes-trans, HasRead, Keeps, common_steps}
+use Rattle.psu_run.proofs.Common.{◌≡◌, ℕ, ◌+◌, ◌≤◌, List, [], ◌++◌, length, take, refl, subst, sym, arith, append-nil, Option, Consumes, Consumes-kept, Consumes-nil, Consumes-trans, HasRead, Keeps, common_steps}
 use Rattle.psu_run.specs.Lines.{Counts, Reads, ReadsNoFurther}
 
 counts_then : (m f n g : ℕ) (a b c : Option Reads) → Counts m f a b → Counts n g b c → Counts (m + n) (f + g) a c

@@ -1,16 +1,18 @@
 -- Where nothing goes wrong, the messages of an input have one text, the script's.
-use Rattle.std.proofs.Common.{◌≡◌, ℕ, zero, suc, ◌||◌, ◌&&◌, Bool, true, false, List, [], ◌∷◌, ◌++◌, drop, refl, sym, ap, subst, append-nil, if◌then◌else◌, None, Some, ◌⊎◌, ◌==◌, ◌∙◌, subst₂, inl, inr, arith, append_assoc, map}
 use Rattle.psu_lex.specs.Bytes.{all_white, is_closed}
-use Rattle.psu_run.proofs.Common.{AskedBy, Called, Contents, Effect, Executes, ExecutesInside, Expand, Fault, GaveBack, HasOutcome, IsAnswered, IsScript, IsSilent, IsTry, IsUnit, Job, LineRuns, Makes, Message, Part, Point, PowersOn, Reopens, Reply, Request, Restarted, RunStep, Runs, ScriptAlone, Scripted, Sent, Source, State, Took, Walks, World, answer_in, answers, at_start, first_onto, has, items_of, message_of, messages, nat_tests, opened, parts_of, reads_left, represents_one, response, text_sent, ⊤}
+use Rattle.psu_run.proofs.Common.{◌≡◌, ℕ, zero, suc, ◌||◌, ◌&&◌, Bool, true, false, List, [], ◌∷◌, ◌++◌, ◌+◌, drop, refl, sym, ap, subst, append-nil, if◌then◌else◌, None, Some, ◌⊎◌, ◌==◌, ◌∙◌, subst₂, inl, inr, arith, append_assoc, map, AskedBy, Contents, Does, Effect, Executes, ExecutesInside, Expand, Fault, HasOutcome, IsAnswered, IsJob, IsScript, IsSilent, IsTry, Message, Part, Point, PowersOn, Reopen, Reply, Request, RunPoint, Runs, ScriptAlone, Scripted, Sent, Source, State, Steps, World, answer_in, answers, at_power_on, at_start, first_onto, has, items_of, message_of, messages, nat_tests, opened, parts_of, reads_left, represents_one, response, text_sent, ⊤}
 use Rattle.psu_lex.specs.Message.{Reads, Token, Separator, Faulty, ended, fault_of, next_first, text_of, units_of}
 use Rattle.psu_run.proofs.Cuts.{has_none}
-use Rattle.psu_messages.specs.Effects.{Executed, Settled}
+use Rattle.psu_messages.specs.Effects.{Executed, Settled, needs}
+use Rattle.psu_messages.specs.Executions.{Advances, IsOver, Progress, beginning}
+use Rattle.psu_messages.specs.Executions.Reaches.{Begins}
 use Rattle.psu_messages.specs.Messages.{NoMessage, OneMore, AreMessages, IsAskedIn, OverIsMessages}
-use Rattle.psu_messages.specs.Turns.{NoneInside, OneInside, Untried, Again, NoUnit, Plain, Expanded, Ended, InsideDone, IsInside, Tried, UnitsDone, acts}
+use Rattle.psu_messages.specs.Turns.{NoneInside, OneInside, Untried, Again, NoUnit, Plain, Expanded, Ended, InsideDone, Tried, UnitsDone, acts}
 use Rattle.psu_messages.specs.Units.{Text}
 use Rattle.psu_messages.proofs.Answering.{answers_append, try_gives}
-use Rattle.psu_run.proofs.Alone.{Calmly, Still, calmly_as, parted, still_on, unit_alone, take_alone}
+use Rattle.psu_run.proofs.Alone.{Still, UnitTells, still_on, take_alone, unit_alone}
 use Rattle.psu_run.proofs.Readings.{AreLeft, AskedFrom, Holds, Ones, SomeUnits, asked_all, asked_next, asked_none, held_by, left_all, left_next, left_none}
+use Rattle.psu_run.proofs.Walking.{begins_keep, calm_step, effects_keep, reopening}
 use Rattle.std.proofs.lemmas.Bool.{cases_Bool}
 use Rattle.psu_nv.proofs.Determining.{same_contents}
 use Rattle.psu_messages.specs.Effects as effects
@@ -85,20 +87,20 @@ line_is source count list line (OneMore (OneMore m from earlier was) to message 
 
 -- ---- the units of a line, one after another
 
--- a unit is executed, and nothing else
-abbrev Does : World → Effect → World → Type 0
-Does w (Executed request reply) new = (steps : List RunStep) × IsUnit request reply steps × Calmly w steps new
-Does w effect new = ⊥
+-- a unit is executed as the script says, and nothing else
+abbrev Tells : World → Effect → World → Type 0
+Tells w (Executed request reply) new = (needs reply ≡ None) × ((at : Point) → Still at w → Holds request → UnitTells at request reply new)
+Tells w effect new = ⊥
 
-line_does : (list : List Effect) (w last : World) (steps : List RunStep) → Makes list steps → Calmly w steps last → effects.Runs Does w (acts list) last
-line_does [] w last steps none c = (calmly_as none c).walks
-line_does (Executed request reply ∷ list) w last steps (unit, more, is, makes, all) c = let a = parted unit more all c in (a.0, (unit, is, a.1), line_does list a.0 last more makes a.2)
-line_does (Settled reply ∷ list) w last steps never c = absurd never
-line_does (Sent text end ∷ list) w last steps makes c = line_does list w last steps makes c
+line_tells : (p q : RunPoint) (list : List Effect) → effects.Runs Does p list q → q.calm ≡ true → effects.Runs Tells p.world (acts list) q.world
+line_tells p q [] none calm = ap (λ (z : RunPoint). z.world) none
+line_tells p q (Executed request reply ∷ list) (mid, unit, rest) calm = (mid.world, (grind arith, λ at still holds. unit_alone still holds unit ((effects_keep mid q list rest).1 calm)), line_tells mid q list rest calm)
+line_tells p q (Settled reply ∷ list) (mid, never, rest) calm = absurd never
+line_tells p q (Sent text end ∷ list) (mid, is, rest) calm = subst (λ (z : RunPoint). effects.Runs Tells z.world (acts list) q.world) is (line_tells mid q list rest calm)
 
-split : (xs ys : List Effect) (w new : World) → effects.Runs Does w (xs ++ ys) new → (mid : World) × effects.Runs Does w xs mid × effects.Runs Does mid ys new
+split : (xs ys : List Effect) (w new : World) → effects.Runs Tells w (xs ++ ys) new → (mid : World) × effects.Runs Tells w xs mid × effects.Runs Tells mid ys new
 split [] ys w new runs = (w, refl, runs)
-split (effect ∷ xs) ys w new (next, d, runs) = let a = split xs ys next new runs in (a.0, (next, d, a.1), a.2)
+split (effect ∷ xs) ys w new (next, tells, runs) = let a = split xs ys next new runs in (a.0, (next, tells, a.1), a.2)
 
 acts_say : (list : List Effect) → answers (acts list) ≡ answers list
 acts_say [] = refl
@@ -117,67 +119,66 @@ unit_holds {request = request} unit = held_by unit.reads.call.0 request.call uni
 
 asked_holds : (source : Source) (place : ℕ) (request : Request) (first : Bool) → units.Asks source place request first → Holds request
 asked_holds (units.Text bytes) place request first (part, unit, e) = unit_holds unit
-asked_holds (Fault error) place request first (at, is, e) = subst Holds (sym is) ([], refl)
+asked_holds (Fault error) place request first (none, is, e) = subst Holds (sym is) ([], refl)
 
--- a unit that was executed to its end: its result by the script
-record Reported (Is : Request → Type 0) (r : Point) (reply : Reply) (unit : List Effect) (new : World) : Type 0 where
-  request : Request
-  is : Is request
-  rest : Point
-  has : HasOutcome r request reply rest
-  still : Still rest new
-  said : rest.answers ≡ r.answers ++ answers unit
+-- a unit that was executed to its end, by the script
+abbrev Reported : Point → Request → Reply → List Effect → World → Type 0
+Reported at request reply unit new = (rest : Point) × HasOutcome at request reply rest × Still rest new × (rest.answers ≡ at.answers ++ answers unit)
 
 -- it was tried once, since each reply is final
-once : (Is : Request → Type 0) (tries : List Effect) (parked : Bool) (request : Request) (effect : Effect) (r : Point) (reply : Reply) (w new : World) → ((other : Request) → Is other → Holds other) → Tried Is tries parked
-    → Is request → IsTry parked request effect reply → Still r w → effects.Runs Does w (tries ++ effect ∷ []) new → Reported Is r reply (tries ++ effect ∷ []) new
-once Is tries parked request (Executed other answer) r reply w new hold Untried is (same, was) q (mid, (steps, unit, walk), here) =
-    let u = unit_alone q (hold request is) (subst₂ (λ (c : Request) (o : Reply). IsUnit c o steps) same was unit) walk in
-    let said = u.3 ∙ ap (λ (l : List (List ℕ)). r.answers ++ l) (sym (try_gives false request (Executed other answer) reply (same, was))) in
-    subst (Reported Is r reply (Executed other answer ∷ [])) (sym here) (record { request = request; is = is; rest = u.0; has = u.1; still = u.2; said = said })
-once Is tries parked request effect r reply w new hold Untried is try q (mid, d, here) = absurd d
-once Is tries parked request effect r reply w new hold (Again {effects = before} {parked = was} t other is_other tried answer need try wants) is last q runs =
-    let a = split (before ++ tried ∷ []) (effect ∷ []) w new runs in let b = split before (tried ∷ []) w a.0 a.1 in
-    let d = b.2.1 in grind arith
-
-ended_told : {Is : Request → Type 0} {unit : List Effect} {r : Point} {reply : Reply} {w new : World} → ((other : Request) → Is other → Holds other) → Ended Is unit reply → Still r w → effects.Runs Does w unit new
-    → Reported Is r reply unit new
-ended_told {Is} {unit} {r} {reply} {w} {new} hold e q runs =
-    subst (λ (z : List Effect). Reported Is r reply z new) (sym e.all)
-    (once Is e.tries e.parked e.request e.effect r reply w new hold e.tried e.is e.last q (subst (λ (z : List Effect). effects.Runs Does w z new) e.all runs))
+ended_told : {Is : Request → Type 0} {unit : List Effect} {at : Point} {reply : Reply} {w new : World} (e : Ended Is unit reply) → Holds e.request → Still at w → effects.Runs Tells w unit new → Reported at e.request reply unit new
+ended_told {Is} {unit} {at} {reply} {w} {new} e holds still runs =
+    subst (λ (z : List Effect). Reported at e.request reply z new) (sym e.all) (by e.tries e.parked e.effect e.tried e.last (subst (λ (z : List Effect). effects.Runs Tells w z new) e.all runs)) where
+      by : (tries : List Effect) (parked : Bool) (effect : Effect) → Tried Is tries parked → IsTry parked e.request effect reply → effects.Runs Tells w (tries ++ effect ∷ []) new → Reported at e.request reply (tries ++ effect ∷ []) new
+      by tries parked (Executed other answer) Untried (same, was) (mid, tells, here) =
+          let u = subst₂ (λ (c : Request) (o : Reply). UnitTells at c o mid) same was (tells.1 at still (subst Holds (sym same) holds)) in
+          let said = ap (λ (l : List (List ℕ)). at.answers ++ l) (sym (try_gives false e.request (Executed other answer) reply (same, was))) in
+          (u.0, u.1, subst (Still u.0) (sym here) u.2, u.3 ∙ said)
+      by tries parked effect Untried try (mid, never, here) = absurd never
+      by tries parked effect (Again {effects = before} {parked = was} t other is tried answer need try wants) last runs =
+          let a = split (before ++ tried ∷ []) (effect ∷ []) w new runs in let b = split before (tried ∷ []) w a.0 a.1 in
+          let tells = b.2.1 in grind arith
 
 -- ---- units, one after another
 
 -- The device after these units, which are those before a place, is in the script's state. Requests that are left at the
 -- place, with a result by the script, continue those before them to all requests, with that result.
-abbrev Follows : (ℕ → List Request → Type 0) → (Point → List Request → Point → Type 0) → Point → ℕ → List Effect → World → Type 0
-Follows Left Leads r place list new =
-    (rest : Point) × Still rest new × (rest.answers ≡ r.answers ++ answers list)
-    × ((more : List Request) (end : Point) → Left place more → Leads rest more end → (all : List Request) × Left 0 all × Leads r all end)
+record Follows (Left : ℕ → List Request → Type 0) (Leads : Point → List Request → Point → Type 0) (at : Point) (place : ℕ) (list : List Effect) (new : World) : Type 0 where
+  rest : Point
+  still : Still rest new
+  said : rest.answers ≡ at.answers ++ answers list
+  all : (more : List Request) (end : Point) → Left place more → Leads rest more end → (all : List Request) × Left 0 all × Leads at all end
+
+no_units : {Left : ℕ → List Request → Type 0} {Leads : Point → List Request → Point → Type 0} {at : Point} {w new : World} → Still at w → new ≡ w → Follows Left Leads at 0 [] new
+no_units {at = at} still none = record { rest = at; still = subst (Still at) (sym none) still; said = sym (append-nil at.answers); all = λ more end left leads. (more, left, leads) }
+
+-- a unit more, whose request is put before those that are left after it
+one_more : {Left : ℕ → List Request → Type 0} {Leads : Point → List Request → Point → Type 0} {at : Point} {place : ℕ} {before : List Effect} {w : World} (f : Follows Left Leads at place before w)
+    → (unit : List Effect) (request : Request) (rest : Point) (new : World) → Still rest new → rest.answers ≡ f.rest.answers ++ answers unit
+    → ((more : List Request) (end : Point) → Left (place + 1) more → Leads rest more end → Left place (request ∷ more) × Leads f.rest (request ∷ more) end) → Follows Left Leads at (place + 1) (before ++ unit) new
+one_more {at = at} {before = before} f unit request rest new still said on =
+    record { rest = rest; still = still; said = then_say at.answers before unit f.said said; all = λ more end left leads. let next = on more end left leads in f.all (request ∷ more) end next.0 next.1 }
 
 -- ---- power
 
-abbrev restarted : Point → Point
-restarted r = at_start r.state.flush.limit r.stored
-
 -- a device that has just been powered on
-start_still : (image : List ℕ) (new : World) (p : PowersOn image new) → Still (at_start p.on.limit p.on.start) new
-start_still image new p =
-    let state = p.opens.1.2.1 ∙ ap (λ (s : State). opened s (Some 1)) p.start.state in
-    let sound = p.start.sound in
-    subst (Still (at_start p.on.limit p.on.start)) (sym p.opens.1.4) (record { state = state; whole = refl; kept = sound; sound = sound; disk = rw p.opens.1.3 p.start.disk })
+start_still : {image : List ℕ} {new : World} (on : PowersOn image new) → Still (at_start on.on.limit on.on.start) new
+start_still on =
+    let state = on.opens.1.2.1 ∙ ap (λ (s : State). opened s (Some 1)) on.start.state in
+    let sound = on.start.sound in
+    subst (Still (at_start on.on.limit on.on.start)) (sym on.opens.1.4) (record { state = state; whole = refl; kept = sound; sound = sound; disk = rw on.opens.1.3 on.start.disk })
 
 -- or powered on again
-restart_alone : (r : Point) (w new : World) → Still r w → Walks w (Restarted ∷ []) new → Still (restarted r) new
-restart_alone r w new q (on, (whole, at), here) =
-    let p = subst (PowersOn w.disk.bytes) (sym here) at in let same = represents_one p.on.limit r.state.flush.limit (items_of p.on.start) (items_of r.stored) w.disk.bytes p.found (q.disk w.disk.bytes (reads_left w.disk)) in
-    subst₂ (λ (n : ℕ) (c : Contents). Still (at_start n c) new) same.0 (same_contents p.on.start r.stored p.start.sound q.kept same.1) (start_still w.disk.bytes new p)
+restart_alone : {at : Point} {p q : RunPoint} → Still at p.world → Steps p None q → Still (at_start at.state.flush.limit at.stored) q.world
+restart_alone {at} {p} {q} still restart =
+    let on = restart.leads.1 in
+    let same = represents_one on.on.limit at.state.flush.limit (items_of on.on.start) (items_of at.stored) p.world.disk.bytes on.found (still.disk p.world.disk.bytes (reads_left p.world.disk)) in
+    subst₂ (λ (n : ℕ) (c : Contents). Still (at_start n c) q.world) same.0 (same_contents on.on.start at.stored on.start.sound still.kept same.1) (start_still on)
 
 -- the store is not broken, so it is not reopened
-reopened_alone : {r : Point} {w new : World} {steps : List RunStep} → Still r w → Reopens steps → Calmly w steps new → new ≡ w
-reopened_alone q (inl none) c = (calmly_as none c).walks
-reopened_alone q (inr (is, kind)) c =
-    let commit = (take_alone q (parted (Called (Took (Job is.job)) ∷ []) (Called (GaveBack is.finished (Some is.over)) ∷ []) is.are c).1).1 in cc
+reopened_alone : {at : Point} {p q : RunPoint} → Still at p.world → (q ≡ p) ⊎ IsJob Reopen p q → q ≡ p
+reopened_alone still (inl none) = none
+reopened_alone still (inr (job, finished, over, out, take, give, is, own, long)) = let commit = (take_alone still take).1 in cc
 
 -- ---- lines without a line feed
 
@@ -207,65 +208,60 @@ parts_whole (part ∷ parts) (free, more) = let rest = parts_whole parts more in
 
 -- ---- lines and messages
 
-module _ (ones : Ones) (some : SomeUnits) (over_is_messages : OverIsMessages) where
-  inside_leads : (r : Point) (body : List ℕ) (place : ℕ) (list : List Effect) (w new : World) → InsideDone body place list → Still r w → effects.Runs Does w list new
-      → Follows (AreLeft true body) ExecutesInside r place list new
-  inside_leads r body place list w new NoneInside q none = subst (Follows (AreLeft true body) ExecutesInside r 0 []) (sym none) (r, q, sym (append-nil r.answers), λ more end left leads. (more, left, leads))
-  inside_leads r body place list w new (OneInside {place = at} {effects = before} i unit reply ended) q runs =
-      let s = split before unit w new runs in let t = inside_leads r body at before w s.0 i q s.1 in
-      let one = ended_told {Is = IsInside body at} (λ request is. unit_holds is.1) ended t.1 s.2 in (
-        one.rest,
-        one.still,
-        then_say r.answers before unit t.2 one.said,
-        λ more end left leads. t.3 (one.request ∷ more) end (left_next more ones one.is.1 left) (reply, one.rest, one.has, leads),
-      )
+-- where all is calm at the end of messages, it was at their start
+runs_calm : (p q : RunPoint) (ms : List Message) → Runs ms p q → q.calm ≡ true → p.calm ≡ true
+runs_calm p q [] none calm = ap (λ (z : RunPoint). z.calm) (sym none) ∙ calm
+runs_calm p q (Message.Power ∷ ms) (mid, on, reopens, restart, rest) calm = (begins_keep [] (reopening reopens)).1 (calm_step restart (runs_calm on q ms rest calm)).0
+runs_calm p q (Message.Line source ∷ ms) (mid, end, line, over, rest) calm = (effects_keep p mid line.added line.runs).1 (runs_calm mid q ms rest calm)
 
-  units_lead : (r : Point) (source : Source) (place : ℕ) (list : List Effect) (w new : World) → UnitsDone (IsAskedIn source 0) 0 place list → Still r w → effects.Runs Does w list new
-      → Follows (AskedFrom source) Executes r place list new
-  units_lead r source place list w new NoUnit q none = subst (Follows (AskedFrom source) Executes r 0 []) (sym none) (r, q, sym (append-nil r.answers), λ more end left leads. (more, left, leads))
-  units_lead r source place list w new (Plain {place = at} {effects = before} u unit reply ended plain) q runs =
-      let s = split before unit w new runs in let t = units_lead r source at before w s.0 u q s.1 in
-      let one = ended_told {Is = IsAskedIn source 0 at} (λ request is. asked_holds source at request (at == 0) is) ended t.1 s.2 in (
-        one.rest,
-        one.still,
-        then_say r.answers before unit t.2 one.said,
-        λ more end left leads. t.3 (one.request ∷ more) end (asked_next ones source at one.request (at == 0) more one.is left) (reply, one.rest, one.rest, one.has, grind arith, leads),
-      )
-  units_lead r source place list w new (Expanded {place = at} {effects = before} u unit body ended inner count inside over) q runs =
-      let s = split before (unit ++ inner) w new runs in let e = split unit inner s.0 new s.2 in
-      let t = units_lead r source at before w s.0 u q s.1 in
-      let one = ended_told {Is = IsAskedIn source 0 at} (λ request is. asked_holds source at request (at == 0) is) ended t.1 e.1 in
-      let i = inside_leads one.rest body count inner e.0 new inside one.still e.2 in
-      let all = i.3 [] i.0 (left_none ones over) refl in (
-        i.0,
-        i.1,
-        then_say r.answers before (unit ++ inner) t.2 (then_say t.0.answers unit inner one.said i.2),
-        λ more end left leads. t.3 (one.request ∷ more) end (asked_next ones source at one.request (at == 0) more one.is left)
-            (Expand body, one.rest, i.0, one.has, (all.0, left_all some all.1, all.2), leads),
-      )
+module _ (ones : Ones) (some : SomeUnits) (over_is_messages : OverIsMessages) where
+  inside_leads : (at : Point) (body : List ℕ) (place : ℕ) (list : List Effect) (w new : World) → InsideDone body place list → Still at w → effects.Runs Tells w list new
+      → Follows (AreLeft true body) ExecutesInside at place list new
+  inside_leads at body place list w new NoneInside still none = no_units still none
+  inside_leads at body place list w new (OneInside {place = last} {effects = before} i unit reply ended) still runs =
+      let s = split before unit w new runs in let f = inside_leads at body last before w s.0 i still s.1 in
+      let one = ended_told ended (unit_holds ended.is.1) f.still s.2 in
+      one_more f unit ended.request one.0 new one.2 one.3 (λ more end left leads. (left_next more ones ended.is.1 left, (reply, one.0, one.1, leads)))
+
+  units_lead : (at : Point) (source : Source) (place : ℕ) (list : List Effect) (w new : World) → UnitsDone (IsAskedIn source 0) 0 place list → Still at w → effects.Runs Tells w list new
+      → Follows (AskedFrom source) Executes at place list new
+  units_lead at source place list w new NoUnit still none = no_units still none
+  units_lead at source place list w new (Plain {place = last} {effects = before} u unit reply ended plain) still runs =
+      let s = split before unit w new runs in let f = units_lead at source last before w s.0 u still s.1 in
+      let one = ended_told ended (asked_holds source last ended.request (last == 0) ended.is) f.still s.2 in
+      one_more f unit ended.request one.0 new one.2 one.3
+      (λ more end left leads. (asked_next ones source last ended.request (last == 0) more ended.is left, (reply, one.0, one.0, one.1, grind arith, leads)))
+  units_lead at source place list w new (Expanded {place = last} {effects = before} u unit body ended inner count inside over) still runs =
+      let s = split before (unit ++ inner) w new runs in let f = units_lead at source last before w s.0 u still s.1 in let e = split unit inner s.0 new s.2 in
+      let one = ended_told ended (asked_holds source last ended.request (last == 0) ended.is) f.still e.1 in
+      let i = inside_leads one.0 body count inner e.0 new inside one.2 e.2 in let all = i.all [] i.rest (left_none ones over) refl in
+      one_more f (unit ++ inner) ended.request i.rest new i.still (then_say f.rest.answers unit inner one.3 i.said)
+      (λ more end left leads. (asked_next ones source last ended.request (last == 0) more ended.is left, (Expand body, one.0, i.rest, one.1, (all.0, left_all some all.1, all.2), leads)))
 
   -- the requests of a line, and the script's result of it
-  line_alone : (r : Point) (source : Source) (w last : World) (text : List ℕ) (steps : List RunStep) → IsLine source → Still r w → LineRuns source text steps → Calmly w steps last
-      → (requests : List Request) × (end : Point) × AskedBy source requests × Executes (record r { answers = [] }) requests end × (text ≡ response end.answers) × Still end last
-  line_alone r source w last text steps line q l c =
-      let count = l.end.standing.units in
-      let m = line_is source count l.effects line (over_is_messages source l.effects l.end l.reaches l.over) in
-      let new = still_on q [] r.state q.state refl refl refl q.sound in
-      let t = units_lead (record r { answers = [] }) source count (acts l.effects) w last m.0 new (line_does l.effects w last steps l.makes c) in
-      let all = t.3 [] t.0 (asked_none ones source count l.over.units) refl in
-      (all.0, t.0, asked_all some source all.0 all.1, all.2, l.sent ∙ m.1 ∙ ap response (sym (t.2 ∙ acts_say l.effects)), t.1)
+  line_alone : {at : Point} {p q : RunPoint} (source : Source) (end : Progress) → IsLine source → Still at p.world → Advances Does source p beginning q end → IsOver source end → q.calm ≡ true
+      → (requests : List Request) × (rest : Point) × AskedBy source requests × Executes (record at { answers = [] }) requests rest × (q.text ≡ p.text ++ response rest.answers) × Still rest q.world
+  line_alone {at} {p} {q} source end line still a over calm =
+      let count = end.standing.units in
+      let m = line_is source count a.added line (over_is_messages source a.added end (a.reaches [] Begins) over) in
+      let new = still_on still [] at.state still.state refl refl refl still.sound in
+      let f = units_lead (record at { answers = [] }) source count (acts a.added) p.world q.world m.0 new (line_tells p q a.added a.runs calm) in
+      let all = f.all [] f.rest (asked_none ones source count over.units) refl in
+      let sent = m.1 ∙ ap response (sym (f.said ∙ acts_say a.added)) in
+      (all.0, f.rest, asked_all some source all.0 all.1, all.2, (effects_keep p q a.added a.runs).0 ∙ ap (λ (z : List ℕ). p.text ++ z) sent, f.still)
 
-  messages_alone : (ms : List Message) (r : Point) (w last : World) (text : List ℕ) (steps : List RunStep) → AreWhole ms → Still r w → Runs ms text steps → Calmly w steps last → Scripted r ms text
-  messages_alone [] r w last text steps whole q runs c = runs.0
-  messages_alone (Message.Power ∷ ms) r w last text steps whole q (first, more, made, others, (none, reopening, reopens, all), rest, is, both) c =
-      let a = parted made others both c in let b = parted reopening (Restarted ∷ []) all a.1 in
-      subst (Scripted (restarted r) ms) (sym (is ∙ ap (λ (z : List ℕ). z ++ more) none))
-      (messages_alone ms (restarted r) a.0 last more others whole (restart_alone r b.0 a.0 (subst (λ (z : World). Still r z) (sym (reopened_alone q reopens b.1)) q) b.2.walks) rest a.2)
-  messages_alone (Message.Line source ∷ ms) r w last text steps whole q (first, more, made, others, one, rest, is, both) c =
-      let a = parted made others both c in let s = line_alone r source w a.0 first made whole.0 q one a.1 in
-      (s.0, s.1, more, s.2, s.3, messages_alone ms s.1 a.0 last more others whole.1 s.5 rest a.2, is ∙ ap (λ (z : List ℕ). z ++ more) s.4)
+  messages_alone : (p q : RunPoint) (ms : List Message) (at : Point) → AreWhole ms → Still at p.world → Runs ms p q → q.calm ≡ true → (more : List ℕ) × Scripted at ms more × (q.text ≡ p.text ++ more)
+  messages_alone p q [] at whole still none calm = ([], refl, ap (λ (z : RunPoint). z.text) none ∙ sym (append-nil p.text))
+  messages_alone p q (Message.Power ∷ ms) at whole still (mid, on, reopens, restart, rest) calm =
+      let same = reopened_alone still reopens in
+      let t = messages_alone on q ms (at_start at.state.flush.limit at.stored) whole (restart_alone (subst (λ (z : RunPoint). Still at z.world) (sym same) still) restart) rest calm in
+      (t.0, t.1, t.2 ∙ ap (λ (z : List ℕ). z ++ t.0) (ap (λ (z : RunPoint). z.text) restart.is ∙ ap (λ (z : RunPoint). z.text) same))
+  messages_alone p q (Message.Line source ∷ ms) at whole still (mid, end, line, over, rest) calm =
+      let s = line_alone source end whole.0 still line over (runs_calm mid q ms rest calm) in let t = messages_alone mid q ms s.1 whole.1 s.5 rest calm in
+      (response s.1.answers ++ t.0, (s.0, s.1, t.0, s.2, s.3, t.1, refl), t.2 ∙ ap (λ (z : List ℕ). z ++ t.0) s.4 ∙ append_assoc p.text (response s.1.answers) t.0)
 
   pub script_is_alone : ScriptAlone
-  script_is_alone image input text steps first last p runs walks calm =
-      subst (λ (w : World). IsScript w.start w.limit input text) (sym p.opens.1.4)
-      (messages_alone (messages input) (at_start p.on.limit p.on.start) first last text steps (parts_whole (parts_of 10 input) (parts_free input)) (start_still image first p) runs (record { walks = walks; calm = calm }))
+  script_is_alone image input power failures last on runs calm =
+      let whole = parts_whole (parts_of 10 input) (parts_free input) in
+      let t = messages_alone (at_power_on power failures) last (messages input) (at_start on.on.limit on.on.start) whole (start_still on) runs calm in
+      subst₂ (λ (w : World) (text : List ℕ). IsScript w.start w.limit input text) (sym on.opens.1.4) (sym t.2) t.1

@@ -1,8 +1,7 @@
 -- The steps of a run, with its power losses, and runs one after another on the same disk, as one list of events of the
--- theorem on power loss.
-use Rattle.std.proofs.Common.{◌≡◌, ℕ, ◌+◌, false, Some, List, [], ◌∷◌, ◌++◌, length, refl, sym, ◌∙◌, subst, inl, inr, arith, ⊎_elim, ap, append-nil, take}
-use Rattle.psu_run.proofs.Common.{Called, CallsOnWorld, DiskState, EachIsEither, EachRepresents, Entry, EventsLead, IsCrashImage, IsEither, IsLeftBy, Item, Opened, PowersOn, Reached, Represents, Restarted, RunStep, Running, StandsForPrefix, StepsTo, Walks, World, after, count_held, get_or_past, items_of, left_size, nil_from_length, power_on, reads_left, represents_one, take-nil, target, without_power}
-use Rattle.psu_exec.specs.World.{Stopped, Restarting, Event, Call, DiskCall, Loss, Stop, Restart, Moves, Writes, Syncs, KeepsMaps, Happens, IsStart, Run}
+-- theorem on power loss; and what the images at the points of a run represent.
+use Rattle.psu_run.proofs.Common.{Any, ◌≡◌, ℕ, suc, ◌+◌, false, Option, Some, None, List, [], ◌∷◌, ◌++◌, length, refl, sym, ◌∙◌, subst, inl, inr, arith, ⊎_elim, ap, append-nil, take, DiskState, EachIsEither, EachRepresents, Entry, EventsLead, IsAlong, IsCrashImage, IsEither, IsLeftBy, Item, LeadsTo, Opened, PowersOn, Represents, RunPoint, Running, StandsForPrefix, Steps, World, after, count_held, get_or_past, items_of, left_size, nil_from_length, power_on, reads_left, represents_one, take-nil, target, without_power, Serves}
+use Rattle.psu_exec.specs.World.{Stopped, Restarting, Event, Call, DiskCall, Loss, Stop, Restart, Moves, Writes, Syncs, KeepsMaps, Happens, IsStart, Run, CallsBy}
 use Rattle.psu_exec.proofs.Invariant.{only_left, kept_at_start, left_in_life}
 use Rattle.psu_nv.specs.Commands.{Command as Change, applied}
 use Rattle.psu_exec.proofs.Events.{other_disk, prefix_is_left, run_keeps, while_running}
@@ -13,14 +12,14 @@ run_join : (xs ys : List Event) (w mid new : World) → Run w xs mid → Run mid
 run_join [] ys w mid new p q = subst (λ (z : World). Run z ys new) p q
 run_join (x ∷ xs) ys w mid new p q = (p.0, p.1, run_join xs ys p.0 mid new p.2 q)
 
-leads_then : (w mid new : World) → EventsLead w mid → EventsLead mid new → EventsLead w new
+pub leads_then : (w mid new : World) → EventsLead w mid → EventsLead mid new → EventsLead w new
 leads_then w mid new p q = (p.0 ++ q.0, run_join p.0 q.0 w mid new p.1 q.1)
 
 leads_behind : (w mid new : World) (event : Event) → Happens w event mid → EventsLead mid new → EventsLead w new
 leads_behind w mid new event h p = (event ∷ p.0, (mid, h, p.1))
 
 -- a call is an event
-happens : (w new : World) (entry : Entry) (c : CallsOnWorld w entry new) → Happens w (Call entry c.0) new
+happens : (w new : World) (entry : Entry) (c : (disk : DiskState) × CallsBy Serves w entry disk new) → Happens w (Call entry c.0) new
 happens w new entry x3 = grind arith
 
 -- ---- a restart
@@ -87,37 +86,60 @@ left_leads w disk left = (
 
 -- ---- steps
 
-step_leads : (step : RunStep) (w new : World) → StepsTo w step new → EventsLead w new
-step_leads (Called entry) w new (c, sound) = (Call entry c.0 ∷ [], (new, happens w new entry c, refl))
-step_leads Restarted w new (whole, p) =
+step_leads : (call : Option Entry) (w new : World) → LeadsTo w call new → EventsLead w new
+step_leads (Some entry) w new c = (Call entry c.0 ∷ [], (new, happens w new entry c, refl))
+step_leads None w new (whole, p) =
     let dark : World = record w { disk = without_power w.disk.bytes } in
     leads_behind w (record dark { mode = Stopped }) new (Loss w.disk.bytes) (reads_left w.disk, refl) (restart_leads dark new p)
 
-pub walk_leads : (steps : List RunStep) (w new : World) → Walks w steps new → EventsLead w new
-walk_leads [] w new same = ([], same)
-walk_leads (step ∷ steps) w new (mid, s, more) = leads_then w mid new (step_leads step w mid s) (walk_leads steps mid new more)
+-- the power-on of a run, from a world before it
+pub power_leads : (image : List ℕ) (power before : World) → PowersOn image power → before.disk.bytes ≡ image → EventsLead before power
+power_leads image power before p same =
+    leads_behind before (record before { mode = Stopped }) power Stop refl (restart_leads before power (subst (λ (x : List ℕ). PowersOn x power) (sym same) p))
 
--- the worlds that a run reaches after its power-on, from one before it
-pub run_leads : (image : List ℕ) (steps : List RunStep) (first last before : World) → PowersOn image first → Walks first steps last → before.disk.bytes ≡ image → EventsLead before last
-run_leads image steps first last before p walks same =
-    let began = restart_leads before first (subst (λ (x : List ℕ). PowersOn x first) (sym same) p) in
-    leads_then before first last (leads_behind before (record before { mode = Stopped }) first Stop refl began) (walk_leads steps first last walks)
+-- a world that is reached by events from a device that has just been powered on
+abbrev pub Reached : World → Type 0
+Reached w = (first : World) × IsStart first × EventsLead first w
 
-pub reached_walk : (steps : List RunStep) (w new : World) → Walks w steps new → Reached w → Reached new
-reached_walk steps w new walks r = let e = walk_leads steps w new walks in record { first = r.first; events = r.events ++ e.0; start = r.start; run = run_join r.events e.0 r.first w new r.run e.1 }
+pub reached_on : (w new : World) → EventsLead w new → Reached w → Reached new
+reached_on w new e (first, start, before) = (first, start, leads_then first w new before e)
 
-pub reached_on : (image : List ℕ) (new : World) → PowersOn image new → Reached new
-reached_on image new p = record { first = p.on; events = Call (Opened (Some 1)) p.opens.0 ∷ []; start = p.start; run = (new, happens p.on new (Opened (Some 1)) p.opens, refl) }
+pub reached_power : (image : List ℕ) (power : World) → PowersOn image power → Reached power
+reached_power image power p = (p.on, p.start, (Call (Opened (Some 1)) p.opens.0 ∷ [], (power, happens p.on power (Opened (Some 1)) p.opens, refl)))
+
+-- ---- the points of a run
+
+pub along_here : (p : RunPoint) (image : List ℕ) → StandsForPrefix p.world image → IsAlong p image
+along_here p image stands = (0, p.world, omega arith, refl, stands)
+
+along_more : (w : World) (ws : List World) (image : List ℕ) → Any (λ (v : World). StandsForPrefix v image) ws → Any (λ (v : World). StandsForPrefix v image) (w ∷ ws)
+along_more w ws image (k, v, low, is, stands) = (suc k, v, omega (arith, low), is, stands)
+
+-- the run continues from one point to another: events lead on, and what was passed stays passed
+abbrev pub Continues : RunPoint → RunPoint → Type 0
+Continues p q = EventsLead p.world q.world × ((image : List ℕ) → IsAlong p image → IsAlong q image)
+
+pub step_goes : {p q : RunPoint} {call : Option Entry} → Steps p call q → Continues p q
+step_goes {p} {q} {call} s = (
+  step_leads call p.world q.world s.leads,
+  λ image along. subst (λ (z : RunPoint). IsAlong z image) (sym s.is) (along_more q.world (p.world ∷ p.passed) image along),
+)
+
+pub goes_then : (p m q : RunPoint) → Continues p m → Continues m q → Continues p q
+goes_then p m q a b = (leads_then p.world m.world q.world a.0 b.0, λ image along. b.1 image (a.1 image along))
+
+pub stays_on : (p : RunPoint) → Continues p p
+stays_on p = (([], refl), λ image along. along)
 
 -- ---- what the images of a world that was reached represent: a prefix of what was executed
 
 pub prefix_of_reached : (w : World) (image : List ℕ) → Reached w → IsCrashImage w.disk image → StandsForPrefix w image
-prefix_of_reached w image r left = prefix_is_left r.first w r.events image r.start r.run left
+prefix_of_reached w image (first, start, (events, run)) left = prefix_is_left first w events image start run left
 
 -- while a job is out: an image that represents the map before, or the target
 pub prefix_of_either : (w : World) (image : List ℕ) → Reached w → w.mode ≡ Running → IsEither w.state.flush.limit w.state.flush.before (target w.state.flush) image → StandsForPrefix w image
 prefix_of_either w image r running either =
-    let f = w.state.flush in let alone = without_power image in let l = while_running w running (run_keeps r.first w r.events r.run (kept_at_start r.first r.start)) in
+    let f = w.state.flush in let alone = without_power image in let l = while_running w running (run_keeps r.0 w r.2.0 r.2.1 (kept_at_start r.0 r.1)) in
     let each : EachIsEither alone f.limit f.before (target f) = λ x left. subst (IsEither f.limit f.before (target f)) (sym (only_left image x left)) either in
     let p = left_in_life (record w { disk = alone }) (other_disk w alone each l) image (reads_left alone) in
     (p.k, record { from = p.prefix.from; to = p.prefix.to }, p.kept, p.stands)
@@ -142,7 +164,7 @@ leaves_prefix w disk r (inr (limit, map, was, is, size)) = same_prefix w disk li
 
 pub flushed_stands : (w : World) → Reached w → w.mode ≡ Running → w.state.flush.unflushed ≡ 0 → EachRepresents w.disk w.limit (items_of w.state.flush.contents)
 flushed_stands w r running none image left =
-    let l = while_running w running (run_keeps r.first w r.events r.run (kept_at_start r.first r.start)) in let empty : l.rest ≡ [] = nil_from_length l.rest (sym l.count ∙ none) in
+    let l = while_running w running (run_keeps r.0 w r.2.0 r.2.1 (kept_at_start r.0 r.1)) in let empty : l.rest ≡ [] = nil_from_length l.rest (sym l.count ∙ none) in
     let contents : w.state.flush.contents ≡ applied w.start l.gone = l.contents ∙ ap (λ (cs : List Change). applied w.start (l.gone ++ cs)) empty ∙ ap (applied w.start) (append-nil l.gone) in
     let taken : take (count_held w.state.flush.held) l.rest ≡ [] = ap (λ (cs : List Change). take (count_held w.state.flush.held) cs) empty ∙ take-nil (count_held w.state.flush.held) in
     let aim : target w.state.flush ≡ items_of w.state.flush.contents

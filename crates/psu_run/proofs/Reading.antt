@@ -1,19 +1,13 @@
--- The output of a piece is written, one piece after another, up to the end of the input.
-use Rattle.std.proofs.Common.{◌≡◌, ◌≢◌, ℕ, ◌+◌, ◌-◌, ◌<◌, ◌≤◌, false, List, [], ◌∷◌, ◌++◌, length, take, drop, refl, sym, ap, ◌∙◌, subst, inr, arith, append_assoc, Some, None, Option, length-append, IfSome, IsErrAnd, Result, inl}
-use Rattle.std.proofs.lemmas.List.{append-nil, nil_from_length}
-use Rattle.std.proofs.KnownBytes.{Appends-trans, Consumes-trans, Consumes-nil}
+-- The output of a piece is written, one piece after another, up to the end of the input; and the result of a whole run.
 use Rattle.std.specs.Io.KnownBytes.{Appends, Consumes, IsAtEnd}
-use Rattle.std.specs.Io.{StartsWith}
-use Rattle.std.specs.Option.{ForSome}
 use Rattle.psu_exec.proofs.Moments.{keeps_map}
-use Rattle.psu_run.proofs.Common.{Answers, AreCalm, Brings, DiskState, EachRepresents, EndsEarly, Exec, FaultOf, Fed, Ghosts, HasFailed, IsAlong, IsFlush, IsNow, IsOf, IsOfRun, IsOldOrSame, IsScript, IsWrittenBefore, Leads, LeavesOnly, Message, OutputState, PowersOn, Ran, RanAll, RunCause, RunFault, RunStep, RunStops, Runs, RunsUpTo, Says, SaysUntil, ScriptAlone, Since, StopsFor, Walks, World, Write, WritesShort, born, common_steps, disk_in, failures_of, has, held, idle_disk, is_broken, items_of, message_of, messages, state_in, take-add, world_of}
-use Rattle.psu_run.specs.Runs.{never, IsByFailure, RunTo, WritesFirst, WritesRun, disk_of}
-use Rattle.psu_run.proofs.Cuts.{line_end, line_last, longer, says_join, starts_after, until_none}
-use Rattle.psu_run.proofs.Feeding.{Ends, ends_then, stopped_then}
-use Rattle.psu_run.proofs.Going.{ran_then, since_then, since_to}
-use Rattle.psu_run.proofs.Stopping.{IsOther, RunsAll, Stops, behind, runs_whole, stops_for, stops_now, stops_then, whole_up_to}
-use Rattle.psu_run.proofs.OneList.{left_leads, reached_on, reached_walk, run_leads, flushed_stands, leaves_prefix}
-use Rattle.psu_run.proofs.Walking.{calm_split, flush_begins, walk_running, walks_split}
+use Rattle.psu_run.proofs.Common.{◌≡◌, ◌≢◌, ℕ, ◌+◌, ◌-◌, ◌≤◌, true, false, List, [], ◌∷◌, ◌++◌, length, take, drop, refl, sym, ap, ◌∙◌, subst, inr, arith, append_assoc, Some, None, Option, length-append, IfSome, IsErrAnd, Result, inl, Answers, Brings, DiskState, EachRepresents, Ends, EndsEarly, Exec, FaultOf, ForSome, Ghosts, IsAlong, IsAt, IsByFailure, IsCrashImage, IsOfRun, IsOldOrSame, IsScript, IsTied, LeavesOnly, Message, OutputState, PowersOn, Ran, RunCause, RunFault, RunPoint, RunTo, Runs, Says, SaysUntil, ScriptAlone, StopsFor, World, Write, WritesShort, WritesTo, and_then, at_power_on, common_steps, disk_in, failures_of, has, held, is_broken, items_of, message_of, messages, take-add, weaken, append-nil, nil_from_length, same_Some, Appends-trans, Consumes-trans, Consumes-nil}
+use Rattle.psu_run.specs.Runs.{disk_of}
+use Rattle.psu_run.proofs.Cuts.{line_end, line_last, short_after, until_none}
+use Rattle.psu_run.proofs.Feeding.{EndsIn, Fed, early_now, early_then, ends_then, stopped_then}
+use Rattle.psu_run.proofs.Stopping.{IsOther, RunStops, RunsTo, other_fails, stops_now, stops_then, stops_writing}
+use Rattle.psu_run.proofs.OneList.{Reached, flushed_stands, leads_then, leaves_prefix, left_leads, power_leads, reached_on, reached_power}
+use Rattle.psu_run.proofs.Walking.{begins_keep, flush_begins, flush_running}
 
 -- ---- the output of a piece is written
 
@@ -23,45 +17,48 @@ said a b text v says w = (says.0 ++ b.gathered, Appends-trans a.written b.writte
 
 -- a proper prefix of the text is written where the writer fails
 said_short : (a b : OutputState) (text : List ℕ) (v : Option (List ℕ)) → Says a b text → WritesShort b.written v b.gathered → WritesShort a.written v (a.gathered ++ text)
-said_short a b text v says w = (
-  says.0 ++ w.0,
-  Appends-trans a.written b.written v says.0 w.0 says.1 w.1,
-  subst (λ (z : List ℕ). StartsWith z (says.0 ++ w.0)) says.2 (starts_after says.0 w.0 b.gathered w.2),
-  subst (λ (z : List ℕ). length (says.0 ++ w.0) < length z) says.2 (longer says.0 w.0 b.gathered w.3),
-)
+said_short a b text v says w =
+    subst (λ (z : List ℕ). WritesShort a.written v (a.gathered ++ z)) (append-nil text) (short_after a b (held v []) text [] says (subst (WritesShort b.written v) (sym (append-nil b.gathered)) w))
 
-fails : (cause : RunCause) (a b : OutputState) (text : List ℕ) → cause ≡ Write → WritesShort a.written b.written (a.gathered ++ text) → SaysUntil cause a b text
-fails cause a b text is w = grind arith
+fails : (end : Option RunCause) (a b : OutputState) (text : List ℕ) → end ≡ Some Write → WritesShort a.written b.written (a.gathered ++ text) → SaysUntil end a b text
+fails end a b text is w = grind arith
 
-module _ {D A : Type 0} {G : Ghosts D} (line piece next : List ℕ) (s s1 : Exec D A G) (a b : OutputState) (v : Option (List ℕ)) (fed : Fed line piece next s s1 a b) where
+module _ {D A : Type 0} {G : Ghosts D} (line piece next : List ℕ) {s s1 : Exec D A G} (a b : OutputState) (v : Option (List ℕ)) (fed : Fed line piece next s s1 a b) where
   pub fed_written : Appends b.written v b.gathered → Fed line piece next s s1 a (held v [])
   fed_written w = (fed.0, fed.1, (fed.2.0, said a b fed.2.0 v fed.2.1 w, fed.2.2))
 
-  pub fed_short : (fault : RunFault D) → WritesShort b.written v b.gathered → FaultOf s1 Write fault → Ends never line piece s fault a (held v [])
+  pub fed_short : (fault : RunFault D) → WritesShort b.written v b.gathered → FaultOf s1 Write fault → EndsIn line piece s fault a (held v [])
   fed_short fault w at = λ input.
-      let text = fed.2.0 in (
-        text,
-        fails fault.cause a (held v []) text at.cause_is (said_short a b text v fed.2.1 w),
-        subst (λ (due : List Message). RunStops never s fault due text) (sym (fed.1 input)) (subst (RunStops never s fault (fed.0 ++ messages (next ++ input))) (append-nil text)
-            (stops_then never s s1 fault fed.0 (messages (next ++ input)) text [] fed.2.2 (stops_now never s1 Write fault (messages (next ++ input)) at tt))),
+      let text = fed.2.0 in let due = messages (next ++ input) in
+      subst (λ (d : List Message). EndsEarly s fault d a (held v [])) (sym (fed.1 input)) (
+        (
+          text,
+          fails (Some fault.cause) a (held v []) text (ap Some at.cause_is) (said_short a b text v fed.2.1 w),
+          subst (RunStops s (Some fault.cause) fault.disk (fed.0 ++ due)) (append-nil text) (stops_then (Some fault.cause) fault.disk fed.0 due text [] fed.2.2 (stops_now Write fault due at tt)),
+        ),
+        λ before t. other_fails Write fault at tt before,
       )
 
 -- A run that ended by this fault, with its output up to it.
-module _ {D : Type 0} (A : Type 0) (G : Ghosts D) (fault : RunFault D) (b : OutputState) (v : Option (List ℕ)) where
+module _ {D A : Type 0} {G : Ghosts D} (old : Exec D A G) (fault : RunFault D) (due : List Message) (a b : OutputState) (v : Option (List ℕ)) (ended : EndsEarly old fault due a b) where
   -- the writer failed
-  pub none_before : fault.cause ≡ Write → b.written ≡ v → IsWrittenBefore A G fault fault b (held v [])
-  none_before is same old due a q = (q.0, fails fault.cause a (held v []) q.0 is (subst (λ (w : Option (List ℕ)). WritesShort a.written w (a.gathered ++ q.0)) same (q.1.missing is)), q.2)
+  pub none_before : fault.cause ≡ Write → b.written ≡ v → EndsEarly old fault due a (held v [])
+  none_before is same =
+      let ends = ended.0 in
+      ((ends.0, fails (Some fault.cause) a (held v []) ends.0 (ap Some is) (subst (λ (w : Option (List ℕ)). WritesShort a.written w (a.gathered ++ ends.0)) same (ends.1.missing (ap Some is))), ends.2), ended.1)
 
-  pub written_before : fault.cause ≢ Write → Appends b.written v b.gathered → IsWrittenBefore A G fault fault b (held v [])
-  written_before own w old due a q = (q.0, record { whole = λ e. said a b q.0 v (q.1.whole own) w; missing = λ e. absurd (own e) }, q.2)
+  pub written_before : fault.cause ≢ Write → Appends b.written v b.gathered → EndsEarly old fault due a (held v [])
+  written_before own w =
+      let ends = ended.0 in let other : Some fault.cause ≢ Some Write = λ e. own (same_Some fault.cause Write e) in
+      ((ends.0, record { whole = λ e. said a b ends.0 v (ends.1.whole other) w; missing = λ e. absurd (other e) }, ends.2), ended.1)
 
   -- the writer fails
-  pub short_before : fault.cause ≢ Write → WritesShort b.written v b.gathered → IsWrittenBefore A G fault (record fault { cause = Write }) b (held v [])
-  short_before own w old due a q = (
-    q.0,
-    fails Write a (held v []) q.0 refl (said_short a b q.0 v (q.1.whole own) w),
-    stops_for never never old fault Write due q.0 q.2 (λ before rest last why. tt) (λ before by. record { opening = λ e. cc; device = λ e whole. cc; worn = by.worn }),
-  )
+  pub short_before : fault.cause ≢ Write → WritesShort b.written v b.gathered → EndsEarly old (record fault { cause = Write }) due a (held v [])
+  short_before own w =
+      let ends = ended.0 in let other : Some fault.cause ≢ Some Write = λ e. own (same_Some fault.cause Write e) in (
+        (ends.0, fails (Some Write) a (held v []) ends.0 refl (said_short a b ends.0 v (ends.1.whole other) w), stops_writing (Some fault.cause) fault.disk due ends.0 ends.2),
+        λ before t. let by = ended.1 before t in record { opening = λ e. cc; device = λ e whole. cc; worn = by.worn },
+      )
 
 -- ---- the last line of the input
 
@@ -74,34 +71,23 @@ last_done line next done begun free none is =
     let few : 1 ≡ length done + length (messages (next ++ [])) = ap length one ∙ length-append done (messages (next ++ [])) in
     line_last line begun free ∙ one ∙ ap (λ (z : List Message). done ++ z) (nil_from_length (messages (next ++ [])) (omega (arith, many, few))) ∙ append-nil done
 
-pub last_answered : {D A : Type 0} {G : Ghosts D} (line next : List ℕ) (s s1 : Exec D A G) (a b : OutputState) → (line ≡ [] → ⊥) → has 10 line ≡ false → has 10 next ≡ false → Fed line (10 ∷ []) next s s1 a b → Answers (messages line) s s1 a b
-last_answered line next s s1 a b begun free none p = subst (λ (m : List Message). Answers m s s1 a b) (sym (last_done line next p.0 begun free none p.1)) p.2
+pub last_answered : {D A : Type 0} {G : Ghosts D} (line next : List ℕ) {s s1 : Exec D A G} (a b : OutputState) → (line ≡ [] → ⊥) → has 10 line ≡ false → has 10 next ≡ false → Fed line (10 ∷ []) next s s1 a b → Answers (messages line) s s1 a b
+last_answered line next {s} {s1} a b begun free none p = subst (λ (m : List Message). Answers m s s1 a b) (sym (last_done line next p.0 begun free none p.1)) p.2
 
-pub last_early : {D A : Type 0} {G : Ghosts D} (line : List ℕ) (s : Exec D A G) (fault : RunFault D) (a b : OutputState) → (line ≡ [] → ⊥) → has 10 line ≡ false
-    → Ends never line (10 ∷ []) s fault a b → EndsEarly never s fault (messages line) a b
-last_early line s fault a b begun free q = subst (λ (m : List Message). EndsEarly never s fault m a b) (line_end line [] free ∙ sym (line_last line begun free)) (q [])
+pub last_early : {D A : Type 0} {G : Ghosts D} (line : List ℕ) {s : Exec D A G} (fault : RunFault D) (a b : OutputState) → (line ≡ [] → ⊥) → has 10 line ≡ false → EndsIn line (10 ∷ []) s fault a b → EndsEarly s fault (messages line) a b
+last_early line {s} fault a b begun free q = subst (λ (m : List Message). EndsEarly s fault m a b) (line_end line [] free ∙ sym (line_last line begun free)) (q [])
 
 -- ---- after the last line
 
 -- a fault
-pub answers_stop : {D A : Type 0} {G : Ghosts D} (due : List Message) (s s1 : Exec D A G) (fault : RunFault D) (a b : OutputState) → Answers due s s1 a b → fault.cause ≢ Write → RunStops never s1 fault [] [] → EndsEarly never s fault due a b
-answers_stop due s s1 fault a b p other stop =
-    subst (λ (m : List Message). EndsEarly never s fault m a b) (append-nil due) (ends_then never due [] s s1 fault a b b p ([], until_none fault.cause b other, stop))
+pub answers_stop : {D A : Type 0} {G : Ghosts D} (due : List Message) {s s1 : Exec D A G} (fault : RunFault D) (a b : OutputState) → Answers due s s1 a b → fault.cause ≢ Write → RunStops s1 (Some fault.cause) fault.disk [] []
+    → ((before : ℕ) → IsTied before s1 → IsByFailure G before fault) → EndsEarly s fault due a b
+answers_stop due {s} fault a b p other stop counted =
+    subst (λ (m : List Message). EndsEarly s fault m a b) (append-nil due) (early_then fault due [] a b b p (([], until_none (Some fault.cause) b (λ e. other (same_Some fault.cause Write e)), stop), counted))
 
 -- a flush that leaves nothing unflushed
-pub answers_flushed : {D A : Type 0} {G : Ghosts D} (due : List Message) (s s1 s2 : Exec D A G) (disk : D) (a b : OutputState) → Answers due s s1 a b → Leads s1 s2 IsFlush → s2.device.flush.unflushed ≡ 0 → disk_in s2.idle_store ≡ Some disk
-    → RanAll s due disk a b
-answers_flushed {D} {A} {G} due s s1 s2 disk a b p f clean there =
-    let Q : List RunStep → World → Type 0 = λ steps last. IsOf s2 last × IsFlush steps in (
-      p.0,
-      p.1,
-      ran_then s s1 (Some disk) (Runs due p.0) Q (RunsAll G due p.0 disk) p.2 (subst (λ (to : Option D). Ran s1 to Q) there f.ran) (λ xs ys last broke r q. (
-        whole_up_to due p.0 xs ys r (flush_begins ys q.1),
-        q.1,
-        ap (λ (w : World). w.state.flush.unflushed) q.0.1 ∙ clean,
-        ap (λ (w : World). w.disk) q.0.1 ∙ ap (λ (to : Option D). state_in G to) there,
-      )),
-    )
+pub answers_flushed : {D A : Type 0} {G : Ghosts D} (due : List Message) {s s1 : Exec D A G} (disk : D) (a b : OutputState) → Answers due s s1 a b → RunStops s1 None disk [] [] → Ends s None disk due a b
+answers_flushed due {s} disk a b p stop = subst (λ (m : List Message). Ends s None disk m a b) (append-nil due) (ends_then None disk due [] a b b p ([], until_none None b (λ e. cc), stop))
 
 -- ---- the input that was read
 
@@ -119,79 +105,61 @@ brought_all : (from to next : Option (List ℕ)) (seen : List ℕ) → Consumes 
 brought_all x0 to next seen p q e = grind arith
 
 -- a run of the messages that the input brings ended early, or ran them all
-abbrev pub Early : {D A : Type 0} {G : Ghosts D} → (RunCause → Type 0) → Exec D A G → RunFault D → Option (List ℕ) → Option (List ℕ) → Option (List ℕ) → Type 0
-Early by_input s fault from u w = (due : List Message) × Brings from due × EndsEarly by_input s fault due (held u []) (held w [])
+abbrev pub Early : {D A : Type 0} {G : Ghosts D} → Exec D A G → RunFault D → Option (List ℕ) → Option (List ℕ) → Option (List ℕ) → Type 0
+Early s fault from u w = (due : List Message) × Brings from due × EndsEarly s fault due (held u []) (held w [])
 
 abbrev pub Whole : {D A : Type 0} {G : Ghosts D} → Exec D A G → D → Option (List ℕ) → Option (List ℕ) → Option (List ℕ) → Type 0
-Whole s disk from u w = (due : List Message) × Brings from due × RanAll s due disk (held u []) (held w [])
-
--- a stop of which the device is not the cause, in a piece of which nothing was executed
-pub stopped_now : {D A : Type 0} {G : Ghosts D} (by_input : RunCause → Type 0) (line piece : List ℕ) (s : Exec D A G) (cause : RunCause) (fault : RunFault D) (t : OutputState) → FaultOf s cause fault → IsOther by_input cause → cause ≢ Write → Ends by_input line piece s fault t t
-stopped_now by_input line piece s cause fault t at plain other = λ input. ([], until_none fault.cause t (λ e. other (sym at.cause_is ∙ e)), stops_now by_input s cause fault (messages (line ++ (piece ++ input))) at plain)
-
--- what stops a run while nothing is read stops it also where something is
-stops_by : {D A : Type 0} {G : Ghosts D} (by_input : RunCause → Type 0) (s : Exec D A G) (fault : RunFault D) (due : List Message) (t u : OutputState) → EndsEarly never s fault due t u → EndsEarly by_input s fault due t u
-stops_by {D} {A} {G} by_input s fault due t u p = (p.0, p.1, stops_for never by_input s fault fault.cause due p.0 p.2 (λ before rest last why. by before rest last fault.cause why) (λ before by. by)) where
-  by : (before : ℕ) (rest : List Message) (last : World) (cause : RunCause) → StopsFor never before (Ghosts.failures G fault.disk) rest last (Ghosts.state G fault.disk).bytes cause
-      → StopsFor by_input before (Ghosts.failures G fault.disk) rest last (Ghosts.state G fault.disk).bytes cause
-  by before rest last cause why = grind arith
+Whole s disk from u w = (due : List Message) × Brings from due × Ends s None disk due (held u []) (held w [])
 
 module _ {D A : Type 0} {G : Ghosts D} (line seen : List ℕ) {s s1 : Exec D A G} (from to u v : Option (List ℕ)) (took : Consumes from to seen) (fed : Fed [] seen line s s1 (held u []) (held v [])) where
   -- a stop in the next piece
-  pub read_stop : (by_input : RunCause → Type 0) (piece : List ℕ) (fault : RunFault D) (next w : Option (List ℕ)) → Consumes to next piece → Ends by_input line piece s1 fault (held v []) (held w []) → Early by_input s fault from u w
-  read_stop by_input piece fault next w p q = (
+  read_stop : (piece : List ℕ) (fault : RunFault D) (next w : Option (List ℕ)) → Consumes to next piece → EndsIn line piece s1 fault (held v []) (held w []) → Early s fault from u w
+  read_stop piece fault next w p q = (
     messages ((seen ++ piece) ++ left_of next),
     brought from next (seen ++ piece) (Consumes-trans from to next seen piece took p),
-    stopped_then by_input [] line seen piece s s1 fault (held u []) (held v []) (held w []) fed q (left_of next),
+    stopped_then [] line seen piece fault (held u []) (held v []) (held w []) fed q (left_of next),
   )
 
   -- before it
-  pub read_front : (by_input : RunCause → Type 0) (cause : RunCause) (fault : RunFault D) → FaultOf s1 cause fault → IsOther by_input cause → cause ≢ Write → Early by_input s fault from u v
-  read_front by_input cause fault at plain other = read_stop by_input [] fault to v (Consumes-nil to) (stopped_now by_input line [] s1 cause fault (held v []) at plain other)
+  pub read_front : (cause : RunCause) (fault : RunFault D) → FaultOf s1 cause fault → IsOther cause → cause ≢ Write → Early s fault from u v
+  read_front cause fault at plain other = read_stop [] fault to v (Consumes-nil to) (λ input. early_now cause fault (messages (line ++ input)) (held v []) at plain other)
 
   -- in a piece of which only a part is taken, or after that part
-  cut_stop : (by_input : RunCause → Type 0) (n count : ℕ) (buf : List ℕ) (fault : RunFault D) (next w : Option (List ℕ)) → n ≤ count → Consumes to next (take count buf)
-      → Ends by_input line (take n buf ++ take (count - n) (drop n buf)) s1 fault (held v []) (held w []) → Early by_input s fault from u w
-  cut_stop by_input n count buf fault next w le p q =
+  cut_stop : (n count : ℕ) (buf : List ℕ) (fault : RunFault D) (next w : Option (List ℕ)) → n ≤ count → Consumes to next (take count buf)
+      → EndsIn line (take n buf ++ take (count - n) (drop n buf)) s1 fault (held v []) (held w []) → Early s fault from u w
+  cut_stop n count buf fault next w le p q =
       let sum : count ≡ n + (count - n) = omega (arith, le) in
-      read_stop by_input (take count buf) fault next w p (subst (λ (z : List ℕ). Ends by_input line z s1 fault (held v []) (held w [])) (sym (ap (λ (k : ℕ). take k buf) sum ∙ take-add n (count - n) buf)) q)
+      read_stop (take count buf) fault next w p (subst (λ (z : List ℕ). EndsIn line z s1 fault (held v []) (held w [])) (sym (ap (λ (k : ℕ). take k buf) sum ∙ take-add n (count - n) buf)) q)
 
-  pub cut_front : (by_input : RunCause → Type 0) (n count : ℕ) (buf : List ℕ) (fault : RunFault D) (next w : Option (List ℕ)) → n ≤ count → Consumes to next (take count buf) → Ends never line (take n buf) s1 fault (held v []) (held w [])
-      → Early by_input s fault from u w
-  cut_front by_input n count buf fault next w le p q =
+  pub cut_front : (n count : ℕ) (buf : List ℕ) (fault : RunFault D) (next w : Option (List ℕ)) → n ≤ count → Consumes to next (take count buf) → EndsIn line (take n buf) s1 fault (held v []) (held w []) → Early s fault from u w
+  cut_front n count buf fault next w le p q =
       let more = take (count - n) (drop n buf) in
-      cut_stop by_input n count buf fault next w le p (λ input. subst (λ (z : List ℕ). EndsEarly by_input s1 fault (messages (line ++ z)) (held v []) (held w [])) (sym (append_assoc (take n buf) more input))
-      (stops_by by_input s1 fault (messages (line ++ (take n buf ++ (more ++ input)))) (held v []) (held w []) (q (more ++ input))))
+      cut_stop n count buf fault next w le p (λ input. subst (λ (z : List ℕ). EndsEarly s1 fault (messages (line ++ z)) (held v []) (held w [])) (sym (append_assoc (take n buf) more input)) (q (more ++ input)))
 
-  pub cut_after : (by_input : RunCause → Type 0) (after : List ℕ) (n count : ℕ) (buf : List ℕ) (s2 : Exec D A G) (cause : RunCause) (fault : RunFault D) (next w : Option (List ℕ)) → n ≤ count → Consumes to next (take count buf)
-      → Fed line (take n buf) after s1 s2 (held v []) (held w []) → FaultOf s2 cause fault → IsOther by_input cause → cause ≢ Write → Early by_input s fault from u w
-  cut_after by_input after n count buf s2 cause fault next w le p q at plain other =
+  pub cut_after : (after : List ℕ) (n count : ℕ) (buf : List ℕ) {s2 : Exec D A G} (cause : RunCause) (fault : RunFault D) (next w : Option (List ℕ)) → n ≤ count → Consumes to next (take count buf)
+      → Fed line (take n buf) after s1 s2 (held v []) (held w []) → FaultOf s2 cause fault → IsOther cause → cause ≢ Write → Early s fault from u w
+  cut_after after n count buf cause fault next w le p q at plain other =
       let more = take (count - n) (drop n buf) in
-      cut_stop by_input n count buf fault next w le p (stopped_then by_input line after (take n buf) more s1 s2 fault (held v []) (held w []) (held w []) q (stopped_now by_input after more s2 cause fault (held w []) at plain other))
+      cut_stop n count buf fault next w le p (stopped_then line after (take n buf) more fault (held v []) (held w []) (held w []) q (λ input. early_now cause fault (messages (after ++ (more ++ input))) (held w []) at plain other))
 
   -- the end of the input
-  pub read_end : (disk : D) (next w : Option (List ℕ)) → Consumes to next [] → IsAtEnd next → RanAll s1 (messages line) disk (held v []) (held w []) → Whole s disk from u w
-  read_end disk next w p e q =
-      let is : messages (seen ++ []) ≡ fed.0 ++ messages line = fed.1 [] ∙ ap (λ (z : List ℕ). fed.0 ++ messages z) (append-nil line) in let text = fed.2.0 ++ q.0 in (
-        messages (seen ++ []),
-        brought_all from to next seen took p e,
-        subst (λ (m : List Message). RanAll s m disk (held u []) (held w [])) (sym is) (
-          text,
-          says_join (held u []) (held v []) (held w []) fed.2.0 q.0 fed.2.1 q.1,
-          ran_then s s1 (Some disk) (Runs fed.0 fed.2.0) (RunsAll G (messages line) q.0 disk) (RunsAll G (fed.0 ++ messages line) text disk) fed.2.2 q.2
-              (λ xs ys last broke r o. (behind [] fed.0 (messages line) fed.2.0 q.0 xs ys r o.0, o.1, o.2, o.3)),
-        ),
-      )
+  end_messages : messages (seen ++ []) ≡ fed.0 ++ messages line
+  end_messages = fed.1 [] ∙ ap (λ (z : List ℕ). fed.0 ++ messages z) (append-nil line)
+
+  pub read_end : (disk : D) (next w : Option (List ℕ)) → Consumes to next [] → IsAtEnd next → Ends s1 None disk (messages line) (held v []) (held w []) → Whole s disk from u w
+  read_end disk next w p e q = (
+    messages (seen ++ []),
+    brought_all from to next seen took p e,
+    subst (λ (m : List Message). Ends s None disk m (held u []) (held w [])) (sym end_messages) (ends_then None disk fed.0 (messages line) (held u []) (held v []) (held w []) fed.2 q),
+  )
 
   -- a fault there
-  pub end_stop : (by_input : RunCause → Type 0) (fault : RunFault D) (next w : Option (List ℕ)) → Consumes to next [] → IsAtEnd next → EndsEarly never s1 fault (messages line) (held v []) (held w []) → Early by_input s fault from u w
-  end_stop by_input fault next w p e q =
-      let is : messages (seen ++ []) ≡ fed.0 ++ messages line = fed.1 [] ∙ ap (λ (z : List ℕ). fed.0 ++ messages z) (append-nil line) in (
-        messages (seen ++ []),
-        brought_all from to next seen took p e,
-        subst (λ (m : List Message). EndsEarly by_input s fault m (held u []) (held w [])) (sym is)
-            (ends_then by_input fed.0 (messages line) s s1 fault (held u []) (held v []) (held w []) fed.2 (stops_by by_input s1 fault (messages line) (held v []) (held w []) q)),
-      )
+  pub end_stop : (fault : RunFault D) (next w : Option (List ℕ)) → Consumes to next [] → IsAtEnd next → EndsEarly s1 fault (messages line) (held v []) (held w []) → Early s fault from u w
+  end_stop fault next w p e q = (
+    messages (seen ++ []),
+    brought_all from to next seen took p e,
+    subst (λ (m : List Message). EndsEarly s fault m (held u []) (held w [])) (sym end_messages) (early_then fault fed.0 (messages line) (held u []) (held v []) (held w []) fed.2 q),
+  )
 
 -- all of the input was taken
 pub read_all : (most : ℕ) (seen : List ℕ) (from to next : Option (List ℕ)) → Consumes from to seen → Consumes to next [] → IsAtEnd next → length seen ≤ most → IfSome from (λ input. length input ≤ most)
@@ -207,69 +175,82 @@ pub passed_disk : {D : Type 0} (r : Result D (RunFault D)) (fault : RunFault D) 
 passed_disk x0 fault x2 is x4 = grind arith
 
 -- a store that was whole is broken only by a failure since
-pub early_counted : {D A : Type 0} {G : Ghosts D} (by_input : RunCause → Type 0) (s : Exec D A G) (before : ℕ) (fault : RunFault D) (from u v : Option (List ℕ)) → is_broken s.device.flush.store ≡ false → failures_of s ≡ before → Early by_input s fault from u v
-    → IsByFailure G before fault
-early_counted by_input s before fault from u v whole same (due, brought, (text, said, ran)) = ran.counted before (omega (arith, same), inr (λ broke. let bad = sym whole ∙ broke in cc))
+pub early_counted : {D A : Type 0} {G : Ghosts D} (s : Exec D A G) (before : ℕ) (fault : RunFault D) (from u v : Option (List ℕ)) → is_broken s.device.flush.store ≡ false → failures_of s ≡ before → Early s fault from u v → IsByFailure G before fault
+early_counted s before fault from u v whole same (due, brought, (ends, counted)) = counted before (omega (arith, same), inr (λ broke. let bad = sym whole ∙ broke in cc))
 
--- the text that is written for a known input where nothing goes wrong
-script_of : ScriptAlone → (from : Option (List ℕ)) (image : List ℕ) (due : List Message) (text : List ℕ) (steps : List RunStep) (first last : World) → Brings from due → PowersOn image first → Runs due text steps → Walks first steps last → AreCalm steps
-    → IfSome from (λ input. IsScript first.start first.limit input text)
-script_of alone None image due text steps first last brought starts runs walks calm = tt
-script_of alone (Some input) image due text steps first last brought starts runs walks calm = alone image input text steps first last starts (subst (λ (m : List Message). Runs m text steps) brought runs) walks calm
+-- the disk that a device was powered on from, and its own
+abbrev pub PoweredFrom : {D A : Type 0} {G : Ghosts D} → Exec D A G → D → Type 0
+PoweredFrom {D} {A} {G} s given = (d : D) × (disk_in s ≡ Some d) × (Ghosts.failures G d ≡ Ghosts.failures G given) × (Ghosts.extent G d ≡ Ghosts.extent G given)
 
-module _ {D A : Type 0} {G : Ghosts D} (s : Exec D A G) (image : List ℕ) (before : ℕ) (starts : PowersOn image (world_of (born s) s)) (same : failures_of s ≡ before) (from : Option (List ℕ)) where
-  -- a run from power-on
-  abbrev run_to : (due : List Message) (text : List ℕ) → Brings from due → (steps : List RunStep) (last : World) → Walks (world_of (born s) s) steps last → RunTo image from
-  run_to due text brought steps last walks =
-      record { first = world_of (born s) s; starts = starts; due = due; brought = brought; text = text; steps = steps; last = last; walks = walks; since = λ w is. run_leads image steps (world_of (born s) s) last w starts walks is }
+module _ {D A : Type 0} {G : Ghosts D} (s : Exec D A G) (given : D) (on : PoweredFrom s given) (from : Option (List ℕ)) (end : Option RunCause) (disk : D) (u v : Option (List ℕ)) (due : List Message) (brought : Brings from due)
+    (ends : Ends s end disk due (held u []) (held v [])) where
+  ran : Ran s on.0 disk (RunsTo G end disk due ends.0)
+  ran = ends.2 on.0 on.1
 
-  -- the run ended early
-  pub run_early : (by_input : RunCause → Type 0) (fault : RunFault D) (u v : Option (List ℕ)) → Ghosts.honest G → Early by_input s fault from u v → WritesFirst by_input fault.cause image from before (Ghosts.failures G fault.disk) u v (Ghosts.state G fault.disk)
-  run_early by_input fault u v h (due, brought, (text, said, ran)) =
-      let a = ran.ran.walked h (born s) in let p : Stops G by_input before fault due text a.steps a.last = subst (λ (n : ℕ). Stops G by_input n fault due text a.steps a.last) same a.is in
-      let ended = left_leads a.last (Ghosts.state G fault.disk) p.left in record {
-        run = run_to due text brought a.steps a.last a.walks;
-        stops = p;
-        wrote = record { whole = λ e. let p = said.whole e in subst (Appends u v) (sym (append-nil p.0) ∙ p.2) p.1; missing = said.missing };
-        kept = leaves_prefix a.last (Ghosts.state G fault.disk) (reached_walk a.steps (world_of (born s) s) a.last a.walks (reached_on image (world_of (born s) s) starts)) p.left;
-        stopped = ended.0;
-        behind = ended.1;
-        back = ended.2;
-      }
+  pub keeps_size : Ghosts.extent G disk ≡ Ghosts.extent G given
+  keeps_size = ran.extent ∙ on.3
 
-  -- the run succeeded
-  pub run_whole : ScriptAlone → (disk : D) (u v : Option (List ℕ)) → Ghosts.honest G → Whole s disk from u v → WritesRun image from before (Ghosts.failures G disk) u v (Ghosts.state G disk)
-  run_whole alone disk u v h (due, brought, (text, says, ran)) =
-      let first = world_of (born s) s in let a = ran.walked h (born s) in let r = a.is.0 in
-      let walk = walks_split r.made r.next first a.last (subst (λ (z : List RunStep). Walks first z a.last) r.all a.walks) in record {
-        run = run_to due text brought a.steps a.last a.walks;
-        runs = r;
-        flushes = a.is.1;
-        flushed = a.is.2;
-        written = subst (Appends u v) (sym (append-nil says.0) ∙ says.2) says.1;
-        failed = λ b. subst (λ (n : ℕ). HasFailed n (Ghosts.failures G disk)) same (a.failed b);
-        calm = λ c. script_of alone from image due text r.made first walk.0 brought starts (runs_whole due text a.steps r) walk.1 (calm_split r.made r.next (subst AreCalm r.all c)).0;
-        kept = subst (λ (d : DiskState). EachRepresents d a.last.limit (items_of a.last.state.flush.contents)) a.is.3
-            (flushed_stands a.last (reached_walk a.steps first a.last a.walks (reached_on image first starts)) (walk_running a.steps first a.last a.walks refl) a.is.2);
-        back = a.is.3;
-      }
+  pub keeps_count : Ghosts.failures G given ≤ Ghosts.failures G disk
+  keeps_count = let rose = ran.later in let same = on.2 in omega (arith, rose, same)
 
-  -- ---- each moment
+  module _ (h : Ghosts.honest G) (starts : (power : World) × PowersOn (Ghosts.state G given).bytes power × ForSome (disk_in s) (λ d. IsAt s d (at_power_on power (Ghosts.failures G d)))) where
+    -- from the power-on
+    abbrev first : RunPoint
+    first = at_power_on starts.0 (Ghosts.failures G given)
 
-  module _ (given : D) (h : Ghosts.honest G) (t : Ghosts.records G) (now : IsNow G) (is : (Ghosts.state G given).bytes ≡ image) (some : s.idle_store ≡ None → ⊥)
-      (opens : ForSome s.idle_store (λ h. LeavesOnly (Ghosts.moment G) (Ghosts.left_since G) given (idle_disk h) (IsOldOrSame (Ghosts.state G given)))) where
-    moments : (over : D) (run : RunTo image from) (rest : List Message) → RunsUpTo rest run.due run.text run.steps → Since G (disk_in s.idle_store) (Some over) (IsAlong run.first run.steps)
-        → LeavesOnly (Ghosts.moment G) (Ghosts.left_since G) given over (IsOfRun (Ghosts.state G given) from)
-    moments over run rest runs since =
-        let disk = Ghosts.state G given in
-        since_then G (Some given) (disk_in s.idle_store) (Some over) (IsOldOrSame disk) (IsAlong run.first run.steps) (IsOfRun disk from) (since_to s.idle_store given (IsOldOrSame disk) some opens) since
-        (λ x kept. inl (keeps_map disk x kept)) (λ x along. inr (subst (λ (b : List ℕ). (run : RunTo b from) × (rest : List Message) × RunsUpTo rest run.due run.text run.steps × IsAlong run.first run.steps x) (sym is) (run, rest, runs, along)))
+    at_first : IsAt s on.0 first
+    at_first = let at = starts.2 on.0 on.1 in (at.0, at.1, at.2, sym on.2)
 
-    pub early_moments : (by_input : RunCause → Type 0) (fault : RunFault D) (u v : Option (List ℕ)) → Early by_input s fault from u v → LeavesOnly (Ghosts.moment G) (Ghosts.left_since G) given fault.disk (IsOfRun (Ghosts.state G given) from)
-    early_moments by_input fault u v (due, brought, (text, said, ran)) =
-        let a = ran.ran.walked h (born s) in
-        moments fault.disk (run_to due text brought a.steps a.last a.walks) a.is.rest a.is.runs (a.time t now (reached_on image (world_of (born s) s) starts))
+    abbrev last : RunPoint
+    last = (ran.leads h first at_first).0
 
-    pub whole_moments : (disk : D) (u v : Option (List ℕ)) → Whole s disk from u v → LeavesOnly (Ghosts.moment G) (Ghosts.left_since G) given disk (IsOfRun (Ghosts.state G given) from)
-    whole_moments disk u v (due, brought, (text, says, ran)) =
-        let a = ran.walked h (born s) in moments disk (run_to due text brought a.steps a.last a.walks) [] a.is.0 (a.time t now (reached_on image (world_of (born s) s) starts))
+    went : RunsTo G end disk due ends.0 first last
+    went = (ran.leads h first at_first).1
+
+    reached : Reached last.world
+    reached = reached_on first.world last.world (ran.leads h first at_first).2.0 (reached_power (Ghosts.state G given).bytes starts.0 starts.1)
+
+    abbrev run_to : RunTo (Ghosts.state G given).bytes from (Ghosts.failures G given)
+    run_to = record {
+      power = starts.0;
+      starts = starts.1;
+      due = due;
+      brought = brought;
+      last = last;
+      runs = went.0;
+      since = λ w is. leads_then w starts.0 last.world (power_leads (Ghosts.state G given).bytes starts.0 w starts.1 is) (ran.leads h first at_first).2.0;
+    }
+
+    -- the script, where nothing goes wrong
+    script_of : ScriptAlone → end ≡ None → last.calm ≡ true → (input : Option (List ℕ)) → Brings input due → IfSome input (λ bytes. IsScript starts.0.start starts.0.limit bytes last.text)
+    script_of alone none calm None brings = tt
+    script_of alone none calm (Some input) brings =
+        let r = went.0 in let stops = subst (StopsFor r.rest r.at last (Ghosts.failures G disk) (Ghosts.state G disk)) none went.1.1 in let keeps = begins_keep [] (flush_begins stops.1) in
+        let all : due ≡ r.done = r.is ∙ ap (λ (z : List Message). r.done ++ z) stops.0 ∙ append-nil r.done in
+        let runs : Runs (messages input) first r.at = subst (λ (m : List Message). Runs m first r.at) (sym all ∙ brings) r.runs in
+        subst (IsScript starts.0.start starts.0.limit input) (sym (append-nil r.at.text) ∙ sym keeps.0) (alone (Ghosts.state G given).bytes input starts.0 (Ghosts.failures G given) r.at starts.1 runs (keeps.1 calm))
+
+    pub run_ends : ScriptAlone → WritesTo end (Ghosts.state G given).bytes from (Ghosts.failures G given) (Ghosts.failures G disk) u v (Ghosts.state G disk)
+    run_ends alone =
+        record {
+          run = run_to;
+          later = went.1.0;
+          stops = went.1.1;
+          left = went.1.2;
+          whole = λ e. let says = ends.1.whole e in subst (Appends u v) (sym (append-nil says.0) ∙ says.2 ∙ sym went.2) says.1;
+          missing = λ e. subst (WritesShort u v) (sym went.2) (ends.1.missing e);
+          calm = λ none calm. script_of alone none calm from brought;
+          kept = leaves_prefix last.world (Ghosts.state G disk) reached went.1.2;
+          all = λ none.
+              let r = went.0 in let stops = subst (StopsFor r.rest r.at last (Ghosts.failures G disk) (Ghosts.state G disk)) none went.1.1 in
+              subst (λ (d : DiskState). EachRepresents d last.world.limit (items_of last.world.state.flush.contents)) stops.3 (flushed_stands last.world reached (flush_running stops.1) stops.2);
+          behind = left_leads last.world (Ghosts.state G disk) went.1.2;
+        }
+
+    -- each moment
+    pub run_moments : Ghosts.records G → ((d : D) (image : List ℕ) → Ghosts.left_since G d (Ghosts.moment G d) image → IsCrashImage (Ghosts.state G d) image) → ForSome (disk_in s) (λ d. LeavesOnly (Ghosts.moment G) (Ghosts.left_since G) given d (IsOldOrSame (Ghosts.state G given)))
+        → LeavesOnly (Ghosts.moment G) (Ghosts.left_since G) given disk (IsOfRun (Ghosts.state G given) from (Ghosts.failures G given))
+    run_moments t now opens =
+        let moment = Ghosts.moment G in let left = Ghosts.left_since G in let P = IsOfRun (Ghosts.state G given) from (Ghosts.failures G given) in
+        and_then moment left given on.0 disk P (IsAlong last) (weaken moment left given on.0 (IsOldOrSame (Ghosts.state G given)) P (opens on.0 on.1) (λ x kept. inl (keeps_map (Ghosts.state G given) x kept)))
+        ((ran.leads h first at_first).3 t now (reached_power (Ghosts.state G given).bytes starts.0 starts.1)) (λ x along. inr (run_to, along))

@@ -1,6 +1,5 @@
 -- The readings of units, and the requests of what is executed, from a place on.
-use Rattle.std.proofs.Common.{◌≡◌, ℕ, Bool, List, [], refl, sym, ap, ◌∙◌, Option, None, Some, Result, Ok, Err, ◌+◌, false, ◌∷◌, ◌++◌, take, drop, subst, arith}
-use Rattle.psu_run.proofs.Common.{AreAsked, AreRequests, AskedBy, Command, Datum, Fault, HeaderParts, HoldsParameters, IsHeader, IsMessage, IsRequest, MacroCall, Part, Reads, Request, ScpiError, Source, Syntax, SyntaxCalls, SyntaxGives, SyntaxMoves, drop-drop, drop_all, header_text, path_at, take-add}
+use Rattle.psu_run.proofs.Common.{◌≡◌, ℕ, Bool, List, [], refl, sym, ap, ◌∙◌, Option, None, Some, Result, Ok, Err, ◌+◌, false, ◌∷◌, ◌++◌, take, drop, subst, arith, AreAsked, AreRequests, AskedBy, Command, Datum, Fault, HeaderParts, HoldsParameters, IsHeader, IsMessage, IsRequest, MacroCall, Part, Reads, Request, ScpiError, Source, Syntax, SyntaxCalls, SyntaxGives, SyntaxMoves, drop-drop, drop_all, header_text, path_at, take-add}
 use Rattle.psu_messages.specs.Units.{Root, Behind, Asks, HasNone, IsBehind, IsUnit, LeadsToPath, faulty}
 use Rattle.psu_messages.specs.Units as units
 

@@ -1,7 +1,6 @@
 -- Every input has a script, and only one.
-use Rattle.std.proofs.Common.{arith, ◌≡◌, ℕ, Bool, true, false, List, [], ◌∷◌, ◌++◌, refl, subst, if◌then◌else◌, Option, None, Some, Result, Ok, Err, is_ok, sym, ap, ◌∙◌}
 use Rattle.psu_lex.specs.Macros.{ExpandsTo}
-use Rattle.psu_run.proofs.Common.{AreAsked, AreRequests, AskedBy, Command, Datum, Executes, ExecutesInside, ExecutesReply, Expand, Fault, HasOutcome, HoldsParameters, IsRequest, MacroCall, Message, Parked, Part, Point, Reads, Replies, Reply, Request, ScpiError, Scripted, Source, State, Syntax, SyntaxCalls, SyntaxGives, SyntaxMoves, after_unit, answer_call, answer_meant, at_start, called, faulty, finished, flushed, here, is_later, meant, path_at, replied, response, waited, ⊤}
+use Rattle.psu_run.proofs.Common.{arith, ◌≡◌, ℕ, Bool, true, false, List, [], ◌∷◌, ◌++◌, refl, subst, if◌then◌else◌, Option, None, Some, Result, Ok, Err, is_ok, sym, ap, ◌∙◌, AreAsked, AreRequests, AskedBy, Command, Datum, Executes, ExecutesInside, ExecutesReply, Expand, Fault, HasOutcome, HoldsParameters, IsRequest, MacroCall, Message, Parked, Part, Point, Reads, Replies, Reply, Request, ScpiError, Scripted, Source, State, Syntax, SyntaxCalls, SyntaxGives, SyntaxMoves, after_unit, answer_call, answer_meant, at_start, called, faulty, finished, flushed, here, is_later, meant, path_at, replied, response, waited, ⊤}
 use Rattle.psu_tree.specs.Reading.{SyntaxReads}
 use Rattle.psu_lex.specs.Names.{is_label}
 use Rattle.psu_lex.specs.Shown.{HoldsData, TailLists}

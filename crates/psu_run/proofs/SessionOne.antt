@@ -1,7 +1,6 @@
 -- The locks and the waits of session 1.
-use Rattle.std.proofs.Common.{◌≡◌, ℕ, not, false, Option, None, List, [], ◌∷◌, refl, ap, ◌∙◌, arith, map, option_map, slice_index_or, slice_set}
 use Rattle.psu_locks.specs.Locks.{Locks, may_command}
-use Rattle.psu_run.proofs.Common.{Allows, IsAccepted, Job, JobData, JobEnd, State, Took, count_held, is_denied, wait_cut, wait_less, wait_of}
+use Rattle.psu_run.proofs.Common.{◌≡◌, ℕ, not, false, Option, None, List, [], ◌∷◌, refl, ap, ◌∙◌, arith, map, option_map, slice_index_or, slice_set, Allows, IsAccepted, Job, JobData, JobEnd, State, Took, count_held, is_denied, wait_cut, wait_less, wait_of}
 use Rattle.psu_exec.specs.declared.waits.Wait.{Wait}
 
 -- only the locks deny a session

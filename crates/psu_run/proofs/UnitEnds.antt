@@ -1,74 +1,73 @@
 -- The steps of a job, of a flush, of a wait and of a unit; the changes that a flush leaves unflushed; and why a unit may be `Later`.
-use Rattle.std.proofs.Common.{true, ◌≡◌, ◌⊎◌, ℕ, suc, ◌≤◌, Option, Some, List, [], ◌∷◌, ◌++◌, refl, sym, ap, ◌∙◌, subst, inr, arith, append_assoc, ◌<◌, None}
-use Rattle.psu_run.proofs.Common.{Allows, Begins, Called, Cleared, Commit, DeviceStops, Exec, Executed, Flush, GaveBack, Ghosts, HasFailed, IsAlong, IsEither, IsFlush, IsJob, IsOf, IsSound, Job, JobData, JobEnd, Jobs, Later, Leads, MayAnswer, Reopen, Reopens, Reply, Request, RunCause, RunStep, Serves, Settled, Since, State, Taken, Took, Walks, Whole, World, Worn, disk_at, disk_in, failures_of, fault_of, is_broken, is_whole, job_data, job_disk, job_of, job_store, serves_took, target, wait_of, world_of}
+use Rattle.psu_run.proofs.Common.{true, ◌≡◌, ◌⊎◌, ℕ, suc, ◌≤◌, Some, List, [], refl, sym, ap, ◌∙◌, subst, inr, arith, ◌<◌, None, Allows, Begins, Calls, Cleared, Commit, DeviceStops, Exec, Executed, Flush, GaveBack, Ghosts, HasFailed, IsAlong, IsAt, IsEither, IsFlush, IsJob, IsWornOut, Job, JobData, JobEnd, JobKind, Jobs, Later, Leads, LeavesOnly, MayAnswer, NoNumber, Ran, Reopen, Reply, Request, RunCause, RunPoint, Serves, Settled, State, StoreBroken, Taken, Took, Whole, Worn, disk_in, failures_of, fault_of, is_broken, is_whole, job_data, job_disk, job_of, job_store, serves_took, target, wait_of, weaken}
 use Rattle.psu_exec.specs.World.{IsTrueOf}
 use Rattle.psu_exec.specs.declared.job.Job.{Job as AnyJob}
-use Rattle.psu_run.specs.Progress.{extent_of}
-use Rattle.psu_run.specs.Runs.{StoreBroken}
-use Rattle.psu_run.proofs.Going.{steps_call, steps_then, ran_with, since_as}
-use Rattle.psu_run.proofs.OneList.{reached_walk, prefix_of_either}
-use Rattle.psu_run.proofs.Walking.{begins_behind, begins_idle, flush_begins, job_begins}
+use Rattle.psu_run.proofs.Going.{call_steps, failures_is, for_disk, ran_as, stepped, steps_call, steps_then}
+use Rattle.psu_run.proofs.OneList.{Reached, along_here, goes_then, prefix_of_either, reached_on, step_goes}
+use Rattle.psu_run.proofs.Walking.{begins_behind, begins_call, begins_idle, flush_begins, job_begins}
 
 -- ---- a take and a job as steps
 
 -- a take of no job
-pub steps_take : {D A : Type 0} {G : Ghosts D} (old new : Exec D A G) (taken : Taken) (P : List RunStep → Type 0) → Allows old.device (Took taken) new.device → new.idle_store ≡ old.idle_store → P (Called (Took taken) ∷ []) → Leads old new P
-steps_take old new taken P given there p =
-    let took = serves_took old.device new.device taken given in steps_call old new (Took taken) P took there (grind arith) (λ life d e. e) (λ image. tt) (λ e. e) p
+pub steps_take : {D A : Type 0} {G : Ghosts D} {old new : Exec D A G} (taken : Taken) → Allows old.device (Took taken) new.device → new.idle_store ≡ old.idle_store → Leads old new (λ p q. Calls p (Took taken) q)
+steps_take {old = old} {new = new} taken given there =
+    let took = serves_took old.device new.device taken given in steps_call (Took taken) (λ p q. Calls p (Took taken) q) took there (grind arith) (λ w. refl) (λ finished over e. cc) (λ p q c. c)
 
 -- a job that is taken, runs and is given back
-pub steps_job : {D A : Type 0} {G : Ghosts D} (old taken new : Exec D A G) (j : AnyJob D A G) (finished : JobEnd) (over : List ℕ) (P : List RunStep → Type 0) → Allows old.device (Took (Job (job_data j))) taken.device → old.idle_store ≡ Some (job_store j)
-    → Serves taken.device (GaveBack finished (Some over)) new.device
-    → (Ghosts.honest G → IsTrueOf (target taken.device.flush) finished (disk_at new.idle_store) × IsSound (GaveBack finished (Some over)) (disk_at new.idle_store).bytes × (fault_of finished ≡ Some StoreBroken → HasFailed (Ghosts.failures G (job_disk j)) (failures_of new)))
-    → Ghosts.failures G (job_disk j) ≤ failures_of new → extent_of new ≡ Ghosts.extent G (job_disk j)
-    → (Ghosts.honest G → Ghosts.records G → Since G (Some (job_disk j)) (disk_in new.idle_store) (IsEither (job_data j).limit (job_data j).before (job_data j).target))
-    → ((job_data j).kind ≡ Commit → is_broken new.device.flush.store ≡ true → HasFailed (Ghosts.failures G (job_disk j)) (failures_of new)) → P (Called (Took (Job (job_data j))) ∷ Called (GaveBack finished (Some over)) ∷ []) → Leads old new P
-steps_job {D} {A} {G} old taken new j finished over P given there give at later extent time breaks p =
+pub steps_job : {D A : Type 0} {G : Ghosts D} (old taken new : Exec D A G) (j : AnyJob D A G) (disk : D) (finished : JobEnd) (over : List ℕ) (P : RunPoint → RunPoint → Type 0) → Allows old.device (Took (Job (job_data j))) taken.device → old.idle_store ≡ Some (job_store j)
+    → Serves taken.device (GaveBack finished (Some over)) new.device → disk_in new ≡ Some disk
+    → (Ghosts.honest G → IsTrueOf (target taken.device.flush) finished (Ghosts.state G disk)
+    × (fault_of finished ≡ Some StoreBroken → HasFailed (Ghosts.failures G (job_disk j)) (Ghosts.failures G disk)) × (fault_of finished ≡ Some NoNumber → IsWornOut (Ghosts.state G disk).bytes))
+    → Ghosts.failures G (job_disk j) ≤ Ghosts.failures G disk → Ghosts.extent G disk ≡ Ghosts.extent G (job_disk j)
+    → (Ghosts.honest G → Ghosts.records G → LeavesOnly (Ghosts.moment G) (Ghosts.left_since G) (job_disk j) disk (IsEither (job_data j).limit (job_data j).before (job_data j).target))
+    → ((job_data j).kind ≡ Commit → is_broken new.device.flush.store ≡ true → HasFailed (Ghosts.failures G (job_disk j)) (failures_of new))
+    → ((p out q : RunPoint) → Calls p (Took (Job (job_data j))) out → Calls out (GaveBack finished (Some over)) q → P p q) → Leads old new P
+steps_job {D} {A} {G} old taken new j disk finished over P given there give now at later extent time breaks turn =
     let took = serves_took old.device taken.device (Job (job_data j)) given in
-    let disk : disk_in old.idle_store ≡ Some (job_disk j) = grind arith in
+    let was : disk_in old ≡ Some (job_disk j) = grind arith in
     let own : job_data j ≡ job_of taken.device.flush = took.0.2 ∙ ap (λ (s : State). job_of s.flush) (sym took.1) in
-    let taking = Called (Took (Job (job_data j))) ∷ [] in let giving = Called (GaveBack finished (Some over)) ∷ [] in let steps = taking ++ giving in record {
+    let had = failures_is old (job_disk j) was in let has = failures_is new disk now in
+    let ran : Ran old (job_disk j) disk (λ p q. IsAt new disk q × P p q) = record {
+      extent = extent;
+      later = later;
+      leads = λ h p stands.
+          let (state, on, bytes, count) = stands in let (true_of, broke, worn) = at h in
+          let out = stepped p (Took (Job (job_data j))) taken.device p.world.disk p.failures in
+          let q = stepped out (GaveBack finished (Some over)) new.device (Ghosts.state G disk) (Ghosts.failures G disk) in
+          let takes : Calls p (Took (Job (job_data j))) out
+          = call_steps p (Took (Job (job_data j))) taken.device p.world.disk p.failures on (subst (λ (s : State). Serves s (Took (Job (job_data j))) taken.device) (sym state) took) refl (omega arith) (λ f o e. cc) in
+          let gives : Calls out (GaveBack finished (Some over)) q
+          = call_steps out (GaveBack finished (Some over)) new.device (Ghosts.state G disk) (Ghosts.failures G disk) on give true_of (subst (λ (n : ℕ). n ≤ Ghosts.failures G disk) (sym count) later)
+          (λ f o e. let same : finished ≡ f = cc in (λ x. subst (λ (n : ℕ). HasFailed n (Ghosts.failures G disk)) (sym count) (broke (ap fault_of same ∙ x)), λ x. worn (ap fault_of same ∙ x))) in
+          let first = step_goes takes in let second = step_goes gives in
+          let along = λ (x : List ℕ) (r : Reached p.world) (either : IsEither (job_data j).limit (job_data j).before (job_data j).target x). along_here out x (prefix_of_either out.world x (reached_on p.world out.world first.0 r) on (subst (λ (d : JobData). IsEither d.limit d.before d.target x) own either)) in
+          (q, ((refl, on, refl, refl), turn p out q takes gives), goes_then p out q first second, λ t none r. weaken (Ghosts.moment G) (Ghosts.left_since G) (job_disk j) disk _ (IsAlong q) (time h t) (λ x either. second.1 x (along x r either)));
+    } in
+    record {
+      ran = for_disk old (λ d. (to : D) × (disk_in new ≡ Some to) × Ran old d to (λ p q. IsAt new to q × P p q)) was (disk, now, ran);
+      later = omega (arith, had, has, later);
       tied = λ before t. (grind arith, grind arith);
-      ran = record {
-        extent = rw disk extent;
-        later = rw disk later;
-        walked = λ h life.
-            let w = world_of life old in let mid : World = record w { state = taken.device } in
-            let takes : Walks w taking mid = (mid, ((disk_at old.idle_store, (taken.device, refl, took, refl, refl)), tt), refl) in record {
-              steps = steps;
-              last = world_of life new;
-              walks = (mid, takes.1, (world_of life new, ((disk_at new.idle_store, (new.device, refl, give, (at h).0, refl)), (at h).1), refl));
-              is = ((life, refl), p);
-              failed = λ e. rw disk ((at h).2 (grind arith));
-              time = λ t now r. subst (λ (d : Option D). Since G d (disk_in new.idle_store) (IsAlong w steps)) (sym disk)
-                  (since_as G (Some (job_disk j)) (disk_in new.idle_store) (IsEither (job_data j).limit (job_data j).before (job_data j).target) (IsAlong w steps) (time h t)
-                  (λ x either. (taking, giving, mid, refl, takes, prefix_of_either mid x (reached_walk taking w mid takes r) refl (subst (λ (d : JobData). IsEither d.limit d.before d.target x) own either))));
-            };
-      };
     }
 
 -- the job that is taken where the store is broken reopens it
-pub job_reopens : {D A : Type 0} {G : Ghosts D} (old new : Exec D A G) → is_broken old.device.flush.store ≡ true → Leads old new IsJob → Leads old new Reopens
-job_reopens {D} {A} {G} old new broken goes = record {
+pub job_reopens : {D A : Type 0} {G : Ghosts D} {old new : Exec D A G} → is_broken old.device.flush.store ≡ true → Leads old new (λ p q. (kind : JobKind) × IsJob kind p q) → Leads old new (λ p q. (q ≡ p) ⊎ IsJob Reopen p q)
+job_reopens {new = new} broken goes = record {
+  later = goes.later;
   tied = goes.tied;
-  ran = ran_with old (disk_in new.idle_store) (λ steps last. IsOf new last × IsJob steps) (λ steps last. IsOf new last × Reopens steps) goes.ran
-      (λ h life steps last walks failed a. (a.0, inr (a.1, by (world_of life old) last a.1 broken (rw a.1.are at walks))));
+  ran = λ from is. let a = goes.ran from is in (a.0, a.1, ran_as (λ p q. IsAt new a.0 q × ((q ≡ p) ⊎ IsJob Reopen p q)) a.2 (λ h p q at b. (b.0, inr (by p q (ap (λ (s : State). is_broken s.flush.store) at.0 ∙ broken) b.1))));
 }
   where
-    by : (w last : World) {steps : List RunStep} (is : IsJob steps) → is_broken w.state.flush.store ≡ true → Walks w (Called (Took (Job is.job)) ∷ Called (GaveBack is.finished (Some is.over)) ∷ []) last → is.job.kind ≡ Reopen
-    by w last is broke (mid, ((disk, (taken, running, took, stays, is-mid)), sound), more) = grind arith
+    by : (p q : RunPoint) → is_broken p.world.state.flush.store ≡ true → (kind : JobKind) × IsJob kind p q → IsJob Reopen p q
+    by p q broke (kind, job) = let taken = job.4.leads.1.2 in let of_kind = job.6 in let reopens : kind ≡ Reopen = grind arith in subst (λ (k : JobKind). IsJob k p q) reopens job
 
 -- ---- a flush
 
 -- no unit is executed by these jobs, and with at most so many jobs more they are a flush
-abbrev pub IsFlushAfter : ℕ → List RunStep → Type 0
-IsFlushAfter left steps = Begins [] steps × ((more : List RunStep) → Jobs left more → IsFlush (steps ++ more))
+abbrev pub IsFlushAfter : ℕ → RunPoint → RunPoint → Type 0
+IsFlushAfter left p q = Begins [] p q × ((r : RunPoint) → Jobs left q r → IsFlush p r)
 
-pub one_more : {D A : Type 0} {G : Ghosts D} (first old new : Exec D A G) (left : ℕ) → Leads first old (IsFlushAfter (suc left)) → Leads old new IsJob → Leads first new (IsFlushAfter left)
-one_more first old new left jobs job = steps_then _ _ _ _ _ _ jobs job (λ xs ys p is. (
-  begins_behind xs ys [] p.0 (job_begins ys is),
-  λ more rest. subst IsFlush (sym (append_assoc xs ys more)) (p.1 (ys ++ more) (inr (ys, more, is, rest, refl))),
-))
+pub one_more : {D A : Type 0} {G : Ghosts D} {first old new : Exec D A G} (left : ℕ) → Leads first old (IsFlushAfter (suc left)) → Leads old new (λ p q. (kind : JobKind) × IsJob kind p q) → Leads first new (IsFlushAfter left)
+one_more left jobs job = steps_then (IsFlushAfter left) jobs job (λ p m q a is. (begins_behind [] a.0 (job_begins is.1), λ r rest. a.1 r (inr (is.0, q, is.1, rest))))
 
 -- ---- the changes that a flush leaves unflushed
 
@@ -80,15 +79,16 @@ IsFlushed before now i f = HasFailed before now ⊎ (f.store ≡ Worn) ⊎ (i �
 -- ---- calls on session 1
 
 -- a flush, and a settle
-pub steps_wait : {D A : Type 0} {G : Ghosts D} (old mid new : Exec D A G) (reply : Reply) → Leads old mid IsFlush → Serves mid.device (Settled 1 reply) new.device → new.idle_store ≡ mid.idle_store → Leads old new (λ steps. (flush : List RunStep) × IsFlush flush × (steps ≡ flush ++ Called (Settled 1 reply) ∷ []))
-steps_wait old mid new reply flushes serves there =
-    steps_then _ _ _ _ (λ ys. ys ≡ Called (Settled 1 reply) ∷ []) _ flushes (steps_call _ _ (Settled 1 reply) _ serves there (grind arith) (λ life d e. e) (λ image. tt) (λ e. e) refl)
-    (λ xs ys flush e. (xs, flush, ap (λ (z : List RunStep). xs ++ z) e))
+pub steps_wait : {D A : Type 0} {G : Ghosts D} {old mid new : Exec D A G} (reply : Reply) → Leads old mid IsFlush → Serves mid.device (Settled 1 reply) new.device → new.idle_store ≡ mid.idle_store
+    → Leads old new (λ p q. (over : RunPoint) × IsFlush p over × Calls over (Settled 1 reply) q)
+steps_wait reply flushes serves there =
+    steps_then (λ p q. (over : RunPoint) × IsFlush p over × Calls over (Settled 1 reply) q) flushes
+    (steps_call (Settled 1 reply) (λ p q. Calls p (Settled 1 reply) q) serves there (grind arith) (λ w. refl) (λ finished over e. cc) (λ p q c. c)) (λ p m q f c. (m, f, c))
 
 -- a stop, and then the wait is dropped
-pub device_stops_cleared : {D A : Type 0} {G : Ghosts D} (old mid new : Exec D A G) (cause : RunCause) → DeviceStops old mid (Begins []) cause → Serves mid.device (Cleared 1) new.device → new.idle_store ≡ mid.idle_store → DeviceStops old new (Begins []) cause
-device_stops_cleared old mid new cause stops serves there = record {
-  leads = steps_then _ _ _ _ (Begins []) _ stops.leads (steps_call _ _ (Cleared 1) _ serves there (grind arith) (λ life d e. e) (λ image. tt) (λ e. e) tt) (λ xs ys b e. begins_idle xs ys [] b e);
+pub device_stops_cleared : {D A : Type 0} {G : Ghosts D} {old mid new : Exec D A G} {cause : RunCause} → DeviceStops old mid (Begins []) cause → Serves mid.device (Cleared 1) new.device → new.idle_store ≡ mid.idle_store → DeviceStops old new (Begins []) cause
+device_stops_cleared {old = old} {mid = mid} {new = new} {cause = cause} stops serves there = record {
+  leads = steps_then (Begins []) stops.leads (steps_call (Cleared 1) (Begins []) serves there (grind arith) (λ w. refl) (λ finished over e. cc) (λ p q c. begins_call (Cleared 1) [] c refl)) (λ p m q b e. begins_idle [] b e);
   own = stops.own;
   why = λ e before t. let w = stops.why e before t in grind arith;
 }
@@ -96,14 +96,14 @@ device_stops_cleared old mid new cause stops serves there = record {
 -- ---- a unit whose reply is `Later`
 
 -- that call, and a flush
-abbrev pub IsLate : Request → List RunStep → Type 0
-IsLate request steps = (flush : List RunStep) × IsFlush flush × (steps ≡ Called (Executed 1 request Later) ∷ flush)
+abbrev pub IsLate : Request → RunPoint → RunPoint → Type 0
+IsLate request p q = (late : RunPoint) × Calls p (Executed 1 request Later) late × IsFlush late q
 
-pub late_begins : (request : Request) (steps : List RunStep) → IsLate request steps → Begins [] steps
-late_begins request steps (flush, f, is) = rw is ([], refl, flush_begins flush f)
+pub late_begins : (request : Request) {p q : RunPoint} → IsLate request p q → Begins [] p q
+late_begins request (late, c, f) = begins_behind [] (begins_call (Executed 1 request Later) [] c refl) (flush_begins f)
 
-pub steps_late : {D A : Type 0} {G : Ghosts D} (old mid over : Exec D A G) (request : Request) → Leads old mid (λ xs. xs ≡ Called (Executed 1 request Later) ∷ []) → Leads mid over IsFlush → Leads old over (IsLate request)
-steps_late old mid over request late flushes = steps_then _ _ _ _ _ _ late flushes (λ xs ys e f. (ys, f, ap (λ (z : List RunStep). z ++ ys) e))
+pub steps_late : {D A : Type 0} {G : Ghosts D} {old mid over : Exec D A G} (request : Request) → Leads old mid (λ p q. Calls p (Executed 1 request Later) q) → Leads mid over IsFlush → Leads old over (IsLate request)
+steps_late request late flushes = steps_then (IsLate request) late flushes (λ p m q c f. (m, c, f))
 
 -- the session waits for nothing, so a flush has to make room
 pub late_full : (s : State) (request : Request) → wait_of s.flush 1 ≡ None → MayAnswer s 1 request Later → (is_whole s.flush.store ≡ true) × (0 < s.flush.unflushed)

@@ -1,78 +1,93 @@
--- Steps, one after another.
-use Rattle.std.proofs.Common.{◌≡◌, ◌⊎◌, ℕ, zero, suc, List, [], ◌∷◌, ◌++◌, refl, sym, ap, ◌∙◌, subst, append_assoc, append-nil, inl, inr, ⊎_elim, arith}
-use Rattle.psu_run.proofs.Common.{Acts, AreCalm, Begins, Called, Executed, IsAlong, IsFlush, IsJob, IsUnit, Jobs, Reply, Request, Restarted, RunStep, Running, Settled, SomeBreak, StandsForPrefix, Walks, World}
-
-pub walks_join : (xs ys : List RunStep) (w mid new : World) → Walks w xs mid → Walks mid ys new → Walks w (xs ++ ys) new
-walks_join [] ys w mid new p q = subst (λ (z : World). Walks z ys new) p q
-walks_join (x ∷ xs) ys w mid new p q = (p.0, p.1, walks_join xs ys p.0 mid new p.2 q)
-
-pub walks_split : (xs ys : List RunStep) (w new : World) → Walks w (xs ++ ys) new → (mid : World) × Walks w xs mid × Walks mid ys new
-walks_split [] ys w new p = (w, refl, p)
-walks_split (x ∷ xs) ys w new p = let s = walks_split xs ys p.0 new p.2 in (s.0, (p.0, p.1, s.1), s.2)
-
-pub breaks_split : (xs ys : List RunStep) → SomeBreak (xs ++ ys) → SomeBreak xs ⊎ SomeBreak ys
-breaks_split [] ys b = inr b
-breaks_split (x ∷ xs) ys (inl b) = inl (inl b)
-breaks_split (x ∷ xs) ys (inr b) = ⊎_elim (λ p. inl (inr p)) inr (breaks_split xs ys b)
-
-pub calm_split : (xs ys : List RunStep) → AreCalm (xs ++ ys) → AreCalm xs × AreCalm ys
-calm_split [] ys c = (tt, c)
-calm_split (x ∷ xs) ys c = let s = calm_split xs ys c.1 in ((c.0, s.0), s.1)
-
--- the device is on
-pub walk_running : (steps : List RunStep) (w new : World) → Walks w steps new → w.mode ≡ Running → new.mode ≡ Running
-walk_running [] w new same on = grind arith
-walk_running (step ∷ steps) w new (mid, s, more) on = walk_running steps mid new more (grind arith)
-
--- ---- a point of them
-
-pub along_here : (w : World) (steps : List RunStep) (image : List ℕ) → StandsForPrefix w image → IsAlong w steps image
-along_here w steps image p = ([], steps, w, refl, refl, p)
-
-pub along_more : (w : World) (xs ys : List RunStep) (image : List ℕ) → IsAlong w xs image → IsAlong w (xs ++ ys) image
-along_more w xs ys image (done, rest, mid, is, walks, p) = (done, rest ++ ys, mid, ap (λ (z : List RunStep). z ++ ys) is ∙ append_assoc done rest ys, walks, p)
-
-pub along_behind : (w mid : World) (xs ys : List RunStep) (image : List ℕ) → Walks w xs mid → IsAlong mid ys image → IsAlong w (xs ++ ys) image
-along_behind w mid xs ys image before (done, rest, there, is, walks, p) =
-    (xs ++ done, rest, there, ap (λ (z : List RunStep). xs ++ z) is ∙ sym (append_assoc xs done rest), walks_join xs done w mid there before walks, p)
+-- Steps, one after another: the units that they execute, and what they leave of a point.
+use Rattle.psu_run.proofs.Common.{◌≡◌, ◌⊎◌, ℕ, zero, suc, ◌&&◌, true, List, [], ◌∷◌, ◌++◌, refl, sym, ap, ◌∙◌, subst, append_assoc, append-nil, inl, inr, arith, Option, Some, Acts, Begins, Calls, Does, Effect, Entry, Executed, GaveBack, OneCall, IsFlush, IsJob, IsUnit, Job, JobKind, Jobs, Later, Nothing, Parked, Reopen, Reply, Request, RunPoint, Running, Settled, NoCall, Steps, Took, executed_by, is_calm, text_sent, Sent}
+use Rattle.psu_messages.specs.Effects as effects
 
 -- ---- the units that they execute
 
--- calls that execute no unit, and then some
-pub begins_behind : (xs ys : List RunStep) (a : List Request) → Begins [] xs → Begins a ys → Begins a (xs ++ ys)
-begins_behind [] ys a none b = b
-begins_behind (Called (Executed session request reply) ∷ xs) ys a (more, is, none) b = (a, grind arith, begins_behind xs ys a (grind arith) b)
-begins_behind (Called entry ∷ xs) ys a none b = begins_behind xs ys a none b
-begins_behind (Restarted ∷ xs) ys a never b = absurd never
+-- one call
+pub begins_call : {p q : RunPoint} (entry : Entry) (a : List Request) → Calls p entry q → a ≡ executed_by entry → Begins a p q
+begins_call {p} {q} entry a c is = OneCall entry q [] c (is ∙ sym (append-nil (executed_by entry))) (NoCall refl)
 
-pub begins_none : (steps : List RunStep) (a : List Request) → Begins [] steps → Begins a steps
-begins_none steps a none = subst (Begins a) (append-nil steps) (begins_behind steps [] a none tt)
+executes_none : (entry : Entry) (more : List Request) → [] ≡ executed_by entry ++ more → (executed_by entry ≡ []) × (more ≡ [])
+executes_none (Executed session request reply) more is = grind arith
+executes_none entry more is = (refl, sym is)
+
+begins_after : {p m q : RunPoint} (a none : List Request) → [] ≡ none → Begins none p m → Begins a m q → Begins a p q
+begins_after {p} {m} {q} a none empty (NoCall is) b = subst (λ (z : RunPoint). Begins a z q) is b
+begins_after a none empty (OneCall entry mid more c is rest) b =
+    let both = executes_none entry more (empty ∙ is) in OneCall entry mid a c (ap (λ (l : List Request). l ++ a) (sym both.0)) (begins_after a more (sym both.1) rest b)
+
+-- calls that execute no unit, and then some
+pub begins_behind : {p m q : RunPoint} (a : List Request) → Begins [] p m → Begins a m q → Begins a p q
+begins_behind a none b = begins_after a [] refl none b
+
+pub begins_none : {p q : RunPoint} (a : List Request) → Begins [] p q → Begins a p q
+begins_none {p} {q} a none = begins_behind a none (NoCall refl)
 
 -- some, and then calls that execute no unit
-pub begins_idle : (xs ys : List RunStep) (a : List Request) → Begins a xs → Begins [] ys → Begins a (xs ++ ys)
-begins_idle [] ys a p none = begins_none ys a none
-begins_idle (Called (Executed session request reply) ∷ xs) ys a (more, is, p) none = (more, is, begins_idle xs ys more p none)
-begins_idle (Called entry ∷ xs) ys a p none = begins_idle xs ys a p none
-begins_idle (Restarted ∷ xs) ys a never none = absurd never
+pub begins_idle : {p m q : RunPoint} (a : List Request) → Begins a p m → Begins [] m q → Begins a p q
+begins_idle {p} {m} {q} a (NoCall is) none = subst (λ (z : RunPoint). Begins a z q) is (begins_none a none)
+begins_idle {p} {m} {q} a (OneCall entry mid more c is rest) none = OneCall entry mid more c is (begins_idle more rest none)
 
-pub job_begins : (steps : List RunStep) → IsJob steps → Begins [] steps
-job_begins steps is = rw is.are tt
+pub job_begins : {p q : RunPoint} {kind : JobKind} → IsJob kind p q → Begins [] p q
+job_begins (job, finished, over, out, takes, give, kind_is, own, long) = OneCall (Took (Job job)) out [] takes refl (begins_call (GaveBack finished (Some over)) [] give refl)
 
-pub jobs_begin : (n : ℕ) (steps : List RunStep) → Jobs n steps → Begins [] steps
-jobs_begin zero steps none = rw none tt
-jobs_begin (suc n) steps (inl none) = rw none tt
-jobs_begin (suc n) steps (inr (job, more, is, rest, all)) = rw all (begins_behind job more [] (job_begins job is) (jobs_begin n more rest))
+-- a store is reopened before
+pub reopening : {p q : RunPoint} → (q ≡ p) ⊎ IsJob Reopen p q → Begins [] p q
+reopening (inl same) = NoCall same
+reopening (inr job) = job_begins job
 
-pub flush_begins : (steps : List RunStep) → IsFlush steps → Begins [] steps
-flush_begins steps f = jobs_begin 4 steps f
+pub jobs_begin : (n : ℕ) (p q : RunPoint) → Jobs n p q → Begins [] p q
+jobs_begin zero p q is = NoCall is
+jobs_begin (suc n) p q (inl none) = begins_call (Took Nothing) [] none refl
+jobs_begin (suc n) p q (inr (kind, mid, job, rest)) = begins_behind [] (job_begins job) (jobs_begin n mid q rest)
 
-pub wait_begins : (reply : Reply) (flush : List RunStep) → IsFlush flush → Begins [] (flush ++ Called (Settled 1 reply) ∷ [])
-wait_begins reply flush f = begins_behind flush (Called (Settled 1 reply) ∷ []) [] (flush_begins flush f) tt
+pub flush_begins : {p q : RunPoint} → IsFlush p q → Begins [] p q
+flush_begins {p} {q} f = jobs_begin 4 p q f
 
-acts_begin : (request : Request) (reply : Reply) (steps : List RunStep) → Acts request reply steps → Begins (request ∷ []) steps
-acts_begin request reply steps (final, inl at_once) = rw at_once ([], grind arith, tt)
-acts_begin request reply steps (final, inr (flush, f, all)) = rw all ([], refl, wait_begins reply flush f)
+acts_begin : {p q : RunPoint} (request : Request) (reply : Reply) → Acts request reply p q → Begins (request ∷ []) p q
+acts_begin request reply (final, inl at_once) = begins_call (Executed 1 request reply) (request ∷ []) at_once (grind arith)
+acts_begin request reply (final, inr (parked, over, c, f, s)) = OneCall (Executed 1 request Parked) parked [] c refl (begins_behind [] (flush_begins f) (begins_call (Settled 1 reply) [] s refl))
 
-pub unit_begins : (request : Request) (reply : Reply) (steps : List RunStep) → IsUnit request reply steps → Begins (request ∷ []) steps
-unit_begins request reply steps (inl acts) = acts_begin request reply steps acts
-unit_begins request reply steps (inr (flush, again, f, acts, all)) = rw all (request ∷ [], refl, begins_behind flush again (request ∷ []) (flush_begins flush f) (acts_begin request reply again acts))
+pub unit_begins : {p q : RunPoint} (request : Request) (reply : Reply) → IsUnit request reply p q → Begins (request ∷ []) p q
+unit_begins request reply (inl acts) = acts_begin request reply acts
+unit_begins request reply (inr (late, again, c, f, acts)) = OneCall (Executed 1 request Later) late (request ∷ []) c refl (begins_behind (request ∷ []) (flush_begins f) (acts_begin request reply acts))
+
+-- ---- the text, and whether all was calm
+
+pub calm_step : {p q : RunPoint} {call : Option Entry} → Steps p call q → q.calm ≡ true → (p.calm ≡ true) × (is_calm call ≡ true)
+calm_step {p} {q} {call} s calm = let is : (p.calm && is_calm call) ≡ true = sym (ap (λ (z : RunPoint). z.calm) s.is) ∙ calm in grind arith
+
+-- the text grew by `more`; and where all was calm at the end, it was at the start
+abbrev pub Keeps : RunPoint → RunPoint → List ℕ → Type 0
+Keeps p q more = (q.text ≡ p.text ++ more) × (q.calm ≡ true → p.calm ≡ true)
+
+pub step_keeps : {p q : RunPoint} {call : Option Entry} → Steps p call q → Keeps p q []
+step_keeps {p} s = (ap (λ (z : RunPoint). z.text) s.is ∙ sym (append-nil p.text), λ calm. (calm_step s calm).0)
+
+pub keeps_then : (p m q : RunPoint) (a b : List ℕ) → Keeps p m a → Keeps m q b → Keeps p q (a ++ b)
+keeps_then p m q a b k l = (l.0 ∙ ap (λ (z : List ℕ). z ++ b) k.0 ∙ append_assoc p.text a b, λ calm. k.1 (l.1 calm))
+
+pub begins_keep : {p q : RunPoint} (a : List Request) → Begins a p q → Keeps p q []
+begins_keep {p} {q} a (NoCall is) = subst (λ (z : RunPoint). Keeps p z []) (sym is) (sym (append-nil p.text), λ calm. calm)
+begins_keep {p} {q} a (OneCall entry mid more c is rest) = keeps_then p mid q [] [] (step_keeps c) (begins_keep more rest)
+
+pub effects_keep : (p q : RunPoint) (list : List Effect) → effects.Runs Does p list q → Keeps p q (text_sent list)
+effects_keep p q [] is = subst (λ (z : RunPoint). Keeps p z []) (sym is) (sym (append-nil p.text), λ calm. calm)
+effects_keep p q (effects.Executed request reply ∷ list) (mid, unit, rest) = keeps_then p mid q [] (text_sent list) (begins_keep (request ∷ []) (unit_begins request reply unit)) (effects_keep mid q list rest)
+effects_keep p q (effects.Settled reply ∷ list) (mid, never, rest) = absurd never
+effects_keep p q (Sent text last ∷ list) (mid, is, rest) = keeps_then p mid q text (text_sent list) (subst (λ (z : RunPoint). Keeps p z text) (sym is) (refl, λ calm. calm)) (effects_keep mid q list rest)
+
+-- ---- the mode
+
+-- a call is made while the device is on, and leaves it on
+running : {p q : RunPoint} {entry : Entry} → Calls p entry q → (p.world.mode ≡ Running) × (q.world.mode ≡ Running)
+running c = let by = c.leads in (grind arith, grind arith)
+
+begins_running : {p q : RunPoint} (a : List Request) → Begins a p q → p.world.mode ≡ Running → q.world.mode ≡ Running
+begins_running a (NoCall is) on = ap (λ (z : RunPoint). z.world.mode) is ∙ on
+begins_running a (OneCall entry mid more c is rest) on = begins_running more rest (running c).1
+
+pub flush_running : {p q : RunPoint} → IsFlush p q → q.world.mode ≡ Running
+flush_running (inl none) = (running none).1
+flush_running {p} {q} (inr (kind, mid, job, rest)) = begins_running [] (jobs_begin 3 mid q rest) (running job.5).1

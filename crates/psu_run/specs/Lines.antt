@@ -1,6 +1,7 @@
 -- The input of a run: what is read of it, its lines, and the requests of a line.
-use Rattle.std.specs.Prelude.{◌≡◌, ◌⊎◌, ℕ, ◌+◌, ◌-◌, ◌^◌, ◌<◌, ◌≤◌, ◌==◌, ◌||◌, nat_lt, Bool, false, List, [], ◌∷◌, length, Option, Some, None, Result, MatchResult, if◌then◌else◌, codes, map, ⊤}
+use Rattle.std.specs.Prelude.{◌≡◌, ◌⊎◌, ℕ, ◌+◌, ◌-◌, ◌^◌, ◌<◌, ◌≤◌, ◌==◌, nat_lt, Bool, false, List, [], ◌∷◌, length, Option, Some, None, Result, IfSome, MatchResult, if◌then◌else◌, codes, map, ⊤}
 use Rattle.std.specs.Io.KnownBytes.{Consumes, IsAtEnd}
+use Rattle.std.specs.List.{list_any}
 use Rattle.std.specs.Str.{bytes_eq}
 use Rattle.psu_lex.specs.Message.{Part, IsMessage}
 use Rattle.psu_lex.specs.declared.scpi_error.ScpiError.TheVariants.{TooMuchData}
@@ -18,8 +19,7 @@ pub record Reads : Type 0 where
 abbrev pub GrewBy : ℕ → ℕ → ℕ → Type 0
 GrewBy n old new = (new ≤ old + n) × (new < 2 ^ 64 - 1 → new ≡ old + n)
 
--- `made` reads were made and `filled` of them returned bytes, according to the counts of a reader that counts its
--- reads.
+-- `made` reads were made and `filled` of them returned bytes, by the counts of a reader that counts them.
 abbrev pub Counts : ℕ → ℕ → Option Reads → Option Reads → Type 0
 Counts made filled None new = ⊤
 Counts made filled (Some old) None = ⊥
@@ -36,8 +36,7 @@ pub record HasRead (made filled : ℕ) (bytes : List ℕ) (old_rest new_rest : O
   pub counted : Counts made filled old_reads new_reads
   pub each : filled ≤ length bytes
 
--- The input is too long: more than 16,777,216 bytes were read, or 1,048,576 reads were made; and each read returned
--- bytes.
+-- Too long: more than 16,777,216 bytes were read, or 1,048,576 reads were made, and each read returned bytes.
 abbrev pub IsTooLong : Option (List ℕ) → Option (List ℕ) → Option Reads → Option Reads → Type 0
 IsTooLong old_rest new_rest old_reads new_reads = (made : ℕ) × (bytes : List ℕ)
     × HasRead made made bytes old_rest new_rest old_reads new_reads
@@ -69,8 +68,7 @@ parts_of end [] = []
 parts_of end (x ∷ xs) = if x == end then [] ∷ parts_of end xs else first_onto x (parts_of end xs)
 
 abbrev pub has : ℕ → List ℕ → Bool
-has end [] = false
-has end (x ∷ xs) = x == end || has end xs
+has end xs = list_any (λ x. x == end) xs
 
 -- A line of the input, without its line feed: a power loss at rest, or what is executed.
 pub data Message : Type 0 where
@@ -90,8 +88,7 @@ messages input = map message_of (parts_of 10 input)
 
 -- the messages that an input brings: those of its bytes where they are known, otherwise any
 abbrev pub Brings : Option (List ℕ) → List Message → Type 0
-Brings None due = ⊤
-Brings (Some input) due = due ≡ messages input
+Brings input due = IfSome input (λ bytes. due ≡ messages bytes)
 
 -- ---- requests
 

@@ -24,9 +24,8 @@ entry file = (file.key, of_value file.value)
 abbrev pub reported : {A : Type 0} → ReportedFile A → List ℕ × (FileKind × ℕ)
 reported file = (file.name, (file.kind, file.size))
 
--- The report has what is kept of these contents, and this version, root, limit, cost and first service request: the enables,
--- the number of bytes of user data, the number of macros, the files in byte order of their names, and whether the
--- settings at power-on are those of register 0.
+-- The report has this version, root, limit, cost and first service request, and what is kept of these contents. The files are
+-- in byte order of their names; `recall` says whether the settings at power-on are those of register 0.
 pub record Reports {A : Type 0} (contents : Contents) (request : Option ℕ) (version root limit pages : ℕ) (report : Report A) : Type 0 where
   pub version_is : report.version ≡ version
   pub root_is : report.root ≡ root

@@ -1,8 +1,8 @@
--- A run: its steps and its text, why it ends, and its result.
-use Rattle.std.specs.Prelude.{◌≡◌, ◌≢◌, ◌⊎◌, ℕ, zero, suc, ◌+◌, ◌<◌, ◌≤◌, ◌^◌, true, false, if◌then◌else◌, Option, Some, None, List, [], ◌∷◌, ◌++◌, length, IfSome, Result, Ok, Err, ⊤}
+-- A run: its points and steps, why it ends, and its result; and what its parts leave of the device, the disk and the output.
+use Rattle.std.specs.Prelude.{◌≡◌, ◌≢◌, ◌⊎◌, ℕ, zero, suc, ◌+◌, ◌<◌, ◌≤◌, ◌^◌, Bool, true, false, ◌&&◌, if◌then◌else◌, Option, Some, None, List, [], ◌∷◌, ◌++◌, length, Any, IfSome, is_none, Result, Ok, Err, ⊤, ◌↔◌, IsTrue, option_map, unwrap_or}
 use Rattle.std.specs.Io.{StartsWith}
 use Rattle.std.specs.Io.KnownBytes.{Appends}
-use Rattle.psu_disk.specs.Disk.{DiskState, HasFailed, IsCrashImage}
+use Rattle.psu_disk.specs.Disk.{DiskState, HasFailed, IsCrashImage, LeavesOnly}
 use Rattle.psu_disk.specs.declared.disk.Disk.{Ghosts}
 use Rattle.psu_map.specs.Map.{Item}
 use Rattle.psu_items.specs.Image.{EachRepresents, HasBadRoot, HasNoRoot, HasOtherVersion, HasReadableRoot, Represents, current_root, number_in}
@@ -15,44 +15,48 @@ use Rattle.psu_exec.specs.Calls.{Commit, Entry, Executed, Failed, GaveBack, Job,
 use Rattle.psu_exec.specs.Consistent.{MayBeKept}
 use Rattle.psu_exec.specs.Device.{Error, Later, Parked, Reply, is_broken}
 use Rattle.psu_exec.specs.Headline.{AreBad, IsPrefix}
-use Rattle.psu_exec.specs.World.{CallsBy, Event, IsStart, Run, World, after, is_executed}
+use Rattle.psu_exec.specs.World.{CallsBy, Event, IsStart, Run, World, after, is_executed, Running}
 use Rattle.psu_exec.specs.declared.start_cause.StartCause.TheVariants as start
 use Rattle.psu_exec.specs.declared.start_cause.StartFault.{StartFault}
 use Rattle.psu_exec.specs.declared.start_cause.StartFault.TheVariants as start_fault
-use Rattle.psu_messages.specs.Answers.{text_sent}
 use Rattle.psu_messages.specs.Effects as effect
 use Rattle.psu_messages.specs.Effects.{Effect, needs}
-use Rattle.psu_messages.specs.Executions.{IsNext, IsOver, Progress, Reaches}
-use Rattle.psu_messages.specs.Units.{Source}
-use Rattle.psu_run.specs.Lines.{Brings, IsTooLong, Message, Reads, messages}
+use Rattle.psu_messages.specs.Executions.{Advances, IsNext, IsOver, Progress, beginning}
+use Rattle.psu_run.specs.Lines.{Brings, Message, messages}
 use Rattle.psu_run.specs.Script.{IsScript}
 use Rattle.psu_run.specs.declared.run_cause.RunCause.{RunCause}
-use Rattle.psu_run.specs.declared.run_cause.RunCause.TheVariants.{Device, Memory, Open, Read, TooLong, Write}
+use Rattle.psu_run.specs.declared.run_cause.RunCause.TheVariants.{Device, Memory, Open, Write}
 use Rattle.psu_run.specs.declared.run_fault.RunFault.{RunFault}
 use Rattle.psu_run.specs.declared.run_start.RunStart.{RunStart}
 use Rattle.psu_run.specs.declared.run_start.RunStart.TheVariants as run_start
+use Rattle.std.specs.Option.{ForSome}
+use Rattle.psu_items.specs.Standing.{MapOn}
+use Rattle.psu_exec.specs.Exec.{Exec}
+use Rattle.psu_exec.specs.Jobs.{idle_disk}
+use Rattle.psu_exec.specs.declared.idle_store.Condition.TheVariants.{Worn}
+use Rattle.psu_exec.specs.declared.idle_store.IdleStore.TheVariants as idle_store
 
--- ---- steps
+-- ---- points and steps
 
-pub data RunStep : Type 0 where
-  -- a call on the device
-  Called : (entry : Entry) → RunStep
-  -- power is lost at rest, and the device powers on again
-  Restarted : RunStep
+-- A point of a run: the device, and what led there from power-on: the count of its disk's failures, whether all was calm,
+-- the worlds that were passed, the last of them first, and the text so far.
+pub record RunPoint : Type 0 where
+  pub world : World
+  pub failures : ℕ
+  pub calm : Bool
+  pub passed : List World
+  pub text : List ℕ
 
--- A call on the device that is not ignored. It is an event of the theorem on power loss (`happens`, in
--- proofs/OneList.antt).
-abbrev pub CallsOnWorld : World → Entry → World → Type 0
-CallsOnWorld w entry new = (disk : DiskState) × CallsBy Serves w entry disk new
+abbrev pub at_power_on : World → ℕ → RunPoint
+at_power_on first failures = record { world = first; failures = failures; calm = true; passed = []; text = [] }
 
--- The image powers on: the contents are those that it represents, and the one session is opened. The disk keeps its
--- size.
+-- The image powers on: the contents are those that it represents, on a disk of its size; and the one session is opened.
 pub record PowersOn (image : List ℕ) (new : World) : Type 0 where
   pub on : World
   pub start : IsStart on
   pub found : Represents image on.limit (items_of on.start)
   pub size : length on.disk.bytes ≡ length image
-  pub opens : CallsOnWorld on (Opened (Some 1)) new
+  pub opens : (disk : DiskState) × CallsBy Serves on (Opened (Some 1)) disk new
 
 -- why a job failed: memory was refused, no number is left for a commit, or the store is broken
 pub data JobFault : Type 0 where
@@ -71,41 +75,32 @@ fault_of finished = None
 abbrev pub IsWornOut : List ℕ → Type 0
 IsWornOut image = 2 ^ 64 ≤ number_in (current_root image) image + 1
 
--- a commit finds no number left only where the disk shows that
-abbrev pub IsSound : Entry → List ℕ → Type 0
-IsSound (GaveBack finished over) image = fault_of finished ≡ Some NoNumber → IsWornOut image
-IsSound entry image = ⊤
-
--- a call gets its reply from the device; at a power loss no store is broken
-abbrev pub StepsTo : World → RunStep → World → Type 0
-StepsTo w (Called entry) new = CallsOnWorld w entry new × IsSound entry new.disk.bytes
-StepsTo w Restarted new = (is_broken w.state.flush.store ≡ false) × PowersOn w.disk.bytes new
-
--- these steps, one after another, lead from one world to another
-abbrev pub Walks : World → List RunStep → World → Type 0
-Walks w [] new = new ≡ w
-Walks w (step ∷ steps) new = (mid : World) × StepsTo w step mid × Walks mid steps new
+-- A call gets its reply from the device, and is not ignored: it is an event of the theorem on power loss (`happens`, in
+-- proofs/OneList.antt). Where there is none, power is lost and the device powers on again; then no store is broken.
+abbrev pub LeadsTo : World → Option Entry → World → Type 0
+LeadsTo w (Some entry) new = (disk : DiskState) × CallsBy Serves w entry disk new
+LeadsTo w None new = (is_broken w.state.flush.store ≡ false) × PowersOn w.disk.bytes new
 
 -- no memory is refused for a unit, and no job fails
-abbrev pub IsCalm : RunStep → Type 0
-IsCalm (Called (Executed session request reply)) = reply ≢ Error OutOfMemory
-IsCalm (Called (GaveBack finished over)) = fault_of finished ≡ None
-IsCalm step = ⊤
+abbrev pub is_calm : Option Entry → Bool
+is_calm (Some (Executed session request (Error OutOfMemory))) = false
+is_calm (Some (GaveBack finished over)) = is_none (fault_of finished)
+is_calm call = true
 
-abbrev pub AreCalm : List RunStep → Type 0
-AreCalm [] = ⊤
-AreCalm (step ∷ steps) = IsCalm step × AreCalm steps
+-- A step from one point to another. The count of failures does not fall; it rises, or is at its last value, where a job
+-- broke the store, or left it broken, and not out of memory. A commit finds no number left only where the disk shows that.
+-- The text stays.
+pub record Steps (p : RunPoint) (call : Option Entry) (q : RunPoint) : Type 0 where
+  pub leads : LeadsTo p.world call q.world
+  pub later : p.failures ≤ q.failures
+  pub gave : (finished : JobEnd) (over : Option (List ℕ)) → call ≡ Some (GaveBack finished over)
+      → (fault_of finished ≡ Some StoreBroken → HasFailed p.failures q.failures) × (fault_of finished ≡ Some NoNumber → IsWornOut q.world.disk.bytes)
+  pub is : q ≡ record p { world = q.world; failures = q.failures; calm = p.calm && is_calm call; passed = p.world ∷ p.passed }
 
--- a job broke the store, or left it broken, and not out of memory
-abbrev pub Breaks : RunStep → Type 0
-Breaks (Called (GaveBack finished over)) = fault_of finished ≡ Some StoreBroken
-Breaks step = ⊥
+abbrev pub Calls : RunPoint → Entry → RunPoint → Type 0
+Calls p entry q = Steps p (Some entry) q
 
-abbrev pub SomeBreak : List RunStep → Type 0
-SomeBreak [] = ⊥
-SomeBreak (step ∷ steps) = Breaks step ⊎ SomeBreak steps
-
--- ---- a unit
+-- ---- units, lines and messages
 
 -- a job of this kind may end this way
 abbrev pub EndsJob : JobKind → JobEnd → Type 0
@@ -115,109 +110,72 @@ EndsJob Reopen (Unstarted limit before edits cause) = ⊥
 EndsJob kind finished = ⊤
 
 -- one take, job and give-back; a job that ends out of memory ends the run
-pub record IsJob (steps : List RunStep) : Type 0 where
-  pub job : JobData
-  pub finished : JobEnd
-  pub over : List ℕ
-  pub are : steps ≡ Called (Took (Job job)) ∷ Called (GaveBack finished (Some over)) ∷ []
-  pub own : EndsJob job.kind finished
-  pub long : fault_of finished ≢ Some MemoryRefused
+abbrev pub IsJob : JobKind → RunPoint → RunPoint → Type 0
+IsJob kind p q = (job : JobData) × (finished : JobEnd) × (over : List ℕ) × (out : RunPoint)
+    × Calls p (Took (Job job)) out × Calls out (GaveBack finished (Some over)) q
+    × (job.kind ≡ kind) × EndsJob kind finished × (fault_of finished ≢ Some MemoryRefused)
 
 -- jobs until there is none, at most that many
-abbrev pub Jobs : ℕ → List RunStep → Type 0
-Jobs zero steps = steps ≡ []
-Jobs (suc n) steps = (steps ≡ Called (Took Nothing) ∷ [])
-    ⊎ ((job : List RunStep) × (more : List RunStep) × IsJob job × Jobs n more × (steps ≡ job ++ more))
+abbrev pub Jobs : ℕ → RunPoint → RunPoint → Type 0
+Jobs zero p q = q ≡ p
+Jobs (suc n) p q = Calls p (Took Nothing) q ⊎ ((kind : JobKind) × (mid : RunPoint) × IsJob kind p mid × Jobs n mid q)
 
-abbrev pub IsFlush : List RunStep → Type 0
-IsFlush steps = Jobs 4 steps
+abbrev pub IsFlush : RunPoint → RunPoint → Type 0
+IsFlush p q = Jobs 4 p q
 
 -- a unit that is answered at once, or after its wait, which a flush ends
-abbrev pub Acts : Request → Reply → List RunStep → Type 0
-Acts request reply steps = (needs reply ≡ None)
-    × ((steps ≡ Called (Executed 1 request reply) ∷ [])
-    ⊎ ((flush : List RunStep) × IsFlush flush × (steps ≡ Called (Executed 1 request Parked) ∷ (flush ++ Called (Settled 1 reply) ∷ []))))
+abbrev pub Acts : Request → Reply → RunPoint → RunPoint → Type 0
+Acts request reply p q = (needs reply ≡ None) × (Calls p (Executed 1 request reply) q
+    ⊎ ((parked : RunPoint) × (over : RunPoint) × Calls p (Executed 1 request Parked) parked × IsFlush parked over × Calls over (Settled 1 reply) q))
 
 -- a unit; where its reply is `Later`, it is executed again after a flush
-abbrev pub IsUnit : Request → Reply → List RunStep → Type 0
-IsUnit request reply steps = Acts request reply steps
-    ⊎ ((flush : List RunStep) × (again : List RunStep) × IsFlush flush × Acts request reply again × (steps ≡ Called (Executed 1 request Later) ∷ (flush ++ again)))
+abbrev pub IsUnit : Request → Reply → RunPoint → RunPoint → Type 0
+IsUnit request reply p q = Acts request reply p q
+    ⊎ ((late : RunPoint) × (again : RunPoint) × Calls p (Executed 1 request Later) late × IsFlush late again × Acts request reply again q)
 
--- these calls execute a prefix of these requests; a unit whose reply is `Later` or `Held` isn't executed
-abbrev pub Begins : List Request → List RunStep → Type 0
-Begins requests [] = ⊤
-Begins requests (Called (Executed session request reply) ∷ steps) = (more : List Request) × (requests ≡ if is_executed reply then request ∷ more else more) × Begins more steps
-Begins requests (Called entry ∷ steps) = Begins requests steps
-Begins requests (Restarted ∷ steps) = ⊥
+-- the request that a call executes; a unit whose reply is `Later` or `Held` isn't executed
+abbrev pub executed_by : Entry → List Request
+executed_by (Executed session request reply) = if is_executed reply then request ∷ [] else []
+executed_by entry = []
 
--- ---- a line: an execution in the words of psu_messages, whose effects are steps
+-- calls lead from one point to another, and execute a prefix of these requests
+pub data Begins : List Request → RunPoint → RunPoint → Type 0 where
+  NoCall : {requests : List Request} {p q : RunPoint} → q ≡ p → Begins requests p q
+  OneCall : {requests : List Request} {p q : RunPoint} (entry : Entry) (mid : RunPoint) (more : List Request) → Calls p entry mid → requests ≡ executed_by entry ++ more → Begins more mid q → Begins requests p q
 
--- A unit is executed with the flushes that it waits for, so no unit is settled.
-abbrev pub Makes : List Effect → List RunStep → Type 0
-Makes [] steps = steps ≡ []
-Makes (effect.Executed request reply ∷ effects) steps = (unit : List RunStep) × (more : List RunStep) × IsUnit request reply unit × Makes effects more × (steps ≡ unit ++ more)
-Makes (effect.Settled reply ∷ effects) steps = ⊥
-Makes (effect.Sent text last ∷ effects) steps = Makes effects steps
+-- an effect of a line; a unit is executed with the flushes that it waits for, so no unit is settled
+abbrev pub Does : RunPoint → Effect → RunPoint → Type 0
+Does p (effect.Executed request reply) q = IsUnit request reply p q
+Does p (effect.Settled reply) q = ⊥
+Does p (effect.Sent text last) q = q ≡ record p { text = p.text ++ text }
 
--- an execution of all of a line sends this text
-pub record LineRuns (source : Source) (text : List ℕ) (steps : List RunStep) : Type 0 where
-  pub effects : List Effect
-  pub end : Progress
-  pub reaches : Reaches source effects end
-  pub over : IsOver source end
-  pub makes : Makes effects steps
-  pub sent : text ≡ text_sent effects
+-- Messages, one after another. All of a line is executed, in the words of psu_messages; a broken store is reopened before
+-- a power loss.
+abbrev pub Runs : List Message → RunPoint → RunPoint → Type 0
+Runs [] p q = q ≡ p
+Runs (Message.Power ∷ ms) p q = (mid : RunPoint) × (on : RunPoint) × ((mid ≡ p) ⊎ IsJob Reopen p mid) × Steps mid None on × Runs ms on q
+Runs (Message.Line source ∷ ms) p q = (mid : RunPoint) × (end : Progress) × Advances Does source p beginning mid end × IsOver source end × Runs ms mid q
 
--- An execution of some of a line has sent the beginning of this text and not yet the rest, and of the next unit all may
--- be executed but its answer.
-pub record LineBegins (source : Source) (text : List ℕ) (steps : List RunStep) : Type 0 where
-  pub effects : List Effect
-  pub at : Progress
-  pub reaches : Reaches source effects at
-  pub made : List RunStep
-  pub makes : Makes effects made
-  pub sent : text ≡ text_sent effects ++ at.text.rest
-  pub next : List RunStep
-  pub begun : (next ≡ []) ⊎ ((request : Request) × IsNext source at request × Begins (request ∷ []) next)
-  pub all : steps ≡ made ++ next
+-- The first of these messages has begun. What is not sent of a line's text is written too, and of its next unit all may be
+-- executed but its answer. Of a power loss there are no more than jobs, and likewise after the last message.
+abbrev pub NextBegins : List Message → RunPoint → RunPoint → Type 0
+NextBegins (Message.Line source ∷ ms) p q = (mid : RunPoint) × (at : Progress) × Advances Does source p beginning mid at
+    × let said : RunPoint = record mid { text = mid.text ++ at.text.rest } in (q ≡ said) ⊎ ((request : Request) × IsNext source at request × Begins (request ∷ []) said q)
+NextBegins ms p q = Begins [] p q
 
--- ---- an input: lines, one after another, with power losses between
-
--- a broken store is reopened before a power loss
-abbrev pub Reopens : List RunStep → Type 0
-Reopens steps = (steps ≡ []) ⊎ ((is : IsJob steps) × (is.job.kind ≡ Reopen))
-
-abbrev pub MessageRuns : Message → List ℕ → List RunStep → Type 0
-MessageRuns Message.Power text steps = (text ≡ []) × (reopening : List RunStep) × Reopens reopening × (steps ≡ reopening ++ Restarted ∷ [])
-MessageRuns (Message.Line source) text steps = LineRuns source text steps
-
-abbrev pub Runs : List Message → List ℕ → List RunStep → Type 0
-Runs [] text steps = (text ≡ []) × (steps ≡ [])
-Runs (m ∷ ms) text steps =
-    (first : List ℕ) × (more : List ℕ) × (made : List RunStep) × (others : List RunStep) × MessageRuns m first made × Runs ms more others × (text ≡ first ++ more) × (steps ≡ made ++ others)
-
--- the first of these messages has begun; of a power loss no more than jobs, and likewise after the last message
-abbrev pub NextBegins : List Message → List ℕ → List RunStep → Type 0
-NextBegins (Message.Line source ∷ ms) text steps = LineBegins source text steps
-NextBegins ms text steps = Begins [] steps × (text ≡ [])
-
--- The messages before `rest` are executed, and the first of `rest` has begun.
-pub record RunsUpTo (rest due : List Message) (text : List ℕ) (steps : List RunStep) : Type 0 where
+-- Of the messages that are due, those before `rest` are executed, up to `at`, and the first of `rest` has begun.
+pub record RunsUpTo (due : List Message) (first last : RunPoint) : Type 0 where
   pub done : List Message
+  pub rest : List Message
   pub is : due ≡ done ++ rest
-  pub said : List ℕ
-  pub made : List RunStep
-  pub runs : Runs done said made
-  pub part : List ℕ
-  pub next : List RunStep
-  pub begun : NextBegins rest part next
-  pub sent : text ≡ said ++ part
-  pub all : steps ≡ made ++ next
+  pub at : RunPoint
+  pub runs : Runs done first at
+  pub begun : NextBegins rest at last
 
 -- where nothing goes wrong, what may be written is the script
 abbrev pub ScriptAlone : Type 0
-ScriptAlone = (image input text : List ℕ) (steps : List RunStep) (first last : World)
-    → PowersOn image first → Runs (messages input) text steps → Walks first steps last → AreCalm steps → IsScript first.start first.limit input text
+ScriptAlone = (image input : List ℕ) (power : World) (failures : ℕ) (last : RunPoint)
+    → PowersOn image power → Runs (messages input) (at_power_on power failures) last → last.calm ≡ true → IsScript power.start power.limit input last.text
 
 -- ---- what is on the disk
 
@@ -226,13 +184,12 @@ ScriptAlone = (image input text : List ℕ) (steps : List RunStep) (first last :
 abbrev pub StandsForPrefix : World → List ℕ → Type 0
 StandsForPrefix w image = (k : ℕ) × IsPrefix w k × MayBeKept w.limit (after w k) × Represents image w.limit (items_of (after w k))
 
--- the image represents a prefix of what was executed up to some point of these steps
-abbrev pub IsAlong : World → List RunStep → List ℕ → Type 0
-IsAlong w steps image = (done : List RunStep) × (rest : List RunStep) × (mid : World) × (steps ≡ done ++ rest) × Walks w done mid × StandsForPrefix mid image
+-- the image represents a prefix of what was executed up to some point, this one or one before it
+abbrev pub IsAlong : RunPoint → List ℕ → Type 0
+IsAlong p image = Any (λ w. StandsForPrefix w image) (p.world ∷ p.passed)
 
--- A disk after the last call, or after a restart that failed after that call: each of its possible crash images is one
--- of the last world, or each possible crash image of either disk represents one map, the same for both, and the disks
--- have the same size.
+-- A disk after the last call, or after a restart that failed then: each of its possible crash images is one of the last
+-- world, or each possible crash image of either disk represents one map, the same for both, and their sizes are equal.
 abbrev pub IsLeftBy : World → DiskState → Type 0
 IsLeftBy w disk = ((image : List ℕ) → IsCrashImage disk image → IsCrashImage w.disk image)
     ⊎ ((limit : ℕ) × (map : List Item) × EachRepresents w.disk limit map × EachRepresents disk limit map × (length disk.bytes ≡ length w.disk.bytes))
@@ -241,11 +198,10 @@ IsLeftBy w disk = ((image : List ℕ) → IsCrashImage disk image → IsCrashIma
 abbrev pub EventsLead : World → World → Type 0
 EventsLead w new = (events : List Event) × Run w events new
 
--- ---- why a run ends early
+-- ---- why a run ends
 
 -- A disk with this image does not power on for this cause; `before` and `now` are the counts of failures. A failed call
--- says nothing about the image. Bad items are not those of any contents that fit. Out of memory is possible only where no
--- call failed and a root can be read.
+-- says nothing about the image; memory is refused only where no call failed and a root can be read.
 abbrev pub NotStarted : List ℕ → ℕ → ℕ → StartFault → Type 0
 NotStarted image before now (start_fault.Start start.Device) = HasFailed before now
 NotStarted image before now (start_fault.Start start.NoRoot) = HasNoRoot image
@@ -258,33 +214,17 @@ abbrev pub cause_of : StartFault → RunCause
 cause_of (start_fault.Start cause) = Open cause
 cause_of start_fault.Memory = Memory
 
--- Which causes the input gives: a read failed, of which no contract can say more, or the input is too long.
-abbrev pub GivenByInput : Option (List ℕ) → Option (List ℕ) → Option Reads → Option Reads → RunCause → Type 0
-GivenByInput old_rest new_rest old_reads new_reads Read = ⊤
-GivenByInput old_rest new_rest old_reads new_reads TooLong = IsTooLong old_rest new_rest old_reads new_reads
-GivenByInput old_rest new_rest old_reads new_reads cause = ⊥
-
--- while nothing is read, the input gives none
-abbrev pub never : RunCause → Type 0
-never cause = ⊥
-
--- the next message is that of a power loss
-abbrev pub IsAtPower : List Message → Type 0
-IsAtPower (Message.Power ∷ ms) = ⊤
-IsAtPower ms = ⊥
-
--- Why a run ends before the first of these messages, or in it. `before` and `now` are the counts of failures before it
--- and at the end, `last` is the device then, and `left` the bytes that its disk reads as. Open: a restart was refused,
--- and only because the disk failed in it, since the disk still represents what it represented. Device: the disk failed
--- meanwhile, or, except in a restart, changes are left on a store whose root has the last number. `by_input` says which
--- causes the input gives. A contract cannot see that an allocation or a writer fails.
-abbrev pub StopsFor : (RunCause → Type 0) → ℕ → ℕ → List Message → World → List ℕ → RunCause → Type 0
-StopsFor by_input before now rest last left (Open start.Device) = IsAtPower rest × HasFailed before now
-StopsFor by_input before now rest last left (Open cause) = ⊥
-StopsFor by_input before now rest last left Device = HasFailed before now ⊎ ((IsAtPower rest → ⊥) × (1 ≤ last.state.flush.unflushed) × IsWornOut left)
-StopsFor by_input before now rest last left TooLong = by_input TooLong
-StopsFor by_input before now rest last left Read = by_input Read
-StopsFor by_input before now rest last left cause = ⊤
+-- Why a run ends before the first of these messages, at `at`, or in it, at `last`; `now` is the count of failures then, and
+-- `disk` the disk. None: no message is left, and after a flush no change is. Open: a restart was refused, and only because
+-- the disk failed in it, since it still represents what it did. Device: the disk failed since `at`, or, except in a
+-- restart, changes are left on a store whose root has the last number. No contract can see another cause.
+abbrev pub StopsFor : List Message → RunPoint → RunPoint → ℕ → DiskState → Option RunCause → Type 0
+StopsFor rest at last now disk None = (rest ≡ []) × IsFlush at last × (last.world.state.flush.unflushed ≡ 0) × (last.world.disk ≡ disk) × (last.failures ≡ now)
+StopsFor (Message.Power ∷ ms) at last now disk (Some (Open start.Device)) = HasFailed at.failures now
+StopsFor (Message.Power ∷ ms) at last now disk (Some Device) = HasFailed at.failures now
+StopsFor rest at last now disk (Some (Open cause)) = ⊥
+StopsFor rest at last now disk (Some Device) = HasFailed at.failures now ⊎ ((1 ≤ last.world.state.flush.unflushed) × IsWornOut disk.bytes)
+StopsFor rest at last now disk cause = ⊤
 
 -- An early end by a fault of the device, also in a restart: the disk failed after this count, unless the store is
 -- worn; and where it is, the image of an honest disk shows it.
@@ -293,48 +233,18 @@ pub record IsByFailure {D : Type 0} (G : Ghosts D) (before : ℕ) (fault : RunFa
   pub device : fault.cause ≡ Device → fault.is_worn ≡ false → HasFailed before (Ghosts.failures G fault.disk)
   pub worn : fault.is_worn ≡ true → Ghosts.honest G → IsWornOut (Ghosts.state G fault.disk).bytes
 
--- Where and why a run of these messages ended early: it arose at the first message of `rest`, after `count` failures;
--- a job before it broke the store only with a failure until then, and one in it only with one since.
-pub record StopsAt (by_input : RunCause → Type 0) (cause : RunCause) (before now : ℕ) (disk : DiskState) (due : List Message) (text : List ℕ) (steps : List RunStep) (last : World) : Type 0 where
-  pub rest : List Message
-  pub runs : RunsUpTo rest due text steps
-  pub count : ℕ
-  pub later : before ≤ count
-  pub failed : SomeBreak runs.made → HasFailed before count
-  pub later_then : count ≤ now
-  pub failed_then : SomeBreak runs.next → HasFailed count now
-  pub why : StopsFor by_input count now rest last disk.bytes cause
-  pub left : IsLeftBy last disk
-
 -- ---- the result of a run
 
--- A run on this image up to some point: the messages that the input brings, the text and the steps of what was executed
--- of them, and the device then. Events of the theorem on power loss lead there from each world whose disk reads as the
--- image.
-pub record RunTo (image : List ℕ) (input : Option (List ℕ)) : Type 0 where
-  pub first : World
-  pub starts : PowersOn image first
+-- A run on this image, from this count of failures, of the messages that the input brings, up to some point. Events of the
+-- theorem on power loss lead there from each world whose disk reads as the image.
+pub record RunTo (image : List ℕ) (input : Option (List ℕ)) (failures : ℕ) : Type 0 where
+  pub power : World
+  pub starts : PowersOn image power
   pub due : List Message
   pub brought : Brings input due
-  pub text : List ℕ
-  pub steps : List RunStep
-  pub last : World
-  pub walks : Walks first steps last
-  pub since : (before : World) → before.disk.bytes ≡ image → EventsLead before last
-
--- A whole run: the messages were executed, and the writer gained their text; then all accepted changes were flushed, so
--- each possible crash image of the disk represents the contents with them. A job broke the store only where the count of
--- failures rose or is at its last value; where nothing went wrong, the text is the script of a known input.
-pub record WritesRun (image : List ℕ) (input : Option (List ℕ)) (old_count new_count : ℕ) (old_written new_written : Option (List ℕ)) (disk : DiskState) : Type 0 where
-  pub run : RunTo image input
-  pub runs : RunsUpTo [] run.due run.text run.steps
-  pub flushes : IsFlush runs.next
-  pub flushed : run.last.state.flush.unflushed ≡ 0
-  pub written : Appends old_written new_written run.text
-  pub failed : SomeBreak run.steps → HasFailed old_count new_count
-  pub calm : AreCalm run.steps → IfSome input (λ bytes. IsScript run.first.start run.first.limit bytes run.text)
-  pub kept : EachRepresents disk run.last.limit (items_of run.last.state.flush.contents)
-  pub back : run.last.disk ≡ disk
+  pub last : RunPoint
+  pub runs : RunsUpTo due (at_power_on power failures) last
+  pub since : (before : World) → before.disk.bytes ≡ image → EventsLead before last.world
 
 -- A run that did not start: the disk does not power on, for this cause. Nothing was read and nothing was written, and a
 -- map that each possible crash image of the disk represented, each still represents.
@@ -350,29 +260,28 @@ pub record DoesNotStart (cause : RunCause) (old_count new_count : ℕ) (old_rest
 abbrev pub WritesShort : Option (List ℕ) → Option (List ℕ) → List ℕ → Type 0
 WritesShort old new text = (front : List ℕ) × Appends old new front × StartsWith text front × (length front < length text)
 
--- At a fault, this text was to be written. It is, except where the writer failed: then some of it is missing.
-pub record WritesUntil (cause : RunCause) (old new : Option (List ℕ)) (text : List ℕ) : Type 0 where
-  pub whole : cause ≢ Write → Appends old new text
-  pub missing : cause ≡ Write → WritesShort old new text
-
--- A run that ended early, as `stops` says; `by_input` says which causes the input gives. Its text is written. Each possible
--- crash image of the disk represents the contents after a prefix of the executed units that contains every unit before a
--- `*OPC?` that was answered; and events lead on to that disk.
-pub record WritesFirst (by_input : RunCause → Type 0) (cause : RunCause) (image : List ℕ) (input : Option (List ℕ)) (old_count new_count : ℕ) (old_written new_written : Option (List ℕ)) (disk : DiskState) : Type 0 where
-  pub run : RunTo image input
-  pub stops : StopsAt by_input cause old_count new_count disk run.due run.text run.steps run.last
-  pub wrote : WritesUntil cause old_written new_written run.text
-  pub kept : (image : List ℕ) → IsCrashImage disk image → StandsForPrefix run.last image
-  pub stopped : World
-  pub behind : EventsLead run.last stopped
-  pub back : stopped.disk ≡ disk
+-- A run that ended, well (`None`) or early for a cause. Its text is written, except where the writer failed: then some of
+-- it is missing. Each possible crash image of the disk represents the contents after a prefix of the executed units that
+-- holds every unit before an answered `*OPC?`, and where it ended well, those after all of them; events lead on to that
+-- disk. Where it ended well and nothing went wrong, the text is the script of a known input.
+pub record WritesTo (end : Option RunCause) (image : List ℕ) (input : Option (List ℕ)) (old_count new_count : ℕ) (old_written new_written : Option (List ℕ)) (disk : DiskState) : Type 0 where
+  pub run : RunTo image input old_count
+  pub later : run.last.failures ≤ new_count
+  pub stops : StopsFor run.runs.rest run.runs.at run.last new_count disk end
+  pub left : IsLeftBy run.last.world disk
+  pub whole : end ≢ Some Write → Appends old_written new_written run.last.text
+  pub missing : end ≡ Some Write → WritesShort old_written new_written run.last.text
+  pub calm : end ≡ None → run.last.calm ≡ true → IfSome input (λ bytes. IsScript run.power.start run.power.limit bytes run.last.text)
+  pub kept : (image : List ℕ) → IsCrashImage disk image → StandsForPrefix run.last.world image
+  pub all : end ≡ None → EachRepresents disk run.last.world.limit (items_of run.last.world.state.flush.contents)
+  pub behind : (stopped : World) × EventsLead run.last.world stopped × (stopped.disk ≡ disk)
 
 -- At any moment of a run: the image represents what some possible crash image of the disk did before, or a prefix of what
 -- was executed up to some point of a run of the messages that the input brings.
-abbrev pub IsOfRun : DiskState → Option (List ℕ) → List ℕ → Type 0
-IsOfRun disk input image =
+abbrev pub IsOfRun : DiskState → Option (List ℕ) → ℕ → List ℕ → Type 0
+IsOfRun disk input failures image =
     ((before : List ℕ) × IsCrashImage disk before × ((limit : ℕ) (map : List Item) → Represents before limit map → Represents image limit map))
-    ⊎ ((run : RunTo disk.bytes input) × (rest : List Message) × RunsUpTo rest run.due run.text run.steps × IsAlong run.first run.steps image)
+    ⊎ ((run : RunTo disk.bytes input failures) × IsAlong run.last image)
 
 -- the disk that a run begins on
 abbrev pub disk_from : {D A : Type 0} → RunStart D A → D
@@ -383,3 +292,98 @@ disk_from (run_start.Store store) = store.disk
 abbrev pub disk_of : {D : Type 0} → Result D (RunFault D) → D
 disk_of (Ok disk) = disk
 disk_of (Err fault) = fault.disk
+
+-- ---- from a device at rest to a later moment
+
+-- the disk of the idle store
+abbrev pub disk_in : {D A : Type 0} {G : Ghosts D} → Exec D A G → Option D
+disk_in exec = option_map idle_disk exec.idle_store
+
+-- the count of its failures
+abbrev pub failures_of : {D A : Type 0} {G : Ghosts D} → Exec D A G → ℕ
+failures_of {D} {A} {G} exec = unwrap_or (option_map (Ghosts.failures G) (disk_in exec)) 0
+
+-- at this point the device is at rest, and this is the disk of its idle store
+abbrev pub IsAt : {D A : Type 0} {G : Ghosts D} → Exec D A G → D → RunPoint → Type 0
+IsAt {D} {A} {G} exec disk p = (p.world.state ≡ exec.device) × (p.world.mode ≡ Running) × (p.world.disk ≡ Ghosts.state G disk) × (p.failures ≡ Ghosts.failures G disk)
+
+-- From a device at rest to a disk: its size stays, and the count of its failures does not fall. On an honest disk steps
+-- lead from each point at which the device is to one so that P: events lead on, and what was passed stays passed. Where
+-- events lead there from a power-on, each possible crash image at any moment between represents a prefix of what was
+-- executed up to some point, if an image that is possible since now is a possible crash image of the disk as it is.
+pub record Ran {D A : Type 0} {G : Ghosts D} (old : Exec D A G) (from to : D) (P : RunPoint → RunPoint → Type 0) : Type 0 where
+  pub extent : Ghosts.extent G to ≡ Ghosts.extent G from
+  pub later : Ghosts.failures G from ≤ Ghosts.failures G to
+  pub leads : Ghosts.honest G → (p : RunPoint) → IsAt old from p → (q : RunPoint) × P p q
+      × (EventsLead p.world q.world × ((image : List ℕ) → IsAlong p image → IsAlong q image))
+      × (Ghosts.records G → ((d : D) (image : List ℕ) → Ghosts.left_since G d (Ghosts.moment G d) image → IsCrashImage (Ghosts.state G d) image)
+      → ((first : World) × IsStart first × EventsLead first p.world) → LeavesOnly (Ghosts.moment G) (Ghosts.left_since G) from to (IsAlong q))
+
+-- This count of failures is not past; and the disk is honest, or a store that is broken broke by a disk call that failed
+-- after that count. (A reopening of a store on a disk that is not honest may fail although no call does.)
+abbrev pub IsTied : {D A : Type 0} {G : Ghosts D} → ℕ → Exec D A G → Type 0
+IsTied {D} {A} {G} before exec = (before ≤ failures_of exec) × (Ghosts.honest G ⊎ (is_broken exec.device.flush.store ≡ true → HasFailed before (failures_of exec)))
+
+-- these steps lead from one device at rest to another
+pub record Leads {D A : Type 0} {G : Ghosts D} (old new : Exec D A G) (P : RunPoint → RunPoint → Type 0) : Type 0 where
+  pub ran : ForSome (disk_in old) (λ from. (disk : D) × (disk_in new ≡ Some disk) × Ran old from disk (λ p q. IsAt new disk q × P p q))
+  pub later : failures_of old ≤ failures_of new
+  pub tied : (before : ℕ) → IsTied before old → IsTied before new
+
+-- These steps lead to a device that stops for this cause: the disk failed after each count that is tied, or changes are
+-- left and no number is left for a commit; or memory is refused, or the writer failed.
+pub record DeviceStops {D A : Type 0} {G : Ghosts D} (old new : Exec D A G) (P : RunPoint → RunPoint → Type 0) (cause : RunCause) : Type 0 where
+  pub leads : Leads old new P
+  pub own : (cause ≡ Device) ⊎ (cause ≡ Memory) ⊎ (cause ≡ Write)
+  pub why : cause ≡ Device → (before : ℕ) → IsTied before old → HasFailed before (failures_of new) ⊎ ((new.device.flush.store ≡ Worn) × (1 ≤ new.device.flush.unflushed))
+
+-- the early end of a run for this cause: the disk and the condition of the store are those of the device
+pub record FaultOf {D A : Type 0} {G : Ghosts D} (exec : Exec D A G) (cause : RunCause) (fault : RunFault D) : Type 0 where
+  pub cause_is : fault.cause ≡ cause
+  pub disk : disk_in exec ≡ Some fault.disk
+  pub worn_is : IsTrue fault.is_worn ↔ (exec.device.flush.store ≡ Worn)
+  pub worn : Ghosts.honest G → exec.device.flush.store ≡ Worn → IsWornOut (Ghosts.state G fault.disk).bytes
+
+-- an idle store is worn only where its number is the last
+abbrev pub IsWornAtLast : {D A : Type 0} {G : Ghosts D} → Exec D A G → Type 0
+IsWornAtLast {D} exec = (store : MapOn D) → exec.idle_store ≡ Some (idle_store.Whole store) → exec.device.flush.store ≡ Worn → 2 ^ 64 ≤ store.number + 1
+
+-- ---- the output
+
+-- The bytes that the writer holds, and the text that is buffered after them.
+pub record OutputState : Type 0 where
+  pub written : Option (List ℕ)
+  pub gathered : List ℕ
+
+abbrev pub held : Option (List ℕ) → List ℕ → OutputState
+held written text = record { written = written; gathered = text }
+
+-- the output grew by `more`, whether written or buffered
+abbrev pub Says : OutputState → OutputState → List ℕ → Type 0
+Says old new more = (front : List ℕ) × Appends old.written new.written front × (front ++ new.gathered ≡ old.gathered ++ more)
+
+-- At an end, `more` was still to be output. It is output, except where the writer failed: then some of it is missing.
+pub record SaysUntil (end : Option RunCause) (old new : OutputState) (more : List ℕ) : Type 0 where
+  pub whole : end ≢ Some Write → Says old new more
+  pub missing : end ≡ Some Write → WritesShort old.written new.written (old.gathered ++ more)
+
+-- An effect of a line on the device and on the output: a unit is executed with the flushes that it waits for, so its reply
+-- is final and no unit is settled, and a text that is sent is appended to the output.
+abbrev pub IsDone : {D A : Type 0} {G : Ghosts D} → Exec D A G → OutputState → Effect → Exec D A G → OutputState → Type 0
+IsDone old output (effect.Executed request reply) new now = (now ≡ output) × (needs reply ≡ None) × Leads old new (IsUnit request reply)
+IsDone old output (effect.Settled reply) new now = ⊥
+IsDone old output (effect.Sent text last) new now = (new ≡ old) × Says output now text
+
+-- these messages are executed, and their text is output
+abbrev pub Answers : {D A : Type 0} {G : Ghosts D} → List Message → Exec D A G → Exec D A G → OutputState → OutputState → Type 0
+Answers due old new output now = (text : List ℕ) × Says output now text × Leads old new (λ p q. Runs due p q × (q.text ≡ p.text ++ text))
+
+-- a run of these messages ended, well or early for a cause, and output its text
+abbrev pub Ends : {D A : Type 0} {G : Ghosts D} → Exec D A G → Option RunCause → D → List Message → OutputState → OutputState → Type 0
+Ends {D} {A} {G} old end disk due output now = (text : List ℕ) × SaysUntil end output now text
+    × ForSome (disk_in old) (λ from. Ran old from disk (λ p q. (runs : RunsUpTo due p q)
+    × ((q.failures ≤ Ghosts.failures G disk) × StopsFor runs.rest runs.at q (Ghosts.failures G disk) (Ghosts.state G disk) end × IsLeftBy q.world (Ghosts.state G disk)) × (q.text ≡ p.text ++ text)))
+
+-- it ended early by this fault
+abbrev pub EndsEarly : {D A : Type 0} {G : Ghosts D} → Exec D A G → RunFault D → List Message → OutputState → OutputState → Type 0
+EndsEarly {D} {A} {G} old fault due output now = Ends old (Some fault.cause) fault.disk due output now × ((before : ℕ) → IsTied before old → IsByFailure G before fault)

@@ -1,11 +1,10 @@
 //! The execution of one unit, with the flushes that it waits for.
-ghost use Rattle.std.specs.Prelude.{◌≡◌, ◌≢◌, ◌↔◌, ◌<◌, ◌∷◌, ◌++◌, [], List, IfOk, IfErr, IsTrue, None, true, false};
+ghost use Rattle.std.specs.Prelude.{◌≡◌, ◌≢◌, ◌↔◌, ◌<◌, ◌∷◌, [], IfOk, IfErr, IsTrue, None, true, false};
 ghost use Rattle.psu_exec.specs.Calls.{Executed, Settled};
 ghost use Rattle.psu_exec.specs.Device.{Later, Parked, is_open, is_whole, wait_of};
 ghost use Rattle.psu_exec.specs.Shown.{outcome_of};
 ghost use Rattle.psu_messages.specs.Effects.{needs};
-ghost use Rattle.psu_run.specs.Progress.{DeviceStops, IsWornAtLast, Leads};
-ghost use Rattle.psu_run.specs.Runs.{Acts, Begins, Called, IsFlush, IsUnit, RunStep};
+ghost use Rattle.psu_run.specs.Runs.{Acts, Begins, Calls, DeviceStops, IsFlush, IsUnit, IsWornAtLast, Leads, RunPoint};
 
 use crate::RunCause;
 use crate::jobs::flush;
@@ -41,7 +40,7 @@ fn wait<D: Disk, A: Allocator + Copy>(
     requires first { session ≡ 1 }
     requires idle { exec.old.device.flush.out ≡ false }
     requires open { is_open exec.old.device 1 ≡ true }
-    ensures ends { IfOk result (λ o. Leads exec.old exec.new (λ steps. (flush : List RunStep) × IsFlush flush × (steps ≡ flush ++ Called (Settled 1 (outcome_of o)) ∷ []))) }
+    ensures ends { IfOk result (λ o. Leads exec.old exec.new (λ p q. (over : RunPoint) × IsFlush p over × Calls over (Settled 1 (outcome_of o)) q)) }
     ensures ended { IfOk result (λ o. needs (outcome_of o) ≡ None) }
     ensures free { wait_of exec.new.device.flush 1 ≡ None }
     ensures stops { IfErr result (DeviceStops exec.old exec.new (Begins [])) }
@@ -73,7 +72,7 @@ pub(crate) fn act<D: Disk, A: Allocator + Copy>(
     request: &Request<'_>,
 ) -> Result<Outcome<A>, RunCause>
     ensures acts { IfOk result (λ o. outcome_of o ≢ Later → Leads powered.old.exec powered.new.exec (Acts request.now (outcome_of o))) }
-    ensures late { IfOk result (λ o. outcome_of o ≡ Later → Leads powered.old.exec powered.new.exec (λ steps. steps ≡ Called (Executed 1 request.now Later) ∷ [])) }
+    ensures late { IfOk result (λ o. outcome_of o ≡ Later → Leads powered.old.exec powered.new.exec (λ p q. Calls p (Executed 1 request.now Later) q)) }
     ensures ended { IfOk result (λ o. outcome_of o ≢ Later → needs (outcome_of o) ≡ None) }
     ensures room { IfOk result (λ o. outcome_of o ≡ Later → (is_whole powered.old.exec.device.flush.store ≡ true) × (0 < powered.old.exec.device.flush.unflushed)) }
     ensures stops { IfErr result (DeviceStops powered.old.exec powered.new.exec (Begins (request.now ∷ []))) }

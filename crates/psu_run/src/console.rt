@@ -1,12 +1,11 @@
 //! The executor of a run: it executes units on the device and outputs their answers.
-ghost use Rattle.std.specs.Prelude.{◌≡◌, ◌≢◌, ◌⊎◌, ◌∷◌, [], List, ℕ, IfErr, IfOk, IfSome, OnOk, None};
+ghost use Rattle.std.specs.Prelude.{◌≡◌, ◌≢◌, ◌⊎◌, ◌∷◌, ◌++◌, [], List, ℕ, IfErr, IfOk, IfSome, OnOk, None, Some};
 ghost use Rattle.psu_messages.specs.Executions.{Advances, IsOver, StopsAt};
 ghost use Rattle.psu_messages.specs.Relations.{IsAwaited};
 ghost use Rattle.psu_messages.specs.ResponseBuffer.{nothing};
 ghost use Rattle.psu_messages.specs.Shown.{progress_of};
 ghost use Rattle.psu_run.specs.Lines.{Message, source_of};
-ghost use Rattle.psu_run.specs.Progress.{Answers, DeviceStops, IsDone, SaysUntil, held, output_state};
-ghost use Rattle.psu_run.specs.Runs.{Begins, LineBegins};
+ghost use Rattle.psu_run.specs.Runs.{Answers, Begins, DeviceStops, IsDone, NextBegins, SaysUntil, held};
 
 use crate::RunCause;
 use crate::acting::unit;
@@ -62,6 +61,9 @@ impl<'r, 'w, W: Write, D: Disk, A: Allocator + Copy> Executor<A> for Console<'r,
 
     ghost use Rattle.psu_run.specs.declared.run_cause.RunCause.{RunCause};
 
+    // An effect is done on the device and on the output. Where a unit fails, the device stops and the output stays. Where it
+    // stops otherwise, the device stays, and nothing more is output; of the text in the buffer some is missing if the writer
+    // failed.
     ghost relations = { record {
       does = λ x effect y. (y.responder.ghost_name ≡ x.responder.ghost_name) × (y.writer.ghost_name ≡ x.writer.ghost_name)
           × IsDone x.responder.now.powered.exec (held (W.contents x.writer.now) x.responder.now.output.items) effect y.responder.now.powered.exec (held (W.contents y.writer.now) y.responder.now.output.items);
@@ -69,9 +71,8 @@ impl<'r, 'w, W: Write, D: Disk, A: Allocator + Copy> Executor<A> for Console<'r,
           × (held (W.contents y.writer.now) y.responder.now.output.items ≡ held (W.contents x.writer.now) x.responder.now.output.items)
           × DeviceStops x.responder.now.powered.exec y.responder.now.powered.exec (Begins (request ∷ [])) cause × (cause ≢ RunCause.Write);
       stops = λ x cause y. (y.responder.ghost_name ≡ x.responder.ghost_name) × (y.writer.ghost_name ≡ x.writer.ghost_name)
-          × (y.responder.now.powered.exec ≡ x.responder.now.powered.exec)
-          × SaysUntil cause (held (W.contents x.writer.now) x.responder.now.output.items) (held (W.contents y.writer.now) y.responder.now.output.items) []
-          × ((cause ≡ RunCause.Memory) ⊎ (cause ≡ RunCause.Write));
+          × (y.responder.now.powered.exec ≡ x.responder.now.powered.exec) × ((cause ≡ RunCause.Memory) ⊎ (cause ≡ RunCause.Write))
+          × SaysUntil (Some cause) (held (W.contents x.writer.now) x.responder.now.output.items) (held (W.contents y.writer.now) y.responder.now.output.items) [];
       yields = λ _. ⊥;
     } };
 
@@ -111,13 +112,13 @@ impl<'r, 'w, W: Write, D: Disk, A: Allocator + Copy> Console<'r, 'w, W, D, A> {
     fn execute_line(&mut self, alloc: A, line: &[u8]) -> Result<(), RunCause>
         requires fresh { self.old.responder.now.gathered ≡ nothing }
         ensures runs { OnOk result (Answers (Message.Line (source_of line.now) ∷ []) self.old.responder.now.powered.exec self.new.responder.now.powered.exec
-            (output_state (W.contents self.old.writer.now) self.old.responder.now.output.items self.old.responder.now.gathered)
-            (output_state (W.contents self.new.writer.now) self.new.responder.now.output.items self.new.responder.now.gathered)) }
+            (held (W.contents self.old.writer.now) (self.old.responder.now.output.items ++ self.old.responder.now.gathered.rest))
+            (held (W.contents self.new.writer.now) (self.new.responder.now.output.items ++ self.new.responder.now.gathered.rest))) }
         ensures fresh { OnOk result (self.new.responder.now.gathered ≡ nothing) }
         ensures breaks { IfErr result (λ cause. (part : List ℕ)
-            × SaysUntil cause (output_state (W.contents self.old.writer.now) self.old.responder.now.output.items self.old.responder.now.gathered)
-            (output_state (W.contents self.new.writer.now) self.new.responder.now.output.items self.new.responder.now.gathered) part
-            × DeviceStops self.old.responder.now.powered.exec self.new.responder.now.powered.exec (LineBegins (source_of line.now) part) cause) }
+            × SaysUntil (Some cause) (held (W.contents self.old.writer.now) (self.old.responder.now.output.items ++ self.old.responder.now.gathered.rest))
+            (held (W.contents self.new.writer.now) (self.new.responder.now.output.items ++ self.new.responder.now.gathered.rest)) part
+            × DeviceStops self.old.responder.now.powered.exec self.new.responder.now.powered.exec (λ p q. NextBegins (Message.Line (source_of line.now) ∷ []) p q × (q.text ≡ p.text ++ part)) cause) }
         ensures responder { self.new.responder.ghost_name ≡ self.old.responder.ghost_name }
         ensures writer { self.new.writer.ghost_name ≡ self.old.writer.ghost_name }
     {
@@ -149,11 +150,11 @@ impl<D: Disk, A: Allocator + Copy> Responder<D, A> {
     ) -> Result<(), RunCause>
         requires fresh { self.old.gathered ≡ nothing }
         ensures runs { OnOk result (Answers (Message.Line (source_of line.now) ∷ []) self.old.powered.exec self.new.powered.exec
-            (output_state (W.contents writer.old) self.old.output.items self.old.gathered) (output_state (W.contents writer.new) self.new.output.items self.new.gathered)) }
+            (held (W.contents writer.old) (self.old.output.items ++ self.old.gathered.rest)) (held (W.contents writer.new) (self.new.output.items ++ self.new.gathered.rest))) }
         ensures fresh { OnOk result (self.new.gathered ≡ nothing) }
         ensures breaks { IfErr result (λ cause. (part : List ℕ)
-            × SaysUntil cause (output_state (W.contents writer.old) self.old.output.items self.old.gathered) (output_state (W.contents writer.new) self.new.output.items self.new.gathered) part
-            × DeviceStops self.old.powered.exec self.new.powered.exec (LineBegins (source_of line.now) part) cause) }
+            × SaysUntil (Some cause) (held (W.contents writer.old) (self.old.output.items ++ self.old.gathered.rest)) (held (W.contents writer.new) (self.new.output.items ++ self.new.gathered.rest)) part
+            × DeviceStops self.old.powered.exec self.new.powered.exec (λ p q. NextBegins (Message.Line (source_of line.now) ∷ []) p q × (q.text ≡ p.text ++ part)) cause) }
     {
         let mut console = Console {
             responder: &mut *self,

@@ -1,10 +1,9 @@
 //! The run over a reader and a writer.
-ghost use Rattle.std.specs.Prelude.{◌≡◌, ◌⊎◌, ◌<◌, ◌≤◌, length, [], List, OnOk, IfOk, IfErr, IfSome};
+ghost use Rattle.std.specs.Prelude.{◌≡◌, ◌≢◌, ◌⊎◌, ◌<◌, ◌≤◌, length, [], List, OnOk, IfOk, IfErr, IfSome, None, Some};
 ghost use Rattle.psu_disk.specs.Disk.{LeavesOnly};
-ghost use Rattle.psu_run.specs.Lines.{Brings, IsReadToEnd, Message, ReadsNoFurther, messages};
+ghost use Rattle.psu_run.specs.Lines.{Brings, IsReadToEnd, IsTooLong, Message, ReadsNoFurther, messages};
 ghost use Rattle.psu_messages.specs.ResponseBuffer.{nothing};
-ghost use Rattle.psu_run.specs.Progress.{Answers, EndsEarly, RanAll, held};
-ghost use Rattle.psu_run.specs.Runs.{DoesNotStart, GivenByInput, IsByFailure, IsOfRun, WritesFirst, WritesRun, disk_from, disk_of, never};
+ghost use Rattle.psu_run.specs.Runs.{Answers, DoesNotStart, Ends, EndsEarly, IsByFailure, IsOfRun, WritesTo, disk_from, disk_of, held};
 
 use crate::intake::Intake;
 use crate::jobs::flush;
@@ -24,8 +23,9 @@ impl<D: Disk, A: Allocator + Copy> RunState<D, A> {
         requires fresh { self.responder.gathered ≡ nothing }
         ensures whole { IfOk result (λ p. Answers (messages self.lines.line.items) self.responder.powered.exec
             p.exec (held (W.contents writer.old) []) (held (W.contents writer.new) [])) }
-        ensures early { IfErr result (λ f. EndsEarly never self.responder.powered.exec f (messages self.lines.line.items)
+        ensures early { IfErr result (λ f. EndsEarly self.responder.powered.exec f (messages self.lines.line.items)
             (held (W.contents writer.old) []) (held (W.contents writer.new) [])) }
+        ensures input { IfErr result (λ f. (f.cause ≢ RunCause.Read) × (f.cause ≢ RunCause.TooLong)) }
     {
         if self.lines.is_empty() {
             return Ok(self.into_device());
@@ -39,10 +39,11 @@ impl<D: Disk, A: Allocator + Copy> RunState<D, A> {
     fn finish<W: Write>(self, writer: &mut W) -> Result<D, RunFault<D>>
         requires none { self.responder.output.items ≡ [] }
         requires fresh { self.responder.gathered ≡ nothing }
-        ensures whole { IfOk result (λ d. RanAll self.responder.powered.exec (messages self.lines.line.items) d
+        ensures whole { IfOk result (λ d. Ends self.responder.powered.exec None d (messages self.lines.line.items)
             (held (W.contents writer.old) []) (held (W.contents writer.new) [])) }
-        ensures early { IfErr result (λ f. EndsEarly never self.responder.powered.exec f (messages self.lines.line.items)
+        ensures early { IfErr result (λ f. EndsEarly self.responder.powered.exec f (messages self.lines.line.items)
             (held (W.contents writer.old) []) (held (W.contents writer.new) [])) }
+        ensures input { IfErr result (λ f. (f.cause ≢ RunCause.Read) × (f.cause ≢ RunCause.TooLong)) }
     {
         let mut powered = self.last_line(writer)?;
         match flush(&mut powered.exec) {
@@ -68,10 +69,10 @@ fn execute_pieces<R: Source, W: Write, D: Disk, A: Allocator + Copy>(
     requires none { run.responder.output.items ≡ [] }
     requires fresh { run.responder.gathered ≡ nothing }
     ensures whole { IfOk result (λ d. (due : List Message) × Brings (R.remaining reader.old) due
-        × RanAll run.responder.powered.exec due d (held (W.contents writer.old) []) (held (W.contents writer.new) [])) }
+        × Ends run.responder.powered.exec None d due (held (W.contents writer.old) []) (held (W.contents writer.new) [])) }
     ensures early { IfErr result (λ f. (due : List Message) × Brings (R.remaining reader.old) due
-        × EndsEarly (GivenByInput (R.remaining reader.old) (R.remaining reader.new) (R.reads reader.old) (R.reads reader.new))
-        run.responder.powered.exec f due (held (W.contents writer.old) []) (held (W.contents writer.new) [])) }
+        × EndsEarly run.responder.powered.exec f due (held (W.contents writer.old) []) (held (W.contents writer.new) [])) }
+    ensures long { IfErr result (λ f. f.cause ≡ RunCause.TooLong → IsTooLong (R.remaining reader.old) (R.remaining reader.new) (R.reads reader.old) (R.reads reader.new)) }
     ensures short { OnOk result (IfSome (R.remaining reader.old) (λ input. length input ≤ 16777216)) }
     ensures ends { OnOk result (IsReadToEnd (R.remaining reader.old) (R.remaining reader.new) (R.reads reader.old) (R.reads reader.new)) }
     ensures reads { ReadsNoFurther (length piece.old) (R.remaining reader.old) (R.remaining reader.new) (R.reads reader.old) (R.reads reader.new) }
@@ -104,7 +105,7 @@ pub fn run<R: Source, W: Write, D: Disk, A: Allocator + Copy>(
     writer: &mut W,
     start: RunStart<D, A>,
 ) -> Result<D, RunFault<D>>
-    ensures whole { D.honest → IfOk result (λ d. WritesRun (D.state (disk_from start)).bytes (R.remaining reader.old) (D.failures (disk_from start)) (D.failures d)
+    ensures whole { D.honest → IfOk result (λ d. WritesTo None (D.state (disk_from start)).bytes (R.remaining reader.old) (D.failures (disk_from start)) (D.failures d)
         (W.contents writer.old) (W.contents writer.new) (D.state d)) }
     ensures short { OnOk result (IfSome (R.remaining reader.old) (λ input. length input ≤ 16777216)) }
 
@@ -121,14 +122,16 @@ pub fn run<R: Source, W: Write, D: Disk, A: Allocator + Copy>(
     // contents after a prefix of the units executed up to some point of the run; that prefix contains every unit before
     // a `*OPC?` answered by that point. No clause can say which point belongs to a moment: a contract sees the reader,
     // the writer and the disk only at the two ends of the run.
-    ensures time { D.honest → D.records → LeavesOnly D.moment D.left_since (disk_from start) (disk_of result) (IsOfRun (D.state (disk_from start)) (R.remaining reader.old)) }
+    ensures time { D.honest → D.records → LeavesOnly D.moment D.left_since (disk_from start) (disk_of result) (IsOfRun (D.state (disk_from start)) (R.remaining reader.old) (D.failures (disk_from start))) }
 
     // After a fault: where the disk does not power on, nothing was read and nothing was written; otherwise the output
     // of the lines before the fault was written.
     ensures early { D.honest → IfErr result (λ f.
         DoesNotStart f.cause (D.failures (disk_from start)) (D.failures f.disk) (R.remaining reader.old) (R.remaining reader.new) (W.contents writer.old) (W.contents writer.new) (D.state (disk_from start)) (D.state f.disk)
-        ⊎ WritesFirst (GivenByInput (R.remaining reader.old) (R.remaining reader.new) (R.reads reader.old) (R.reads reader.new))
-        f.cause (D.state (disk_from start)).bytes (R.remaining reader.old) (D.failures (disk_from start)) (D.failures f.disk) (W.contents writer.old) (W.contents writer.new) (D.state f.disk)) }
+        ⊎ WritesTo (Some f.cause) (D.state (disk_from start)).bytes (R.remaining reader.old) (D.failures (disk_from start)) (D.failures f.disk) (W.contents writer.old) (W.contents writer.new) (D.state f.disk)) }
+
+    // It ends since the input is too long only where it is.
+    ensures long { IfErr result (λ f. f.cause ≡ RunCause.TooLong → IsTooLong (R.remaining reader.old) (R.remaining reader.new) (R.reads reader.old) (R.reads reader.new)) }
 
     // On every disk, honest or not: it ends by a fault of the device, also in a restart, only where a disk call failed,
     // unless the fault says that the store is worn; on an honest disk the root's number shows that.

@@ -1,14 +1,14 @@
 //! The flush: jobs are run until there is none.
-ghost use Rattle.std.specs.Prelude.{◌≡◌, ◌≢◌, ◌⊎◌, ◌↔◌, ◌≤◌, ℕ, List, [], ◌∷◌, OnOk, IfOk, IfErr, IsTrue, true, false, None, Some};
-ghost use Rattle.psu_disk.specs.Disk.{HasFailed};
+ghost use Rattle.std.specs.Prelude.{◌≡◌, ◌≢◌, ◌⊎◌, ◌↔◌, ◌≤◌, ℕ, List, [], OnOk, IfOk, IfErr, IsTrue, true, false, None, Some};
+ghost use Rattle.std.specs.Option.{ForSome};
+ghost use Rattle.psu_disk.specs.Disk.{HasFailed, LeavesOnly};
 ghost use Rattle.psu_items.specs.Image.{IsEither};
 ghost use Rattle.psu_exec.specs.World.{IsTrueOf};
-ghost use Rattle.psu_exec.specs.Calls.{Commit, GaveBack, HasNone, HasWork, JobEnd, Nothing, Serves, Took, job_of};
+ghost use Rattle.psu_exec.specs.Calls.{Commit, GaveBack, HasNone, HasWork, JobEnd, JobKind, Nothing, Reopen, Serves, Took, job_of};
 ghost use Rattle.psu_exec.specs.Device.{is_broken, is_open, target, wait_of};
 ghost use Rattle.psu_exec.specs.Jobs.{finished_of, job_data, job_disk};
 ghost use Rattle.psu_exec.specs.declared.idle_store.Condition.TheVariants.{Whole, Worn};
-ghost use Rattle.psu_run.specs.Progress.{DeviceStops, IsTied, IsWornAtLast, Leads, Since, disk_at, disk_in, extent_of, failures_of};
-ghost use Rattle.psu_run.specs.Runs.{Begins, Called, EndsJob, IsFlush, IsJob, IsSound, MemoryRefused, Reopens, StoreBroken, fault_of};
+ghost use Rattle.psu_run.specs.Runs.{Begins, Calls, DeviceStops, EndsJob, IsFlush, IsJob, IsTied, IsWornAtLast, IsWornOut, Leads, MemoryRefused, NoNumber, StoreBroken, disk_in, failures_of, fault_of};
 
 use crate::RunCause;
 use psu_disk::Disk;
@@ -48,15 +48,16 @@ fn is_broken(condition: Condition) -> bool
 fn run_job<D: Disk, A: Allocator + Copy>(exec: &mut Exec<D, A>, job: Job<D, A>) -> bool
     requires out { exec.old.device.flush.out ≡ true }
     requires own { job_data job ≡ job_of exec.old.device.flush }
+    // How the job ended: the device accepts this end, one that the kind of the job may have; the result says whether it is
+    // out of memory; and on an honest disk the end is true of the disk.
     ensures run { (finished : JobEnd) × (over : List ℕ) × Serves exec.old.device (GaveBack finished (Some over)) exec.new.device
         × (IsTrue result ↔ (fault_of finished ≡ Some MemoryRefused)) × EndsJob (job_data job).kind finished
-        × (D.honest → IsTrueOf (target exec.old.device.flush) finished (disk_at exec.new.idle_store)
-        × IsSound (GaveBack finished (Some over)) (disk_at exec.new.idle_store).bytes
-        × (fault_of finished ≡ Some StoreBroken → HasFailed (D.failures (job_disk job)) (failures_of exec.new))) }
-    ensures later { D.failures (job_disk job) ≤ failures_of exec.new }
-    ensures extent { extent_of exec.new ≡ D.extent (job_disk job) }
+        × (D.honest → ForSome (disk_in exec.new) (λ disk. IsTrueOf (target exec.old.device.flush) finished (D.state disk)
+        × (fault_of finished ≡ Some StoreBroken → HasFailed (D.failures (job_disk job)) (D.failures disk))
+        × (fault_of finished ≡ Some NoNumber → IsWornOut (D.state disk).bytes))) }
+    ensures disk { (disk : D) × (disk_in exec.new ≡ Some disk) × (D.failures (job_disk job) ≤ D.failures disk) × (D.extent disk ≡ D.extent (job_disk job))
+        × (D.honest → D.records → LeavesOnly D.moment D.left_since (job_disk job) disk (IsEither (job_data job).limit (job_data job).before (job_data job).target)) }
     ensures worn { IsWornAtLast exec.new }
-    ensures time { D.honest → D.records → Since D.Disk (Some (job_disk job)) (disk_in exec.new.idle_store) (IsEither (job_data job).limit (job_data job).before (job_data job).target) }
     // Only a failed disk call breaks a store that was whole.
     ensures breaks { (job_data job).kind ≡ Commit → is_broken exec.new.device.flush.store ≡ true → HasFailed (D.failures (job_disk job)) (failures_of exec.new) }
 {
@@ -71,8 +72,8 @@ fn run_job<D: Disk, A: Allocator + Copy>(exec: &mut Exec<D, A>, job: Job<D, A>) 
 // Takes a job, runs it and gives it back, if there is one. A job that ends out of memory ends the run.
 fn run_next<D: Disk, A: Allocator + Copy>(exec: &mut Exec<D, A>) -> Result<Work, RunCause>
     requires idle { exec.old.device.flush.out ≡ false }
-    ensures job { IfOk result (λ work. work ≡ Work.Job → Leads exec.old exec.new IsJob) }
-    ensures take { IfOk result (λ work. work ≡ Work.Nothing → Leads exec.old exec.new (λ steps. steps ≡ Called (Took Nothing) ∷ [])) }
+    ensures job { IfOk result (λ work. work ≡ Work.Job → Leads exec.old exec.new (λ p q. (kind : JobKind) × IsJob kind p q)) }
+    ensures take { IfOk result (λ work. work ≡ Work.Nothing → Leads exec.old exec.new (λ p q. Calls p (Took Nothing) q)) }
     ensures stops { IfErr result (DeviceStops exec.old exec.new (Begins [])) }
     ensures memory { IfErr result (λ cause. cause ≡ RunCause.Memory) }
     ensures idle { exec.new.device.flush.out ≡ false }
@@ -129,7 +130,7 @@ pub(crate) fn flush<D: Disk, A: Allocator + Copy>(exec: &mut Exec<D, A>) -> Resu
 /// Reopens a broken store. A store that stays broken ends the run.
 pub(crate) fn reopen<D: Disk, A: Allocator + Copy>(exec: &mut Exec<D, A>) -> Result<(), RunCause>
     requires idle { exec.old.device.flush.out ≡ false }
-    ensures reopens { OnOk result (Leads exec.old exec.new Reopens) }
+    ensures reopens { OnOk result (Leads exec.old exec.new (λ p q. (q ≡ p) ⊎ IsJob Reopen p q)) }
     ensures stops { IfErr result (DeviceStops exec.old exec.new (Begins [])) }
     ensures other { IfErr result (λ cause. cause ≢ RunCause.Write) }
     ensures failed { IfErr result (λ cause. cause ≡ RunCause.Device → (before : ℕ) → IsTied before exec.old → HasFailed before (failures_of exec.new)) }

@@ -2,8 +2,7 @@
 ghost use Rattle.std.specs.Prelude.{◌≡◌, ◌≢◌, ◌∷◌, ◌++◌, [], List, ℕ, OnOk, IfOk, IfErr};
 ghost use Rattle.psu_messages.specs.ResponseBuffer.{nothing};
 ghost use Rattle.psu_run.specs.Lines.{Message, messages};
-ghost use Rattle.psu_run.specs.Progress.{EndsEarly, Fed, Leads, RunStops, held, output_state};
-ghost use Rattle.psu_run.specs.Runs.{Runs, never};
+ghost use Rattle.psu_run.specs.Runs.{Answers, EndsEarly, Leads, OutputState, Runs, held};
 
 use crate::jobs::reopen;
 use crate::lines::is_power;
@@ -23,9 +22,10 @@ fn restart_device<D: Disk, A: Allocator + Copy>(
     alloc: A,
     powered: PoweredDevice<D, A>,
 ) -> Result<PoweredDevice<D, A>, RunFault<D>>
-    ensures runs { IfOk result (λ p. Leads powered.exec p.exec (Runs (Message.Power ∷ []) [])) }
-    ensures stops { IfErr result (λ f. (rest : List Message) → RunStops never powered.exec f (Message.Power ∷ rest) []) }
+    ensures runs { IfOk result (λ p. Leads powered.exec p.exec (Runs (Message.Power ∷ []))) }
+    ensures stops { IfErr result (λ f. (rest : List Message) (output : OutputState) → EndsEarly powered.exec f (Message.Power ∷ rest) output output) }
     ensures other { IfErr result (λ f. f.cause ≢ RunCause.Write) }
+    ensures input { IfErr result (λ f. (f.cause ≢ RunCause.Read) × (f.cause ≢ RunCause.TooLong)) }
 {
     let mut powered = powered;
     match reopen(&mut powered.exec) {
@@ -40,11 +40,12 @@ fn restart_device<D: Disk, A: Allocator + Copy>(
 impl<D: Disk, A: Allocator + Copy> RunState<D, A> {
     // Simulates a power loss at rest and a restart, and keeps the output that is not yet written.
     fn restart<W: Write>(self, writer: &mut W) -> Result<RunState<D, A>, RunFault<D>>
-        ensures runs { IfOk result (λ r. Leads self.responder.powered.exec r.responder.powered.exec (Runs (Message.Power ∷ []) [])) }
+        ensures runs { IfOk result (λ r. Leads self.responder.powered.exec r.responder.powered.exec (Runs (Message.Power ∷ []))) }
         ensures same { IfOk result (λ r. (r.lines ≡ self.lines) × (r.responder.output ≡ self.responder.output) × (r.responder.gathered ≡ self.responder.gathered)) }
         ensures silent { OnOk result (W.contents writer.new ≡ W.contents writer.old) }
-        ensures stops { IfErr result (λ f. (rest : List Message) → EndsEarly never self.responder.powered.exec f (Message.Power ∷ rest)
-            (output_state (W.contents writer.old) self.responder.output.items self.responder.gathered) (held (W.contents writer.new) [])) }
+        ensures stops { IfErr result (λ f. (rest : List Message) → EndsEarly self.responder.powered.exec f (Message.Power ∷ rest)
+            (held (W.contents writer.old) (self.responder.output.items ++ self.responder.gathered.rest)) (held (W.contents writer.new) [])) }
+        ensures input { IfErr result (λ f. (f.cause ≢ RunCause.Read) × (f.cause ≢ RunCause.TooLong)) }
     {
         let Responder {
             powered,
@@ -72,11 +73,16 @@ impl<D: Disk, A: Allocator + Copy> RunState<D, A> {
         writer: &mut W,
     ) -> Result<RunState<D, A>, RunFault<D>>
         requires { self.responder.gathered ≡ nothing }
-        ensures fed { IfOk result (λ r. Fed self.lines.line.items piece.now r.lines.line.items self.responder.powered.exec r.responder.powered.exec
-            (output_state (W.contents writer.old) self.responder.output.items self.responder.gathered) (output_state (W.contents writer.new) r.responder.output.items r.responder.gathered)) }
+        // However the input continues: the messages due before this piece are those that end in it, which were executed, and
+        // those due after it.
+        ensures fed { IfOk result (λ r. (done : List Message)
+            × ((input : List ℕ) → messages (self.lines.line.items ++ (piece.now ++ input)) ≡ done ++ messages (r.lines.line.items ++ input))
+            × Answers done self.responder.powered.exec r.responder.powered.exec
+            (held (W.contents writer.old) (self.responder.output.items ++ self.responder.gathered.rest)) (held (W.contents writer.new) (r.responder.output.items ++ r.responder.gathered.rest))) }
         ensures fresh { IfOk result (λ r. r.responder.gathered ≡ nothing) }
-        ensures stopped { IfErr result (λ f. (input : List ℕ) → EndsEarly never self.responder.powered.exec f (messages (self.lines.line.items ++ (piece.now ++ input)))
-            (output_state (W.contents writer.old) self.responder.output.items self.responder.gathered) (held (W.contents writer.new) [])) }
+        ensures stopped { IfErr result (λ f. (input : List ℕ) → EndsEarly self.responder.powered.exec f (messages (self.lines.line.items ++ (piece.now ++ input)))
+            (held (W.contents writer.old) (self.responder.output.items ++ self.responder.gathered.rest)) (held (W.contents writer.new) [])) }
+        ensures input { IfErr result (λ f. (f.cause ≢ RunCause.Read) × (f.cause ≢ RunCause.TooLong)) }
     {
         let mut run = self;
         let mut rest = piece;
@@ -109,12 +115,16 @@ impl<D: Disk, A: Allocator + Copy> RunState<D, A> {
     ) -> Result<RunState<D, A>, RunFault<D>>
         requires none { self.responder.output.items ≡ [] }
         requires fresh { self.responder.gathered ≡ nothing }
-        ensures fed { IfOk result (λ r. Fed self.lines.line.items piece.now r.lines.line.items self.responder.powered.exec r.responder.powered.exec
+        ensures fed { IfOk result (λ r. (done : List Message)
+            × ((input : List ℕ) → messages (self.lines.line.items ++ (piece.now ++ input)) ≡ done ++ messages (r.lines.line.items ++ input))
+            × Answers done self.responder.powered.exec r.responder.powered.exec
             (held (W.contents writer.old) []) (held (W.contents writer.new) [])) }
         ensures none { IfOk result (λ r. r.responder.output.items ≡ []) }
         ensures fresh { IfOk result (λ r. r.responder.gathered ≡ nothing) }
-        ensures stopped { IfErr result (λ f. (input : List ℕ) → EndsEarly never self.responder.powered.exec f (messages (self.lines.line.items ++ (piece.now ++ input)))
+        ensures stopped { IfErr result (λ f. (input : List ℕ) → EndsEarly self.responder.powered.exec f (messages (self.lines.line.items ++ (piece.now ++ input)))
             (held (W.contents writer.old) []) (held (W.contents writer.new) [])) }
+        // Neither a failed read nor the length of the input is the cause.
+        ensures input { IfErr result (λ f. (f.cause ≢ RunCause.Read) × (f.cause ≢ RunCause.TooLong)) }
     {
         let mut run = self.execute_lines(piece, writer)?;
         let Ok(()) = put(writer, run.responder.output.as_slice()) else {

@@ -6,12 +6,10 @@ ghost use Rattle.psu_items.specs.Finding.{IsOldOrSame};
 ghost use Rattle.psu_items.specs.Image.{EachRepresents, Represents};
 ghost use Rattle.psu_map.specs.Map.{Item};
 ghost use Rattle.psu_exec.specs.Device.{is_broken, is_denied, is_open, wait_of};
-ghost use Rattle.psu_exec.specs.Jobs.{idle_disk};
+ghost use Rattle.psu_exec.specs.World.{World};
 ghost use Rattle.psu_exec.specs.declared.idle_store.Condition.TheVariants.{Worn};
-ghost use Rattle.psu_exec.specs.declared.idle_store.IdleStore.TheVariants as when_idle;
 ghost use Rattle.psu_exec.specs.declared.start_cause.StartFault.{StartFault};
-ghost use Rattle.psu_run.specs.Progress.{FaultOf, IsWornAtLast, born, disk_in, extent_of, failures_of, world_of};
-ghost use Rattle.psu_run.specs.Runs.{IsByFailure, IsWornOut, NotStarted, PowersOn, cause_of, disk_from};
+ghost use Rattle.psu_run.specs.Runs.{FaultOf, IsAt, IsByFailure, IsWornAtLast, IsWornOut, NotStarted, PowersOn, at_power_on, cause_of, disk_from, disk_in};
 
 use crate::{RunCause, RunFault, RunStart};
 use psu_disk::Disk;
@@ -44,12 +42,13 @@ impl<D: Disk, A: Allocator + Copy> PoweredDevice<D, A> {
     /// Powers on with the contents of a store, and opens the session. The image is any that represents the store's map.
     pub fn of_store(alloc: A, store: Store<D, A>) -> Result<PoweredDevice<D, A>, RunFault<D>>
         ensures starts { D.honest → (image : List ℕ) → Represents image store.limit store.items → length (D.state store.disk).bytes ≡ length image
-            → IfOk result (λ p. PowersOn image (world_of (born p.exec) p.exec)) }
+            → IfOk result (λ p. (power : World) × PowersOn image power × IsAt p.exec store.disk (at_power_on power (D.failures store.disk))) }
         ensures own { D.honest → Represents (D.state store.disk).bytes store.limit store.items }
-        ensures store { IfOk result (λ p. p.exec.idle_store ≡ Some (when_idle.Whole store)) }
+        ensures stored { IfOk result (λ p. disk_in p.exec ≡ Some store.disk) }
         ensures whole { IfOk result (λ p. is_broken p.exec.device.flush.store ≡ false) }
 
         ensures other { IfErr result (λ f. f.cause ≢ RunCause.Write) }
+        ensures input { IfErr result (λ f. (f.cause ≢ RunCause.Read) × (f.cause ≢ RunCause.TooLong)) }
         ensures refused { IfErr result (λ f. (image : List ℕ) → Represents image store.limit store.items
             → (why : StartFault) × (f.cause ≡ cause_of why) × NotStarted image (D.failures store.disk) (D.failures store.disk) why) }
         ensures failed { IfErr result (IsByFailure D.Disk (D.failures store.disk)) }
@@ -75,13 +74,13 @@ impl<D: Disk, A: Allocator + Copy> PoweredDevice<D, A> {
 
     /// Opens the disk that the run begins on, unless its store is open, powers on with its contents, and opens the session.
     pub fn on(alloc: A, start: RunStart<D, A>) -> Result<PoweredDevice<D, A>, RunFault<D>>
-        ensures starts { D.honest → IfOk result (λ p. PowersOn (D.state (disk_from start)).bytes (world_of (born p.exec) p.exec)) }
-        ensures works { IfOk result (λ p. failures_of p.exec ≡ D.failures (disk_from start)) }
-        ensures size { IfOk result (λ p. extent_of p.exec ≡ D.extent (disk_from start)) }
-        ensures stored { IfOk result (λ p. p.exec.idle_store ≢ None) }
+        ensures starts { D.honest → IfOk result (λ p. (power : World) × PowersOn (D.state (disk_from start)).bytes power
+            × ForSome (disk_in p.exec) (λ disk. IsAt p.exec disk (at_power_on power (D.failures disk)))) }
+        ensures disk { IfOk result (λ p. (disk : D) × (disk_in p.exec ≡ Some disk) × (D.failures disk ≡ D.failures (disk_from start)) × (D.extent disk ≡ D.extent (disk_from start))) }
         ensures whole { IfOk result (λ p. is_broken p.exec.device.flush.store ≡ false) }
 
         ensures other { IfErr result (λ f. f.cause ≢ RunCause.Write) }
+        ensures input { IfErr result (λ f. (f.cause ≢ RunCause.Read) × (f.cause ≢ RunCause.TooLong)) }
         ensures refused { D.honest → IfErr result (λ f. (why : StartFault) × (f.cause ≡ cause_of why)
             × NotStarted (D.state (disk_from start)).bytes (D.failures (disk_from start)) (D.failures f.disk) why) }
         ensures failed { IfErr result (IsByFailure D.Disk (D.failures (disk_from start))) }
@@ -90,8 +89,7 @@ impl<D: Disk, A: Allocator + Copy> PoweredDevice<D, A> {
         // At each moment since the call began, each possible crash image is one from before, or has the root that was
         // current when the disk was read.
         ensures time { D.honest → D.records → IfOk result (λ p.
-            ForSome p.exec.idle_store (λ h. LeavesOnly D.moment D.left_since (disk_from start) (idle_disk h)
-            (IsOldOrSame (D.state (disk_from start))))) }
+            ForSome (disk_in p.exec) (λ disk. LeavesOnly D.moment D.left_since (disk_from start) disk (IsOldOrSame (D.state (disk_from start))))) }
         ensures time_refused { D.honest → D.records → IfErr result (λ f. LeavesOnly D.moment D.left_since (disk_from start) f.disk (IsOldOrSame (D.state (disk_from start)))) }
 
         // A disk that does not power on also keeps the map that each of its possible crash images represented.
@@ -122,7 +120,7 @@ impl<D: Disk, A: Allocator + Copy> PoweredDevice<D, A> {
 
     /// Ends the device and returns its disk.
     pub fn into_disk(self) -> D
-        ensures same { disk_in self.exec.idle_store ≡ Some result }
+        ensures same { disk_in self.exec ≡ Some result }
         ensures stands { D.honest → is_broken self.exec.device.flush.store ≡ false
             → EachRepresents (D.state result) self.exec.device.flush.limit self.exec.device.flush.before }
         ensures worn { D.honest → self.exec.device.flush.store ≡ Worn → IsWornOut (D.state result).bytes }

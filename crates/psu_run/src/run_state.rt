@@ -1,7 +1,9 @@
 //! What a run has in hand.
-ghost use Rattle.std.specs.Prelude.{◌≡◌, ◌↔◌, ◌++◌, [], IsTrue};
+ghost use Rattle.std.specs.Prelude.{◌≡◌, ◌⊎◌, ◌↔◌, ◌++◌, [], List, IsTrue};
 ghost use Rattle.psu_messages.specs.ResponseBuffer.{nothing};
-ghost use Rattle.psu_run.specs.Progress.{FaultOf, IsWrittenBefore, held, output_state};
+ghost use Rattle.psu_run.specs.Runs.{EndsEarly, FaultOf, OutputState, held};
+ghost use Rattle.psu_exec.specs.Exec.{Exec};
+ghost use Rattle.psu_run.specs.Lines.{Message};
 ghost use Rattle.psu_run.specs.declared.run_fault.RunFault.{RunFault as AnyFault};
 
 use crate::lines::Lines;
@@ -45,7 +47,9 @@ pub(crate) fn write_before<W: Write, D: Disk, A: Allocator + Copy>(
     gathered: &ResponseBuffer<A>,
     writer: &mut W,
 ) -> RunFault<D>
-    ensures { IsWrittenBefore A D.Disk fault result (held (W.contents writer.old) (output.now ++ gathered.now.rest)) (held (W.contents writer.new) []) }
+    ensures cause { (result.cause ≡ fault.cause) ⊎ (result.cause ≡ RunCause.Write) }
+    ensures ends { (old : Exec D A D.Disk) (due : List Message) (before : OutputState)
+        → EndsEarly old fault due before (held (W.contents writer.old) (output.now ++ gathered.now.rest)) → EndsEarly old result due before (held (W.contents writer.new) []) }
 {
     if is_write(fault.cause) {
         return fault;
@@ -93,8 +97,10 @@ impl<D: Disk, A: Allocator + Copy> RunState<D, A> {
 
     /// Ends the run early, for this cause, once the output before it is written.
     pub fn end_early<W: Write>(self, cause: RunCause, writer: &mut W) -> RunFault<D>
-        ensures { (fault : AnyFault D) × FaultOf self.responder.powered.exec cause fault
-            × IsWrittenBefore A D.Disk fault result (output_state (W.contents writer.old) self.responder.output.items self.responder.gathered) (held (W.contents writer.new) []) }
+        ensures cause { (result.cause ≡ cause) ⊎ (result.cause ≡ RunCause.Write) }
+        ensures ends { (fault : AnyFault D) × FaultOf self.responder.powered.exec cause fault
+            × ((old : Exec D A D.Disk) (due : List Message) (before : OutputState)
+            → EndsEarly old fault due before (held (W.contents writer.old) (self.responder.output.items ++ self.responder.gathered.rest)) → EndsEarly old result due before (held (W.contents writer.new) [])) }
     {
         let Responder {
             powered,

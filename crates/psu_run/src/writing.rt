@@ -1,6 +1,6 @@
 //! The output buffer, which is written when it has grown too long.
-ghost use Rattle.std.specs.Prelude.{◌≡◌, ◌⊎◌, [], OnOk, IfErr};
-ghost use Rattle.psu_run.specs.Progress.{Says, SaysUntil, held};
+ghost use Rattle.std.specs.Prelude.{◌≡◌, ◌⊎◌, [], OnOk, IfErr, Some};
+ghost use Rattle.psu_run.specs.Runs.{Says, SaysUntil, held};
 
 use crate::RunCause;
 use crate::output::put;
@@ -16,7 +16,7 @@ pub(crate) fn append_output<W: Write, A: Allocator + Copy>(
     writer: &mut W,
 ) -> Result<(), RunCause>
     ensures says { OnOk result (Says (held (W.contents writer.old) output.old.items) (held (W.contents writer.new) output.new.items) text.now) }
-    ensures until { IfErr result (λ cause. SaysUntil cause (held (W.contents writer.old) output.old.items) (held (W.contents writer.new) output.new.items) []) }
+    ensures until { IfErr result (λ cause. SaysUntil (Some cause) (held (W.contents writer.old) output.old.items) (held (W.contents writer.new) output.new.items) []) }
     ensures own { IfErr result (λ cause. (cause ≡ RunCause.Memory) ⊎ (cause ≡ RunCause.Write)) }
 {
     write_on(output, writer)?;
@@ -32,7 +32,7 @@ fn write_on<W: Write, A: Allocator + Copy>(
     writer: &mut W,
 ) -> Result<(), RunCause>
     ensures says { OnOk result (Says (held (W.contents writer.old) output.old.items) (held (W.contents writer.new) output.new.items) []) }
-    ensures until { IfErr result (λ cause. SaysUntil cause (held (W.contents writer.old) output.old.items) (held (W.contents writer.new) output.new.items) []) }
+    ensures until { IfErr result (λ cause. SaysUntil (Some cause) (held (W.contents writer.old) output.old.items) (held (W.contents writer.new) output.new.items) []) }
     ensures own { IfErr result (λ cause. cause ≡ RunCause.Write) }
 {
     if output.len() <= RESPONSE_ROOM {

@@ -1,14 +1,14 @@
-use Rattle.std.proofs.Common.{ℕ, List, Some, subst}
-use Rattle.psu_run.specs.Runs.{WritesRun}
+use Rattle.std.proofs.Common.{ℕ, List, None, Some, subst}
+use Rattle.psu_run.specs.Runs.{WritesTo}
 use Rattle.psu_guide.proofs.play.written.Goals as goal
 
 -- the writer held nothing
 pub returns-in-Ok-clause-whole : goal.returns-in-Ok-clause-whole
 returns-in-Ok-clause-whole g c = λ h. (
   c.in-Ok._over,
-  subst (λ (x : List ℕ). WritesRun (g.D.Disk.state c.args.disk).bytes (Some c.args.sent.now) (g.D.Disk.failures c.args.disk) (g.D.Disk.failures c.in-Ok._over) (Some x) (Some c.run.new.writer.items) (g.D.Disk.state c.in-Ok._over))
+  subst (λ (x : List ℕ). WritesTo None (g.D.Disk.state c.args.disk).bytes (Some c.args.sent.now) (g.D.Disk.failures c.args.disk) (g.D.Disk.failures c.in-Ok._over) (Some x) (Some c.run.new.writer.items) (g.D.Disk.state c.in-Ok._over))
       c.new-text.ensures.items (c.in-Ok.ensures.whole h),
 )
 
 pub returns-in-Err-clause-early : goal.returns-in-Err-clause-early
-returns-in-Err-clause-early g c = λ h. (c.in-Err.fault.disk, c.run.new.reader.now, c.run.new.writer.items, rw c.new-text.ensures.items at (c.in-Err.ensures.early h))
+returns-in-Err-clause-early g c = λ h. (c.in-Err.fault.disk, c.run.new.reader.now, c.run.new.writer.items, rw c.new-text.ensures.items at (c.in-Err.ensures.early h), c.in-Err.ensures.long)

@@ -1,29 +1,32 @@
-use Rattle.std.proofs.Common.{◌≡◌, [], ◌∷◌, arith, inr, refl}
-use Rattle.psu_run.proofs.Common.{Called, Executed, Parked, Serves, outcome_of, passed}
-use Rattle.psu_run.proofs.Going.{steps_call, steps_then, device_stops_then}
+use Rattle.psu_run.proofs.Common.{[], arith, inl, inr, refl, Acts, Calls, Executed, OneCall, Later, Parked, Serves, outcome_of, passed}
+use Rattle.psu_run.proofs.Going.{device_stops_then, steps_call, steps_then}
 use Rattle.psu_run.proofs.UnitEnds.{late_full}
 use Rattle.psu_run.proofs.acting.act.Goals as goal
 
 pub returns-then-not-is_parked-clause-acts : goal.returns-then-not-is_parked-clause-acts
-returns-then-not-is_parked-clause-acts g c = λ n. steps_call _ _ (Executed 1 c.args.request.now (outcome_of c.execute-outcome.result)) _ (grind arith) c.execute-outcome.ensures.idle_store (grind arith) (λ life d e. e) (λ image. tt) (λ e. e) (grind arith)
+returns-then-not-is_parked-clause-acts g c = λ n.
+    let request = c.args.request.now in let reply = outcome_of c.execute-outcome.result in
+    steps_call (Executed 1 request reply) (Acts request reply) (grind arith) c.execute-outcome.ensures.idle_store (grind arith) (λ w. refl) (λ finished over e. cc) (λ p q call. (grind arith, inl call))
 
 pub returns-then-not-is_parked-clause-late : goal.returns-then-not-is_parked-clause-late
-returns-then-not-is_parked-clause-late g c = λ late. steps_call _ _ (Executed 1 c.args.request.now (outcome_of c.execute-outcome.result)) _ (grind arith) c.execute-outcome.ensures.idle_store (grind arith) (λ life d e. e) (λ image. tt) (λ e. e) (grind arith)
+returns-then-not-is_parked-clause-late g c = λ late.
+    let request = c.args.request.now in
+    steps_call (Executed 1 request Later) (λ p q. Calls p (Executed 1 request Later) q) (grind arith) c.execute-outcome.ensures.idle_store (grind arith) (λ w. refl) (λ finished over e. cc) (λ p q call. call)
 
 pub returns-in_err-outcome-clause-stops : goal.returns-in_err-outcome-clause-stops
 returns-in_err-outcome-clause-stops g c =
     let request = c.args.request.now in
     passed c.from_residual.result c.in_err-outcome.field-0.0 _ c.from_residual.ensures.1
-    (device_stops_then _ _ _ (λ xs. xs ≡ Called (Executed 1 request Parked) ∷ []) _ _ _
-    (steps_call _ _ (Executed 1 request (outcome_of c.execute-outcome.result)) _ (grind arith) c.execute-outcome.ensures.idle_store (grind arith) (λ life d e. e) (λ image. tt) (λ e. e) (grind arith))
-    c.in_err-outcome.ensures.stops (λ xs ys e b. rw e ([], refl, b)))
+    (device_stops_then _
+    (steps_call (Executed 1 request Parked) (λ p q. Calls p (Executed 1 request Parked) q) (grind arith) c.execute-outcome.ensures.idle_store (grind arith) (λ w. refl) (λ finished over e. cc) (λ p q call. call))
+    c.in_err-outcome.ensures.stops (λ p m q call b. OneCall (Executed 1 request Parked) m [] call refl b))
 
 pub returns-clause-acts : goal.returns-clause-acts
 returns-clause-acts g c = λ n.
     let request = c.args.request.now in
-    steps_then _ _ _ (λ xs. xs ≡ Called (Executed 1 request Parked) ∷ []) _ _
-    (steps_call _ _ (Executed 1 request (outcome_of c.execute-outcome.result)) _ (grind arith) c.execute-outcome.ensures.idle_store (grind arith) (λ life d e. e) (λ image. tt) (λ e. e) (grind arith))
-    c.in_ok-outcome.ensures.ends (λ xs ys e wait. (c.in_ok-outcome.ensures.ended, inr (wait.0, wait.1, rw (e, wait.2) refl)))
+    steps_then (Acts request (outcome_of c.in_ok-outcome.outcome))
+    (steps_call (Executed 1 request Parked) (λ p q. Calls p (Executed 1 request Parked) q) (grind arith) c.execute-outcome.ensures.idle_store (grind arith) (λ w. refl) (λ finished over e. cc) (λ p q call. call))
+    c.in_ok-outcome.ensures.ends (λ p m q call wait. (c.in_ok-outcome.ensures.ended, inr (m, wait.0, call, wait.1, wait.2)))
 
 pub returns-then-not-is_parked-clause-room : goal.returns-then-not-is_parked-clause-room
 returns-then-not-is_parked-clause-room g c = λ late.

@@ -1,5 +1,4 @@
-use Rattle.std.proofs.Common.{◌≡◌, ◌≤◌, ◌∙◌, ◌+◌, ◌++◌, [], take, inl, inr, refl, sym, arith}
-use Rattle.psu_run.proofs.Common.{Read, TooLong, held, passed}
+use Rattle.psu_run.proofs.Common.{◌≡◌, ◌≤◌, ◌∙◌, ◌+◌, ◌++◌, [], take, inl, inr, refl, sym, arith, Read, TooLong, held, passed}
 use Rattle.psu_run.proofs.Feeding.{fed_none, fed_then}
 use Rattle.psu_run.proofs.Reading.{cut_after, cut_front, end_stop, read_all, read_end, read_front, taken_more}
 use Rattle.psu_run.proofs.Input.{further_more, further_none, read_failed, read_more, read_none, read_start}
@@ -16,7 +15,7 @@ reading-init g c = record {
 }
 
 pub returns-in_default-clause-early : goal.returns-in_default-clause-early
-returns-in_default-clause-early g c = read_front c.reading.run.lines.line.items c.reading.invariant.seen _ _ _ _ c.reading.invariant.has.taken c.reading.invariant.fed _ Read c.fault.result c.fault.ensures tt (λ w. cc)
+returns-in_default-clause-early g c = read_front c.reading.run.lines.line.items c.reading.invariant.seen _ _ _ _ c.reading.invariant.has.taken c.reading.invariant.fed Read c.fault.result c.fault.ensures tt (λ w. cc)
 
 pub returns-then-count-eq0-clause-whole : goal.returns-then-count-eq0-clause-whole
 returns-then-count-eq0-clause-whole g c =
@@ -26,21 +25,24 @@ returns-then-count-eq0-clause-whole g c =
 pub returns-in_err-disk-clause-early : goal.returns-in_err-disk-clause-early
 returns-in_err-disk-clause-early g c =
     passed c.from_residual.result c.in_err-disk.field-0.0 _ c.from_residual.ensures.1
-    (end_stop c.reading.run.lines.line.items c.reading.invariant.seen _ _ _ _ c.reading.invariant.has.taken c.reading.invariant.fed _ c.in_err-disk.field-0.0 _ _ (rw c.if-count-eq0.true at c.in-Ok.ensures.bytes.0)
+    (end_stop c.reading.run.lines.line.items c.reading.invariant.seen _ _ _ _ c.reading.invariant.has.taken c.reading.invariant.fed c.in_err-disk.field-0.0 _ _ (rw c.if-count-eq0.true at c.in-Ok.ensures.bytes.0)
     (c.in-Ok.ensures.bytes.1 c.if-count-eq0.true (omega (arith, c.requires.room, c.reading.auto.piece, c.read_into.auto.piece))) c.in_err-disk.ensures.early)
 
 pub returns-in_err-run-clause-early : goal.returns-in_err-run-clause-early
 returns-in_err-run-clause-early g c =
     passed c.from_residual-in_err-run.result c.in_err-run.field-0.0 _ c.from_residual-in_err-run.ensures.1
-    (cut_front c.reading.run.lines.line.items c.reading.invariant.seen _ _ _ _ c.reading.invariant.has.taken c.reading.invariant.fed _ c.min-taken.result c.in-Ok.count c.read_into.new.piece c.in_err-run.field-0.0 _ _ (omega (arith, c.min-taken.ensures)) c.in-Ok.ensures.bytes.0 c.in_err-run.ensures.stopped)
+    (cut_front c.reading.run.lines.line.items c.reading.invariant.seen _ _ _ _ c.reading.invariant.has.taken c.reading.invariant.fed c.min-taken.result c.in-Ok.count c.read_into.new.piece c.in_err-run.field-0.0 _ _ (omega (arith, c.min-taken.ensures)) c.in-Ok.ensures.bytes.0 c.in_err-run.ensures.stopped)
 
 pub returns-then-taken-count-clause-early : goal.returns-then-taken-count-clause-early
 returns-then-taken-count-clause-early g c =
+    cut_after c.reading.run.lines.line.items c.reading.invariant.seen _ _ _ _ c.reading.invariant.has.taken c.reading.invariant.fed c.in_ok-run.run'.lines.line.items c.min-taken.result c.in-Ok.count c.read_into.new.piece
+    TooLong c.fault-then-taken-count.result _ _ (omega (arith, c.min-taken.ensures)) c.in-Ok.ensures.bytes.0 c.in_ok-run.ensures.fed c.fault-then-taken-count.ensures tt (λ w. cc)
+
+pub returns-then-taken-count-clause-long : goal.returns-then-taken-count-clause-long
+returns-then-taken-count-clause-long g c = λ e.
     let has = read_more c.in-Ok.count c.read_into.new.piece c.reading.invariant.has c.in-Ok.ensures.bytes.0 c.in-Ok.ensures.counted.1 c.if-count-eq0.false c.in-Ok.ensures.bound.0 c.count_read.ensures.reads in
     let all = taken_more c.reading.invariant.seen c.read_into.new.piece c.in-Ok.count _ _ _ c.reading.invariant.taken c.in-Ok.ensures.bound.0 c.count_read.ensures.bytes refl in
-    cut_after c.reading.run.lines.line.items c.reading.invariant.seen _ _ _ _ c.reading.invariant.has.taken c.reading.invariant.fed _ c.in_ok-run.run'.lines.line.items c.min-taken.result c.in-Ok.count c.read_into.new.piece
-    c.in_ok-run.run'.responder.powered.exec TooLong c.fault-then-taken-count.result _ _ (omega (arith, c.min-taken.ensures)) c.in-Ok.ensures.bytes.0 c.in_ok-run.ensures.fed c.fault-then-taken-count.ensures
-    (_, _, has, inl (omega (arith, all, c.room.ensures, c.min-taken.ensures, c.if-taken-count.true, c.count_read.ensures.bytes))) (λ w. cc)
+    (_, _, has, inl (omega (arith, all, c.room.ensures, c.min-taken.ensures, c.if-taken-count.true, c.count_read.ensures.bytes)))
 
 pub reading-preserved : goal.reading-preserved
 reading-preserved g c =
@@ -48,7 +50,7 @@ reading-preserved g c =
       seen = c.reading.invariant.seen ++ take c.in-Ok.count c.read_into.new.piece;
       has = read_more c.in-Ok.count c.read_into.new.piece c.reading.invariant.has c.in-Ok.ensures.bytes.0 c.in-Ok.ensures.counted.1 c.if-count-eq0.false c.in-Ok.ensures.bound.0 (c.count_bytes.ensures.reads ∙ c.count_read.ensures.reads);
       taken = taken_more c.reading.invariant.seen c.read_into.new.piece c.in-Ok.count _ _ _ c.reading.invariant.taken c.in-Ok.ensures.bound.0 c.count_read.ensures.bytes c.count_bytes.ensures.bytes;
-      fed = fed_then [] c.reading.run.lines.line.items c.in_ok-run.run'.lines.line.items c.reading.invariant.seen (take c.in-Ok.count c.read_into.new.piece) _ _ _ (held (g.W.Write.contents c.args.writer.now) []) _ _ c.reading.invariant.fed (rw whole at c.in_ok-run.ensures.fed);
+      fed = fed_then [] c.reading.run.lines.line.items c.in_ok-run.run'.lines.line.items c.reading.invariant.seen (take c.in-Ok.count c.read_into.new.piece) (held (g.W.Write.contents c.args.writer.now) []) _ _ c.reading.invariant.fed (rw whole at c.in_ok-run.ensures.fed);
       none = c.in_ok-run.ensures.none;
       fresh = c.in_ok-run.ensures.fresh;
     }
@@ -59,10 +61,12 @@ returns-then-count-eq0-clause-short g c =
     (c.in-Ok.ensures.bytes.1 c.if-count-eq0.true (omega (arith, c.requires.room, c.reading.auto.piece, c.read_into.auto.piece))) (omega (arith, c.reading.invariant.taken, c.reading.intake.short))
 
 pub returns-clause-early : goal.returns-clause-early
-returns-clause-early g c =
+returns-clause-early g c = read_front c.reading.run.lines.line.items c.reading.invariant.seen _ _ _ _ c.reading.invariant.has.taken c.reading.invariant.fed TooLong c.fault-2.result c.fault-2.ensures tt (λ w. cc)
+
+pub returns-clause-long : goal.returns-clause-long
+returns-clause-long g c = λ e.
     let full : c.reading.intake.reads + 1 ≤ 1048576 → ⊥ = λ room. let left = c.reading-test.ensures.1 room in absurd cc in
-    read_front c.reading.run.lines.line.items c.reading.invariant.seen _ _ _ _ c.reading.invariant.has.taken c.reading.invariant.fed _ TooLong c.fault-2.result c.fault-2.ensures
-    (_, _, c.reading.invariant.has, inr (omega (arith, full, c.reading.intake.few))) (λ w. cc)
+    (_, _, c.reading.invariant.has, inr (omega (arith, full, c.reading.intake.few)))
 
 -- ---- how far it reads
 

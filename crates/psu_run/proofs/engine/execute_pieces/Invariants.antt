@@ -1,5 +1,5 @@
-use Rattle.std.proofs.Common.{◌≡◌, List, [], ℕ, length, ◌-◌}
-use Rattle.psu_run.proofs.Common.{Fed, HasRead, held, nothing}
+use Rattle.psu_run.proofs.Common.{◌≡◌, List, [], ℕ, length, ◌-◌, HasRead, held, nothing}
+use Rattle.psu_run.proofs.Feeding.{Fed}
 use Rattle.psu_run.proofs.engine.execute_pieces.Given as goal
 
 -- Each read so far returned bytes, and the lines that end in them were answered.

@@ -1,5 +1,4 @@
-use Rattle.std.proofs.Common.{◌≡◌, ℕ, false, None, ◌-◌, ◌≤◌}
-use Rattle.psu_run.proofs.Common.{IsTied, IsWornAtLast, Leads, failures_of, is_open, wait_of}
+use Rattle.psu_run.proofs.Common.{◌≡◌, ℕ, false, None, ◌-◌, ◌≤◌, IsTied, IsWornAtLast, Leads, failures_of, is_open, wait_of}
 use Rattle.psu_run.proofs.UnitEnds.{IsFlushAfter, IsFlushed}
 use Rattle.psu_run.proofs.jobs.flush.Given as goal
 

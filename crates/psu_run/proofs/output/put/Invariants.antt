@@ -1,5 +1,4 @@
-use Rattle.std.proofs.Common.{length, take, ◌-◌, ◌≤◌}
-use Rattle.std.specs.Io.KnownBytes.{Appends}
+use Rattle.psu_run.proofs.Common.{length, take, ◌-◌, ◌≤◌, Appends}
 use Rattle.psu_run.proofs.output.put.Given as goal
 
 abbrev pub invariant-loop-at : goal.invariant-loop-at

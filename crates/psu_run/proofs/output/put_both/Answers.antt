@@ -1,4 +1,4 @@
-use Rattle.std.proofs.Common.{arith}
+use Rattle.psu_run.proofs.Common.{arith}
 use Rattle.psu_run.proofs.Cuts.{short_behind}
 use Rattle.psu_run.proofs.output.put_both.Goals as goal
 

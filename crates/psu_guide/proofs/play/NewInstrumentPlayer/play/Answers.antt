@@ -11,4 +11,4 @@ pub returns-in-Err-clause-stopped : goal.returns-in-Err-clause-stopped
 returns-in-Err-clause-stopped g c =
     let disk = c.in-Some.disk in
     let is = c.in-Err.ensures.early tt in
-    record { disk = memory disk.bytes.items disk.unsynced.items; is_new = c.in-Some.ensures; over = memory is.0.bytes.items is.0.unsynced.items; rest = is.1; text = is.2; ends = is.3 }
+    record { disk = memory disk.bytes.items disk.unsynced.items; is_new = c.in-Some.ensures; over = memory is.0.bytes.items is.0.unsynced.items; rest = is.1; text = is.2; ends = is.3; long = is.4 }

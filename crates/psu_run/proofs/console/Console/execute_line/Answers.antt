@@ -2,7 +2,7 @@ use Rattle.psu_messages.proofs.Going.{kept_advances, kept_interrupted}
 use Rattle.psu_messages.specs.Shown.{progress_of}
 use Rattle.psu_run.proofs.Common.{held, source_of}
 use Rattle.psu_run.proofs.Cuts.{told_alone}
-use Rattle.psu_run.proofs.Feeding.{answers_line, broken, whole}
+use Rattle.psu_run.proofs.Feeding.{broken, whole}
 use Rattle.psu_run.proofs.console.Console.execute_line.Goals as goal
 
 pub returns-clause-breaks : goal.returns-clause-breaks
@@ -21,10 +21,9 @@ returns-clause-writer g c = kept_interrupted c.in-Err.ensures.stops (λ x. x.wri
 pub returns-in-None-clause-runs : goal.returns-in-None-clause-runs
 returns-in-None-clause-runs g c =
     let before = c.args.self.now.responder.now in
-    let w = whole (λ x. x.responder.now.powered.exec) (λ x. held (g.W.Write.contents x.writer.now) x.responder.now.output.items) _ (λ x y effect d. d.2)
-    (source_of c.args.line.now) _ c.proceed-done.new.executor _ (progress_of c.proceed-done.new.progress) c.new-progress.ensures c.in-Ok.ensures.goes (c.in-Ok.ensures.over c.in-None.is) in
     rw (told_alone before.output.items before.gathered c.requires.fresh, told_alone c.proceed-done.new.executor.responder.now.output.items c.restart.new.self c.restart.ensures)
-    (answers_line (source_of c.args.line.now) w.0 _ _ _ _ w.1 w.2)
+    (whole (λ x. x.responder.now.powered.exec) (λ x. held (g.W.Write.contents x.writer.now) x.responder.now.output.items) _ (λ x y effect d. d.2)
+    (source_of c.args.line.now) _ c.proceed-done.new.executor _ (progress_of c.proceed-done.new.progress) c.new-progress.ensures c.in-Ok.ensures.goes (c.in-Ok.ensures.over c.in-None.is))
 
 pub returns-in-None-clause-responder : goal.returns-in-None-clause-responder
 returns-in-None-clause-responder g c = kept_advances c.in-Ok.ensures.goes (λ x. x.responder.ghost_name) (λ x y effect d. d.0)

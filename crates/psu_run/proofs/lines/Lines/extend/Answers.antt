@@ -1,5 +1,4 @@
-use Rattle.std.proofs.Common.{◌⊎◌, ◌≡◌, ◌+◌, ◌<◌, length, arith}
-use Rattle.std.proofs.lemmas.Grind.{common_steps}
+use Rattle.psu_run.proofs.Common.{◌⊎◌, ◌≡◌, ◌+◌, ◌<◌, length, arith, common_steps}
 use Rattle.psu_run.proofs.Cuts.{kept_alike, kept_none}
 use Rattle.psu_run.proofs.lines.Lines.extend.Goals as goal
 

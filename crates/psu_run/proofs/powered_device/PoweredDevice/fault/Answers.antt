@@ -1,4 +1,4 @@
-use Rattle.std.proofs.Common.{refl}
+use Rattle.psu_run.proofs.Common.{refl}
 use Rattle.psu_run.proofs.powered_device.PoweredDevice.fault.Goals as goal
 
 pub returns : goal.returns

@@ -1,5 +1,4 @@
-use Rattle.std.proofs.Common.{ℕ, ◌+◌, ◌≤◌, ◌^◌, subst, sym}
-use Rattle.psu_run.proofs.Common.{reads_left}
+use Rattle.psu_run.proofs.Common.{ℕ, ◌+◌, ◌≤◌, ◌^◌, subst, sym, reads_left}
 use Rattle.psu_run.proofs.powered_device.PoweredDevice.into_disk.Goals as goal
 
 pub returns-in-Whole-clause-worn : goal.returns-in-Whole-clause-worn

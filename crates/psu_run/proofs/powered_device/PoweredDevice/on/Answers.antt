@@ -1,21 +1,23 @@
-use Rattle.std.proofs.Common.{refl, ◌∙◌, ℕ, sym, subst, arith, inl}
-use Rattle.std.proofs.lemmas.Option.{same_Some}
-use Rattle.psu_run.proofs.Common.{IsOldOrSame, LeavesOnly, NotStarted, idle_disk, passed, started}
+use Rattle.psu_run.proofs.Going.{for_disk}
+use Rattle.psu_run.proofs.Common.{refl, ◌∙◌, ℕ, sym, subst, arith, inl, IsAt, IsOldOrSame, LeavesOnly, NotStarted, at_power_on, passed, started}
 use Rattle.psu_exec.specs.Starts.{start_of_opening}
-use Rattle.psu_exec.specs.declared.idle_store.IdleStore.TheVariants as idle_store
 use Rattle.psu_run.proofs.powered_device.PoweredDevice.on.Goals as goal
 
 -- ---- on a store that is open
 
 pub returns-in_ok-powered-in-Store-clause-starts : goal.returns-in_ok-powered-in-Store-clause-starts
 returns-in_ok-powered-in-Store-clause-starts g c = λ h.
-    let e = c.in_ok-powered-in-Store.ensures in rw c.in-Store.is (e.starts h (g.D.Disk.state c.in-Store.store.disk).bytes (e.own h) refl)
+    let e = c.in_ok-powered-in-Store.ensures in let store = c.in-Store.store in let on = e.starts h (g.D.Disk.state store.disk).bytes (e.own h) refl in
+    rw c.in-Store.is (on.0, on.1, for_disk c.in_ok-powered-in-Store.powered.exec (λ disk. IsAt c.in_ok-powered-in-Store.powered.exec disk (at_power_on on.0 (g.D.Disk.failures disk))) e.stored on.2)
+
+pub returns-in_ok-powered-in-Store-clause-disk : goal.returns-in_ok-powered-in-Store-clause-disk
+returns-in_ok-powered-in-Store-clause-disk g c =
+    let store = c.in-Store.store in rw c.in-Store.is (store.disk, c.in_ok-powered-in-Store.ensures.stored, refl, refl)
 
 pub returns-in_ok-powered-in-Store-clause-time : goal.returns-in_ok-powered-in-Store-clause-time
-returns-in_ok-powered-in-Store-clause-time g c = λ h t there is.
+returns-in_ok-powered-in-Store-clause-time g c = λ h t.
     let store = c.in-Store.store in
-    rw c.in-Store.is (subst (λ z. LeavesOnly g.D.Disk.moment g.D.Disk.left_since store.disk (idle_disk z) (IsOldOrSame (g.D.Disk.state store.disk)))
-    (same_Some (idle_store.Whole store) there (sym c.in_ok-powered-in-Store.ensures.store ∙ is))
+    rw c.in-Store.is (for_disk c.in_ok-powered-in-Store.powered.exec (λ disk. LeavesOnly g.D.Disk.moment g.D.Disk.left_since store.disk disk (IsOldOrSame (g.D.Disk.state store.disk))) c.in_ok-powered-in-Store.ensures.stored
     (started g.D.Disk.moment g.D.Disk.left_since store.disk (IsOldOrSame (g.D.Disk.state store.disk)) (λ x left. inl (g.met.D.Disk.only_now t store.disk x left))))
 
 pub returns-in_err-powered-in-Store-clause-refused : goal.returns-in_err-powered-in-Store-clause-refused
@@ -46,9 +48,19 @@ returns-in-Err-clause-left g c = rw c.in-Image.is (λ h limit map each. (c.in-Er
 
 pub returns-in_ok-powered-in-Image-clause-starts : goal.returns-in_ok-powered-in-Image-clause-starts
 returns-in_ok-powered-in-Image-clause-starts g c = λ h.
-    let opened = c.in-Ok.ensures in let disk = c.in-Image.disk in let store = c.in-Ok.store in
-    rw c.in-Image.is (c.in_ok-powered-in-Image.ensures.starts h (g.D.Disk.state disk).bytes (opened.represented h)
-    (g.met.D.Disk.sized h store.disk ∙ opened.step.extent ∙ sym (g.met.D.Disk.sized h disk)))
+    let opened = c.in-Ok.ensures in let disk = c.in-Image.disk in let store = c.in-Ok.store in let e = c.in_ok-powered-in-Image.ensures in
+    let on = e.starts h (g.D.Disk.state disk).bytes (opened.represented h) (g.met.D.Disk.sized h store.disk ∙ opened.step.extent ∙ sym (g.met.D.Disk.sized h disk)) in
+    rw c.in-Image.is (on.0, on.1, for_disk c.in_ok-powered-in-Image.powered.exec (λ d. IsAt c.in_ok-powered-in-Image.powered.exec d (at_power_on on.0 (g.D.Disk.failures d))) e.stored on.2)
+
+pub returns-in_ok-powered-in-Image-clause-disk : goal.returns-in_ok-powered-in-Image-clause-disk
+returns-in_ok-powered-in-Image-clause-disk g c =
+    let store = c.in-Ok.store in let step = c.in-Ok.ensures.step in
+    rw c.in-Image.is (store.disk, c.in_ok-powered-in-Image.ensures.stored, step.works, step.extent)
+
+pub returns-in_ok-powered-in-Image-clause-time : goal.returns-in_ok-powered-in-Image-clause-time
+returns-in_ok-powered-in-Image-clause-time g c = λ h t.
+    let store = c.in-Ok.store in let disk = c.in-Image.disk in
+    rw c.in-Image.is (for_disk c.in_ok-powered-in-Image.powered.exec (λ d. LeavesOnly g.D.Disk.moment g.D.Disk.left_since disk d (IsOldOrSame (g.D.Disk.state disk))) c.in_ok-powered-in-Image.ensures.stored (c.in-Ok.ensures.images.time h t))
 
 pub returns-in_err-powered-in-Image-clause-refused : goal.returns-in_err-powered-in-Image-clause-refused
 returns-in_err-powered-in-Image-clause-refused g c = λ h.

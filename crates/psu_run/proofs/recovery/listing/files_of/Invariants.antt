@@ -1,4 +1,4 @@
-use Rattle.std.proofs.Common.{◌≡◌, ◌++◌, drop, map}
+use Rattle.psu_run.proofs.Common.{◌≡◌, ◌++◌, drop, map}
 use Rattle.psu_run.specs.Recover.{entry, reported}
 use Rattle.psu_run.proofs.recovery.listing.files_of.Given as goal
 

@@ -1,4 +1,4 @@
-use Rattle.std.proofs.Common.{◌≡◌, ◌++◌, drop, flat_map}
+use Rattle.psu_run.proofs.Common.{◌≡◌, ◌++◌, drop, flat_map}
 use Rattle.psu_run.specs.Recover.{file_line}
 use Rattle.psu_run.proofs.recovery.report.put_files.Given as goal
 

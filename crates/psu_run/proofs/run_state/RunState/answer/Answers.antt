@@ -1,5 +1,4 @@
-use Rattle.std.proofs.Common.{[]}
-use Rattle.psu_run.proofs.Common.{held, output_state, passed}
+use Rattle.psu_run.proofs.Common.{◌++◌, [], held, passed}
 use Rattle.psu_run.proofs.Reading.{fed_short, fed_written}
 use Rattle.psu_run.proofs.Cuts.{none_told, told_alone}
 use Rattle.psu_run.proofs.run_state.RunState.answer.Goals as goal
@@ -12,11 +11,11 @@ returns-in_err-run-clause-stopped g c =
 pub returns-in_default-clause-stopped : goal.returns-in_default-clause-stopped
 returns-in_default-clause-stopped g c =
     let before = c.args.self in let run = c.in_ok-run.run' in let e = c.in_ok-run.ensures in
-    fed_short c.args.self.lines.line.items c.args.piece.now run.lines.line.items _ run.responder.powered.exec _ _ _ (rw (none_told before.responder.output.items before.responder.gathered c.requires.none c.requires.fresh) at e.fed)
+    fed_short c.args.self.lines.line.items c.args.piece.now run.lines.line.items _ _ _ (rw (none_told before.responder.output.items before.responder.gathered c.requires.none c.requires.fresh) at e.fed)
     c.fault.result (rw (told_alone run.responder.output.items run.responder.gathered e.fresh, ← c.as_slice.ensures.value) c.in_default.ensures.short) c.fault.ensures
 
 pub returns-clause-fed : goal.returns-clause-fed
 returns-clause-fed g c =
     let before = c.args.self in let run = c.in_ok-run.run' in let e = c.in_ok-run.ensures in
-    fed_written c.args.self.lines.line.items c.args.piece.now run.lines.line.items _ run.responder.powered.exec (held (g.W.Write.contents c.args.writer.now) []) (output_state (g.W.Write.contents c.execute_lines.new.writer) run.responder.output.items run.responder.gathered) _ (rw (none_told before.responder.output.items before.responder.gathered c.requires.none c.requires.fresh) at e.fed)
-    (rw (told_alone run.responder.output.items run.responder.gathered e.fresh, ← c.as_slice.ensures.value) c.in-Ok.ensures.whole)
+    fed_written c.args.self.lines.line.items c.args.piece.now run.lines.line.items (held (g.W.Write.contents c.args.writer.now) []) (held (g.W.Write.contents c.execute_lines.new.writer) (run.responder.output.items ++ run.responder.gathered.rest)) _
+    (rw (none_told before.responder.output.items before.responder.gathered c.requires.none c.requires.fresh) at e.fed) (rw (told_alone run.responder.output.items run.responder.gathered e.fresh, ← c.as_slice.ensures.value) c.in-Ok.ensures.whole)

@@ -1,5 +1,4 @@
-use Rattle.std.proofs.Common.{◌≡◌, ◌≤◌, length}
-use Rattle.psu_run.proofs.Common.{nothing, output_state}
+use Rattle.psu_run.proofs.Common.{◌≡◌, ◌≤◌, ◌++◌, length, held, nothing}
 use Rattle.psu_run.proofs.Feeding.{FedSo}
 use Rattle.psu_run.proofs.run_state.RunState.execute_lines.Given as goal
 
@@ -8,7 +7,7 @@ invariant-loop-at g l = record {
   within : length l.rest ≤ length l.piece;
   fresh : l.run.responder.gathered ≡ nothing;
   fed : FedSo l.initial.run.lines.line.items l.piece l.rest l.run.lines.line.items l.initial.run.responder.powered.exec l.run.responder.powered.exec
-      (output_state (g.W.Write.contents l.initial.writer) l.initial.run.responder.output.items l.initial.run.responder.gathered) (output_state (g.W.Write.contents l.writer) l.run.responder.output.items l.run.responder.gathered);
+      (held (g.W.Write.contents l.initial.writer) (l.initial.run.responder.output.items ++ l.initial.run.responder.gathered.rest)) (held (g.W.Write.contents l.writer) (l.run.responder.output.items ++ l.run.responder.gathered.rest));
 }
 
 abbrev pub decreases-loop-at : goal.decreases-loop-at
