@@ -36,10 +36,15 @@ fn write(contents: &mut Contents<Global>, name: &[u8], bytes: &[u8]) -> Answer {
 // The reset settings with 5.25 V at output 1.
 const SAVED: &str = "14 82 00 00 ea 60 00 00*4 ea 60 00 00*4 ea 60 00 00*4 ea 60 00";
 
+// Whether two values are the same: a function of its own, so that it is proved apart from what is dropped.
+fn are_equal(value: &[u8], other: &[u8]) -> bool {
+    value == other
+}
+
 // Whether a value has these bytes.
 fn is_saved(alloc: Global, value: &[u8]) -> bool {
     match bytes(alloc, SAVED) {
-        Some(saved) => value == saved.as_slice(),
+        Some(saved) => are_equal(value, &saved),
         None => false,
     }
 }
@@ -64,7 +69,7 @@ fn is_encoded(alloc: Global, contents: &Contents<Global>) -> Option<bool> {
 // Whether fresh contents have no item, and then those of the saved register.
 fn is_kept(alloc: Global, contents: &mut Contents<Global>) -> Option<bool> {
     let empty = contents.encode_items(alloc).ok()?.pairs().is_empty();
-    let saved = save(contents, 256, 3, 5_250) == Ok(());
+    let saved = save(contents, 256, 3, 5_250).is_ok();
     Some(empty && saved && is_encoded(alloc, contents)?)
 }
 
@@ -95,7 +100,7 @@ fn edits(alloc: Global, contents: &Contents<Global>) -> Option<Batch<Global>> {
 }
 
 fn are_edited(alloc: Global, contents: &mut Contents<Global>) -> Option<bool> {
-    let saved = save(contents, 256, 0, 5_250) == Ok(());
+    let saved = save(contents, 256, 0, 5_250).is_ok();
     Some(saved && are_two_edits(&edits(alloc, contents)?))
 }
 
@@ -116,10 +121,18 @@ fn called(answer: Result<(), ScpiError>) -> &'static str {
     }
 }
 
+// Whether a text is this number. It is matched, as the equality of two results is more to prove.
+fn is_number(text: &str, wanted: u128) -> bool {
+    match text.parse::<u128>() {
+        Ok(number) => number == wanted,
+        Err(_) => false,
+    }
+}
+
 // Whether an answer is the one of a cell, and the contents then cost the pages after it.
 fn is_wanted(answer: Result<(), ScpiError>, cost: u128, cell: &str) -> Option<bool> {
     let (word, pages) = cell.split_once(" ")?;
-    Some(called(answer) == word && pages.parse() == Ok(cost))
+    Some(called(answer) == word && is_number(pages, cost))
 }
 
 // Files with their lengths, and the pages that the contents then have. A file of 32,768 bytes has 32,769 in its item,
@@ -208,12 +221,15 @@ fn four_pages_hold_two_registers(rt: HostRuntime) {
 
 // Whether a command is accepted.
 fn does(contents: &mut Contents<Global>, command: NvCommand<'_>) -> bool {
-    contents.change(256, &command) == Ok(())
+    contents.change(256, &command).is_ok()
 }
 
 // Whether a command is refused with this error.
 fn refuses(contents: &mut Contents<Global>, command: NvCommand<'_>, error: ScpiError) -> bool {
-    contents.change(256, &command) == Err(error)
+    match contents.change(256, &command) {
+        Ok(()) => false,
+        Err(found) => found == error,
+    }
 }
 
 // Defines 32 macros, each named by a letter and a digit.

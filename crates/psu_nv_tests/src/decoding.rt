@@ -1,7 +1,7 @@
 //! Contents from a map: each of its items valid, and each way in which one is invalid.
 use crate::holds::holds;
-use crate::maps::{bytes_of, map_of};
-use psu_map::{Items, Value};
+use crate::maps::{bytes_of, insert, map_of};
+use psu_map::{Items, Pair};
 use psu_nv::{Contents, DecodeFault};
 use psu_status::Enables;
 use psu_tables::row;
@@ -39,12 +39,16 @@ fn verdict(alloc: Global, items: &Items<Global>, key: &[u8], value: &[u8]) -> Op
     }
 }
 
+// Inserts copies of a key and a value.
+fn put(alloc: Global, items: &mut Items<Global>, key: &[u8], value: &[u8]) -> Option<()> {
+    let key = key.to_vec(alloc).ok()?;
+    insert(items, key, value.to_vec(alloc).ok()?)
+}
+
 // Returns the map of a key and a value.
 fn one(alloc: Global, key: &[u8], value: &[u8]) -> Option<Items<Global>> {
     let mut items = Items::new(alloc);
-    let key = key.to_vec(alloc).ok()?;
-    let value = Value::new(value.to_vec(alloc).ok()?).ok()?;
-    items.insert(key, value).ok()?;
+    put(alloc, &mut items, key, value)?;
     Some(items)
 }
 
@@ -223,14 +227,23 @@ const WHOLE: &str = "
 02 04 | 00 00 00 00 ea 60 02 reset
 ";
 
-// Whether contents have each part of the whole map.
-fn are_whole(contents: &Contents<Global>) -> bool {
+// Whether contents have the enables, the user data and the choice of the whole map.
+fn have_settings(contents: &Contents<Global>) -> bool {
     contents.enables() == Some(Enables { sre: 0, ese: 8 })
         && contents.user() == [9].as_slice()
-        && matches!(contents.body(b"m"), Some(body) if body == b"!".as_slice())
+        && contents.recall()
+}
+
+// Whether contents have the macro and the files of the whole map.
+fn have_texts(contents: &Contents<Global>) -> bool {
+    matches!(contents.body(b"m"), Some(body) if body == b"!".as_slice())
         && contents.names().len() == 2
         && matches!(contents.file(b"A"), Some(file) if file.bytes == b"xyz".as_slice())
-        && contents.recall()
+}
+
+// Whether contents have each part of the whole map.
+fn are_whole(contents: &Contents<Global>) -> bool {
+    have_settings(contents) && have_texts(contents)
 }
 
 fn are_decoded(alloc: Global, items: &Items<Global>) -> Option<bool> {
@@ -247,10 +260,15 @@ fn all_parts_together(rt: HostRuntime) {
     assert!(rt; all_are_decoded(rt.alloc()) == Some(true));
 }
 
+// Whether two items are the same: a function of its own, so that it is proved apart from the loop.
+fn is_same(one: &Pair<Global>, other: &Pair<Global>) -> bool {
+    one.key() == other.key() && one.value() == other.value()
+}
+
 // Whether two maps have the same seven items.
 fn are_same(one: &Items<Global>, other: &Items<Global>) -> bool {
     for (a, b) in one.pairs().iter().zip(other.pairs()) {
-        if a.key() != b.key() || a.value() != b.value() {
+        if !is_same(a, b) {
             return false;
         }
     }

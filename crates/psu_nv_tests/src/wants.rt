@@ -6,7 +6,7 @@ use bumpalo::Bump;
 use psu_lex::ScpiError;
 use psu_map::Items;
 use psu_nv::{Contents, DecodeFault, FileBytes, NvCommand};
-use std::alloc::Global;
+use std::alloc::{Allocator, Global};
 
 // Leaves this many bytes of an arena free.
 fn leave(arena: &Bump, left: usize) -> Option<()> {
@@ -59,14 +59,18 @@ fn end_of(answer: Result<(), ScpiError>, done: bool, untouched: bool) -> End {
 }
 
 // Defines a macro.
-fn defined<'a>(contents: &mut Contents<&'a Bump>) -> End {
+fn defined<A: Allocator + Copy>(contents: &mut Contents<A>) -> End {
     let answer = contents.change(256, &NvCommand::DefineMacro(b"AB", b"*CLS;*RST"));
     let count = contents.labels().len();
     end_of(answer, count == 1, count == 0 && contents.cost() == 0)
 }
 
 // Makes the change of `MMEMory:DATA` with a name.
-fn write<'a>(contents: &mut Contents<&'a Bump>, name: &[u8], text: &[u8]) -> Result<(), ScpiError> {
+fn write<A: Allocator + Copy>(
+    contents: &mut Contents<A>,
+    name: &[u8],
+    text: &[u8],
+) -> Result<(), ScpiError> {
     match FileBytes::of(text) {
         Some(file) => contents.change(256, &NvCommand::StoreBytes(name, file)),
         None => Err(ScpiError::TooMuchData),
@@ -74,14 +78,14 @@ fn write<'a>(contents: &mut Contents<&'a Bump>, name: &[u8], text: &[u8]) -> Res
 }
 
 // Loads a macro from a file, which is there.
-fn loaded<'a>(contents: &mut Contents<&'a Bump>) -> End {
+fn loaded<A: Allocator + Copy>(contents: &mut Contents<A>) -> End {
     let answer = contents.change(256, &NvCommand::LoadMacro(b"AB", b"F"));
     let count = contents.labels().len();
     end_of(answer, count == 1, count == 0 && contents.cost() == 2)
 }
 
 // Stores a file and loads a macro from it, both with little memory.
-fn written_and_loaded<'a>(contents: &mut Contents<&'a Bump>) -> End {
+fn written_and_loaded<A: Allocator + Copy>(contents: &mut Contents<A>) -> End {
     match write(contents, b"F", b"*CLS;*RST") {
         Ok(()) => loaded(contents),
         refused => end_of(refused, false, contents.cost() == 0),
@@ -89,7 +93,7 @@ fn written_and_loaded<'a>(contents: &mut Contents<&'a Bump>) -> End {
 }
 
 // Stores a file.
-fn stored<'a>(contents: &mut Contents<&'a Bump>) -> End {
+fn stored<A: Allocator + Copy>(contents: &mut Contents<A>) -> End {
     let answer = write(
         contents,
         b"NAME",
@@ -113,17 +117,24 @@ fn done_if(is: bool) -> End {
     if is { End::Done } else { End::Wrong }
 }
 
+// Returns the end of a decoding that failed.
+fn refused_by(fault: DecodeFault) -> End {
+    match fault {
+        DecodeFault::Memory => End::Refused,
+        _ => End::Wrong,
+    }
+}
+
 // Decodes a map.
-fn decoded<'a>(little: &'a Bump, items: &Items<&'a Bump>) -> End {
+fn decoded<A: Allocator + Copy>(little: A, items: &Items<A>) -> End {
     match Contents::decode_items(little, items) {
         Ok(contents) => done_if(contents.cost() == items.cost()),
-        Err(DecodeFault::Memory) => End::Refused,
-        Err(_) => End::Wrong,
+        Err(fault) => refused_by(fault),
     }
 }
 
 // Encodes contents.
-fn encoded<'a>(little: &'a Bump, contents: &Contents<&'a Bump>) -> End {
+fn encoded<A: Allocator + Copy>(little: A, contents: &Contents<A>) -> End {
     match contents.encode_items(little) {
         Ok(again) => done_if(again.cost() == contents.cost()),
         Err(_) => End::Refused,
@@ -131,7 +142,7 @@ fn encoded<'a>(little: &'a Bump, contents: &Contents<&'a Bump>) -> End {
 }
 
 // Copies contents.
-fn copied<'a>(little: &'a Bump, contents: &Contents<&'a Bump>) -> End {
+fn copied<A: Allocator + Copy>(little: A, contents: &Contents<A>) -> End {
     match contents.copy(little) {
         Ok(copy) => done_if(copy.cost() == contents.cost()),
         Err(_) => End::Refused,
@@ -139,10 +150,10 @@ fn copied<'a>(little: &'a Bump, contents: &Contents<&'a Bump>) -> End {
 }
 
 // Makes a step on contents that must have this cost.
-fn step_on<'a>(
+fn step_on<A: Allocator + Copy>(
     step: &str,
-    little: &'a Bump,
-    contents: &Contents<&'a Bump>,
+    little: A,
+    contents: &Contents<A>,
     cost: u128,
 ) -> Option<End> {
     if contents.cost() != cost {
@@ -156,7 +167,7 @@ fn step_on<'a>(
 }
 
 // Makes a step on a map, with ample memory for the steps before it.
-fn read<'a>(step: &str, ample: &'a Bump, little: &'a Bump, items: &Items<&'a Bump>) -> Option<End> {
+fn read<A: Allocator + Copy>(step: &str, ample: A, little: A, items: &Items<A>) -> Option<End> {
     if step == "decoding" {
         return Some(decoded(little, items));
     }
@@ -165,7 +176,7 @@ fn read<'a>(step: &str, ample: &'a Bump, little: &'a Bump, items: &Items<&'a Bum
 }
 
 // Makes a step on fresh contents.
-fn changed<'a>(step: &str, contents: &mut Contents<&'a Bump>) -> End {
+fn changed<A: Allocator + Copy>(step: &str, contents: &mut Contents<A>) -> End {
     match step {
         "macro" => defined(contents),
         "file's macro" => written_and_loaded(contents),
@@ -174,17 +185,19 @@ fn changed<'a>(step: &str, contents: &mut Contents<&'a Bump>) -> End {
 }
 
 // Makes a step on contents with this little memory, or on the whole map.
-fn ends_with<'a>(step: &str, ample: &'a Bump, little: &'a Bump) -> Option<End> {
+fn ends_with<A: Allocator + Copy>(step: &str, ample: A, little: A) -> Option<End> {
     if step == "macro" || step == "file's macro" || step == "file" {
         return Some(changed(step, &mut Contents::fresh(little)));
     }
     read(step, ample, little, &map_of(ample, WHOLE)?)
 }
 
-// Makes a step with this many bytes of memory free.
+// Makes a step with this many bytes of memory free. Only here is the memory an arena: each step is over any allocator,
+// as a reference with a lifetime is more to prove.
 fn ends(alloc: Global, step: &str, left: usize) -> Option<End> {
     let little = arena_with(alloc, left)?;
-    ends_with(step, &arena_with(alloc, 3_000)?, &little)
+    let ample = arena_with(alloc, 3_000)?;
+    ends_with(step, &ample, &little)
 }
 
 // Returns how often a step succeeded and how often it was refused, with 0, 8 and more bytes of memory; `None` where its
