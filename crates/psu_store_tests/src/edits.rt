@@ -85,7 +85,10 @@ pub(crate) fn copied<A: Allocator + Copy>(rt: &impl Abort, alloc: A, batch: &Bat
 
 // Whether an item is the one that an edit assigns.
 fn is<A: Allocator + Copy>(pair: &Pair<A>, edit: &Edit<A>) -> bool {
-    pair.key() == edit.key() && Some(pair.value()) == edit.value()
+    match edit.value() {
+        Some(value) => pair.key() == edit.key() && pair.value() == value,
+        None => false,
+    }
 }
 
 /// Whether a map has exactly the items that a batch assigns in the order of their keys.

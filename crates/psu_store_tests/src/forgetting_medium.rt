@@ -34,11 +34,13 @@ impl<A: Allocator + Copy> ForgettingMedium<A> {
         ensures safe { IfOk result (λ medium. medium.at_risk.items ≡ replicate size false) }
         ensures known { IfOk result (λ medium. (k : ℕ) → slice_index_or medium.forgotten.items k false ≡ false) }
     {
+        let (bytes, at_risk) = blank(alloc, size)?;
+        let (safe, forgotten) = blank(alloc, size)?;
         Ok(ForgettingMedium {
-            bytes: vec![in alloc; 0; size as usize]?,
-            safe: vec![in alloc; 0; size as usize]?,
-            at_risk: vec![in alloc; false; size as usize]?,
-            forgotten: vec![in alloc; false; size as usize]?,
+            bytes,
+            safe,
+            at_risk,
+            forgotten,
             syncs: 0,
             first: failing[0],
             second: failing[1],
@@ -90,6 +92,17 @@ impl<A: Allocator + Copy> ForgettingMedium<A> {
         make_safe(&self.bytes, &mut self.safe, &self.forgotten);
         self.at_risk.copy_from_slice(&self.forgotten);
     }
+}
+
+// Returns this many bytes 00, and as many marks that are not set.
+fn blank<A: Allocator + Copy>(alloc: A, size: u64) -> Result<(Vec<u8, A>, Vec<bool, A>), AllocError>
+    ensures bytes { IfOk result (λ both. both.0.items ≡ replicate size 0) }
+    ensures marks { IfOk result (λ both. both.1.items ≡ replicate size false) }
+    ensures lengths { IfOk result (λ both. (length both.0.items ≡ size) × (length both.1.items ≡ size)) }
+{
+    let bytes = vec![in alloc; 0; size as usize]?;
+    let marks = vec![in alloc; false; size as usize]?;
+    Ok((bytes, marks))
 }
 
 // Whether the sync with this number fails. It fails once.

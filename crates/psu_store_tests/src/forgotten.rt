@@ -58,11 +58,19 @@ struct Run<D: Disk, A: Allocator + Copy> {
     values: Values,
 }
 
+// Returns the byte of a value that has no other.
+fn only_byte(value: &[u8]) -> Option<u8> {
+    match value {
+        [byte] => Some(*byte),
+        _ => None,
+    }
+}
+
 // Returns the value of the key 1 in a map that has no other key, or 0 in an empty map.
 fn value_of<A: Allocator + Copy>(items: &Items<A>) -> Option<u8> {
-    match (items.pairs(), items.get(&[1])) {
-        ([], _) => Some(0),
-        ([_], Some([value])) => Some(*value),
+    match items.pairs() {
+        [] => Some(0),
+        [_] => only_byte(items.get(&[1])?),
         _ => None,
     }
 }
@@ -209,6 +217,28 @@ fn forgetting<A: Allocator + Copy>(
     ForgettingMedium::new(alloc, SIZE, failing).expect(rt, "memory for a medium")
 }
 
+// Returns a disk that repeats writes after a run, and the values that it may have.
+fn ended_on_kept<A: Allocator + Copy>(
+    rt: &impl Abort,
+    alloc: A,
+    case: Case,
+) -> (OnFile<A>, Values) {
+    let disk = kept(rt, alloc, forgetting(rt, alloc, case.failing));
+    ended(rt, alloc, disk, case.steps)
+}
+
+// Returns a disk that repeats writes after a power loss.
+fn lost_on_kept<A: Allocator + Copy>(
+    rt: &impl Abort,
+    alloc: A,
+    disk: OnFile<A>,
+    choice: Choice,
+) -> OnFile<A> {
+    let mut medium = disk.into_inner().file.medium;
+    medium.lose(choice);
+    kept(rt, alloc, medium)
+}
+
 // Whether a run loses what was confirmed, over a disk that repeats writes; the last step is confirmed.
 fn is_lost_on_kept<A: Allocator + Copy>(
     rt: &impl Abort,
@@ -216,16 +246,23 @@ fn is_lost_on_kept<A: Allocator + Copy>(
     case: Case,
     choice: Choice,
 ) -> bool {
-    let disk = kept(rt, alloc, forgetting(rt, alloc, case.failing));
-    let (disk, values) = ended(rt, alloc, disk, case.steps);
+    let (disk, values) = ended_on_kept(rt, alloc, case);
     holds(
         rt,
         case.steps < LAST || values.confirmed == LAST,
         &case.failing,
     );
-    let mut medium = disk.into_inner().file.medium;
+    is_lost(alloc, lost_on_kept(rt, alloc, disk, choice), values)
+}
+
+// A disk that does not repeat writes, over a medium.
+type OnMedium<A> = PassingDisk<ForgettingMedium<A>>;
+
+// Returns a disk that does not repeat writes after a power loss.
+fn lost_on_passing<A: Allocator + Copy>(disk: OnMedium<A>, choice: Choice) -> OnMedium<A> {
+    let mut medium = disk.into_inner();
     medium.lose(choice);
-    is_lost(alloc, kept(rt, alloc, medium), values)
+    PassingDisk::new(medium)
 }
 
 // Whether a run loses what was confirmed, over a disk that does not repeat writes.
@@ -237,9 +274,7 @@ fn is_lost_on_passing<A: Allocator + Copy>(
 ) -> bool {
     let disk = PassingDisk::new(forgetting(rt, alloc, case.failing));
     let (disk, values) = ended(rt, alloc, disk, case.steps);
-    let mut medium = disk.into_inner();
-    medium.lose(choice);
-    is_lost(alloc, PassingDisk::new(medium), values)
+    is_lost(alloc, lost_on_passing(disk, choice), values)
 }
 
 // Checks that a run of each number of steps in which these syncs fail loses nothing that was confirmed.

@@ -3,7 +3,7 @@
 ghost use Rattle.std.specs.Prelude.{◌≡◌, ◌*◌};
 
 use crate::holds::holds;
-use crate::images::{changed, formatted, formatted_over};
+use crate::images::{changed, formatted, formatted_over, formatted_with};
 use crate::spelled::{are_alike, put, put_all, put_word, spelled, with_parts, word_at, zeros};
 use psu_disk::{Disk, MemDisk};
 use std::alloc::Allocator;
@@ -92,8 +92,7 @@ fn put_one<D: Disk, A: Allocator + Copy>(rt: &impl Abort, alloc: A, disk: &mut D
 
 // Returns an image of limit 8 after a commit of the first item.
 fn with_one<A: Allocator + Copy>(rt: &impl Abort, alloc: A) -> MemDisk<A> {
-    let disk = formatted(rt, alloc, 9_216, 8);
-    changed(rt, alloc, disk, "01 = 24")
+    formatted_with(rt, alloc, (9_216, 8), "01 = 24")
 }
 
 // Checks that an image after the first item has each byte that its pages require.

@@ -77,3 +77,13 @@ pub(crate) fn changed<D: Disk + Drop, A: Allocator + Copy>(
 ) -> D {
     store_with(rt, alloc, disk, batch).into_disk()
 }
+
+/// Returns a disk of this many bytes, formatted for this limit, after the commit of a batch, given as a text.
+pub(crate) fn formatted_with<A: Allocator + Copy>(
+    rt: &impl Abort,
+    alloc: A,
+    (size, limit): (u64, u16),
+    batch: &str,
+) -> MemDisk<A> {
+    changed(rt, alloc, formatted(rt, alloc, size, limit), batch)
+}

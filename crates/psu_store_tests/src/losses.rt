@@ -1,7 +1,7 @@
 //! Power losses during a commit and during the opening that follows, and disks that fail once.
 use crate::edits::copied;
 use crate::holds::holds;
-use crate::images::{changed, empty, formatted};
+use crate::images::{empty, formatted_with};
 use crate::scenes::{Counts, Scene};
 use crate::spelled::{bytes_of, remade};
 use crate::stores::{broken_by, committed, disk_of, faults_of, opened, stored, stored_by};
@@ -38,6 +38,13 @@ fn after_commit<D: Disk + Drop, A: Allocator + Copy>(
     disk_of(committed(rt, alloc, disk, &scene.batch))
 }
 
+// Returns a disk in memory after a power loss, in which no call fails any longer.
+fn restored<A: Allocator + Copy>(disk: FailingDisk<MemDisk<A>>, choice: Choice) -> MemDisk<A> {
+    let mut disk = disk.into_inner();
+    disk.lose(choice);
+    disk
+}
+
 // Returns the disk after a power loss during a commit.
 fn left<A: Allocator + Copy>(
     rt: &impl Abort,
@@ -47,15 +54,18 @@ fn left<A: Allocator + Copy>(
 ) -> MemDisk<A> {
     let calls = scene.counts.opening.saturating_add(loss.calls);
     let disk = FailingDisk::from_then_on(remade(rt, alloc, &scene.image), calls);
-    let mut disk = after_commit(rt, alloc, scene, disk).into_inner();
-    disk.lose(loss.choice);
-    disk
+    restored(after_commit(rt, alloc, scene, disk), loss.choice)
+}
+
+// Whether an opening of a disk in memory finds the target, rather than the map before. `None` where it finds neither.
+fn finds<A: Allocator + Copy>(alloc: A, scene: &Scene<A>, disk: MemDisk<A>) -> Option<bool> {
+    scene.finds_target(alloc, disk)
 }
 
 // Whether the result of a power loss is possible: the map before unless all calls were made, and the target unless none
 // was.
 fn can_stand<A: Allocator + Copy>(rt: &impl Abort, alloc: A, scene: &Scene<A>, loss: Loss) -> bool {
-    match scene.finds_target(alloc, left(rt, alloc, scene, loss)) {
+    match finds(alloc, scene, left(rt, alloc, scene, loss)) {
         Some(true) => loss.calls > 0,
         Some(false) => loss.calls < scene.counts.commit,
         None => false,
@@ -100,9 +110,8 @@ fn finds_again<A: Allocator + Copy>(
     loss: Loss,
 ) -> Option<bool> {
     let disk = FailingDisk::from_then_on(remade(rt, alloc, image), loss.calls);
-    let mut disk = after_opening(alloc, disk).into_inner();
-    disk.lose(loss.choice);
-    scene.finds_target(alloc, disk)
+    let disk = restored(after_opening(alloc, disk), loss.choice);
+    finds(alloc, scene, disk)
 }
 
 const CHOICES: [Choice; 5] = [
@@ -138,7 +147,7 @@ fn second_changes_nothing<A: Allocator + Copy>(
     first: Loss,
 ) {
     let image = bytes_of(rt, alloc, left(rt, alloc, scene, first));
-    let found = scene.finds_target(alloc, remade(rt, alloc, &image));
+    let found = finds(alloc, scene, remade(rt, alloc, &image));
     let want = found.expect(rt, "a map that can stand");
     each_loss_finds(rt, alloc, scene, (&image, want, first.calls));
 }
@@ -200,8 +209,7 @@ const THREE_EDITS: [&str; 3] = [
 
 // Returns the scene of that commit on an image of limit 8.
 fn several_items<A: Allocator + Copy>(rt: &impl Abort, alloc: A) -> Scene<A> {
-    let disk = formatted(rt, alloc, 9_216, 8);
-    let disk = changed(rt, alloc, disk, THREE_EDITS[1]);
+    let disk = formatted_with(rt, alloc, (9_216, 8), THREE_EDITS[1]);
     Scene::of(rt, alloc, disk, THREE_EDITS, SEVERAL)
 }
 

@@ -24,9 +24,17 @@ fn map_of<A: Allocator + Copy>(rt: &impl Abort, alloc: A, text: &str) -> Items<A
     items
 }
 
-// Checks that a map has this value for a key, or none where that is empty.
+// Whether a map has this value for a key, or none where that is empty.
+fn is_value<A: Allocator + Copy>(items: &Items<A>, key: &[u8], value: &[u8]) -> bool {
+    match items.get(key) {
+        Some(found) => found == value,
+        None => value.is_empty(),
+    }
+}
+
+// Checks that.
 fn has<A: Allocator + Copy>(rt: &impl Abort, items: &Items<A>, key: &[u8], value: &[u8]) {
-    holds(rt, items.get(key).unwrap_or(&[]) == value, &key);
+    holds(rt, is_value(items, key, value), &key);
 }
 
 // Checks that a map is in the order of its keys, whose items are inserted in another order, and one of them twice.

@@ -20,10 +20,18 @@ pub(crate) const IMAGE: &str = "
 3072: 09*88
 ";
 
+// Whether a text is this number. It is matched, as the equality of two results is more to prove.
+fn is_number(text: &str, wanted: usize) -> bool {
+    match text.parse::<usize>() {
+        Ok(number) => number == wanted,
+        Err(_) => false,
+    }
+}
+
 // Whether the result of an opening is the one that a table wants, in its words.
 fn is_wanted(found: Result<usize, OpenCause>, wanted: &str) -> bool {
     match found {
-        Ok(count) => wanted.parse() == Ok(count),
+        Ok(count) => is_number(wanted, count),
         Err(OpenCause::Image(BadImage::NoRoot)) => wanted == "no root",
         Err(OpenCause::Image(BadImage::BadVersion)) => wanted == "bad version",
         Err(OpenCause::Image(BadImage::BadRoot)) => wanted == "bad root",

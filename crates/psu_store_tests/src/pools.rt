@@ -146,7 +146,8 @@ fn unstarted<D: Disk + Drop, A: Allocator + Copy>(
     ended: Commit<D, A>,
 ) -> Store<D, A> {
     match ended {
-        Commit::Unstarted(store, batch, UnstartedCause::Worn) => {
+        Commit::Unstarted(store, batch, cause) => {
+            holds(rt, cause == UnstartedCause::Worn, &"the cause");
             holds(rt, batch.edits().is_empty(), &"the batch");
             store
         }

@@ -2,12 +2,12 @@
 use crate::edits::edits;
 use crate::files::{new_disk, remove, set_length};
 use crate::holds::holds;
-use crate::images::{changed, empty, laid_out};
+use crate::images::{formatted_with, laid_out};
 use crate::spelled::bytes_of;
 use crate::stores::{broken_by, commit, has_map};
 use psu_disk::Disk;
 use psu_items::{Broken, BrokenCause, Commit, Store};
-use std::alloc::Allocator;
+use std::alloc::{Allocator, Global};
 use std::fs::File;
 use std::process::Abort;
 use std::rt::Files;
@@ -34,7 +34,7 @@ fn put(rt: &(impl Abort + Files<File = File>), bytes: &[u8]) {
 
 // Returns an image with the map of a text.
 fn image<A: Allocator + Copy>(rt: &impl Abort, alloc: A, map: &str) -> Vec<u8, A> {
-    bytes_of(rt, alloc, changed(rt, alloc, empty(rt, alloc), map))
+    bytes_of(rt, alloc, formatted_with(rt, alloc, (5_120, 4), map))
 }
 
 // Returns a store that stays broken when it is reopened, as the new bytes of its file are strange.
@@ -64,6 +64,16 @@ fn stays_broken<D: Disk + Drop, A: Allocator + Copy>(
     strange(rt, alloc, broken, &image(rt, alloc, "01 = 25"))
 }
 
+// Checks that a store has its target when it is reopened.
+fn has_target<D: Disk + Drop, A: Allocator + Copy>(
+    rt: &impl Abort,
+    alloc: A,
+    broken: Broken<D, A>,
+) {
+    let store = broken.reopen(alloc).ok().expect(rt, "the target");
+    has_map(rt, alloc, &store, "01 = 24");
+}
+
 // Checks that a store finds its target in the file.
 fn is_found<D: Disk + Drop, A: Allocator + Copy>(
     rt: &(impl Abort + Files<File = File>),
@@ -71,8 +81,7 @@ fn is_found<D: Disk + Drop, A: Allocator + Copy>(
     broken: Broken<D, A>,
 ) {
     put(rt, &image(rt, alloc, "01 = 24"));
-    let store = broken.reopen(alloc).ok().expect(rt, "the target");
-    has_map(rt, alloc, &store, "01 = 24");
+    has_target(rt, alloc, broken);
 }
 
 // Checks that a store on a disk in the file breaks because of its device, and finds its target after zeros and another
@@ -87,9 +96,14 @@ fn is_found_in<D: Disk + Drop, A: Allocator + Copy>(
     is_found(rt, alloc, stays_broken(rt, alloc, broken));
 }
 
+// Checks that on a new file, which is then removed.
+fn is_found_in_a_file(rt: &(impl Abort + Files<File = File>), alloc: Global) {
+    is_found_in(rt, alloc, new_disk(rt, alloc, NAME, 5_120));
+    remove(rt, NAME);
+}
+
 // Neither zeros nor another map are the map before the commit or the one after it; the last map is the one after it.
 #[test]
 fn a_strange_file_is_reported_as_strange(rt: HostRuntime) {
-    is_found_in(&rt, rt.alloc(), new_disk(&rt, rt.alloc(), NAME, 5_120));
-    remove(&rt, NAME);
+    is_found_in_a_file(&rt, rt.alloc());
 }

@@ -22,15 +22,18 @@ fn opens(rt: &impl Abort, alloc: Global, lock: LockAnswer, cause: Option<OpenFau
     holds(rt, files.is_there, &script);
 }
 
+// Makes a file where one is, or none. Returns why it is not made, `None` where it is, and whether one is there then.
+fn unmade(alloc: Global, script: Script, is_there: bool) -> (Option<OpenFault>, bool) {
+    let mut files = ScriptedFiles { script, is_there };
+    let made: Outcome = KeptDisk::make(&mut files, alloc, NAME, 5_000);
+    (made.err(), files.is_there)
+}
+
 // Checks why a file is not made where none is, or that it is; it is there exactly if it is made.
 fn makes(rt: &impl Abort, alloc: Global, script: Script, cause: Option<OpenFault>) {
-    let mut files = ScriptedFiles {
-        script,
-        is_there: false,
-    };
-    let made: Outcome = KeptDisk::make(&mut files, alloc, NAME, 5_000);
-    holds(rt, made.err() == cause, &script);
-    holds(rt, files.is_there == cause.is_none(), &script);
+    let (found, is_there) = unmade(alloc, script, false);
+    holds(rt, found == cause, &script);
+    holds(rt, is_there == cause.is_none(), &script);
 }
 
 // Checks both.
@@ -77,13 +80,9 @@ fn a_file_that_is_not_finished_is_removed(rt: HostRuntime) {
 // Checks that a file that is there is not made, and stays.
 fn stays(rt: &impl Abort, alloc: Global, lock: LockAnswer) {
     let script = Script { lock, fails: None };
-    let mut files = ScriptedFiles {
-        script,
-        is_there: true,
-    };
-    let made: Outcome = KeptDisk::make(&mut files, alloc, NAME, 5_000);
-    holds(rt, made.err() == Some(OpenFault::Exists), &script);
-    holds(rt, files.is_there, &script);
+    let (found, is_there) = unmade(alloc, script, true);
+    holds(rt, found == Some(OpenFault::Exists), &script);
+    holds(rt, is_there, &script);
 }
 
 #[test]
