@@ -217,7 +217,7 @@ cause_of start_fault.Memory = Memory
 -- Why a run ends before the first of these messages, at `at`, or in it, at `last`; `now` is the count of failures then, and
 -- `disk` the disk. None: no message is left, and after a flush no change is. Open: a restart was refused, and only because
 -- the disk failed in it, since it still represents what it did. Device: the disk failed since `at`, or, except in a
--- restart, changes are left on a store whose root has the last number. No contract can see another cause.
+-- restart, changes are left on a store whose root has the last number. Other causes are not of the device.
 abbrev pub StopsFor : List Message → RunPoint → RunPoint → ℕ → DiskState → Option RunCause → Type 0
 StopsFor rest at last now disk None = (rest ≡ []) × IsFlush at last × (last.world.state.flush.unflushed ≡ 0) × (last.world.disk ≡ disk) × (last.failures ≡ now)
 StopsFor (Message.Power ∷ ms) at last now disk (Some (Open start.Device)) = HasFailed at.failures now
