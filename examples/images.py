@@ -46,7 +46,7 @@ def make_head(key, size, pages):
 
 
 def lay_out(items):
-    """Returns the pages of the heads of items, and the pool's pages with the items, each behind the one before."""
+    """Returns the pages of the heads of items, and the pool's pages with the items, each after the one before."""
     heads, pool = [], b""
     for key, value in items:
         at = 2 + len(pool) // PAGE

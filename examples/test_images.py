@@ -52,7 +52,7 @@ GOOD = {
     ),
     "the least limit": (make_image(limit=4), f"image version 2 root 1\npages 0 of 4\n{NOTHING}"),
     "the greatest limit": (make_image(limit=480), f"image version 2 root 1\npages 0 of 480\n{NOTHING}"),
-    "bytes behind the pool": (make_image() + b"more", f"image version 2 root 1\npages 0 of 256\n{NOTHING}"),
+    "bytes after the pool": (make_image() + b"more", f"image version 2 root 1\npages 0 of 256\n{NOTHING}"),
 }
 
 
@@ -109,10 +109,10 @@ BAD_ROOTS = {
     "too small for the limit": make_image()[:-1],
     "roots alone": make_image()[: 2 * PAGE],
     "a head in the roots": with_one_item(HEAD, make_root([1])),
-    "a head behind the pool": with_one_item(HEAD, make_root([2 + 2 * LIMIT])) + HEAD,
+    "a head after the pool": with_one_item(HEAD, make_root([2 + 2 * LIMIT])) + HEAD,
     "a head twice": with_one_item(HEAD, make_root([2, 2])),
     "a value in the roots": with_one_item(make_head(b"\x03", 3, [0])),
-    "a value behind the pool": with_one_item(make_head(b"\x03", 3, [2 + 2 * LIMIT])) + bytes(PAGE),
+    "a value after the pool": with_one_item(make_head(b"\x03", 3, [2 + 2 * LIMIT])) + bytes(PAGE),
     "a value in a head": with_one_item(make_head(b"\x03", 3, [2])),
     "a page twice in a value": with_one_item(make_head(b"\x05A", 600, [3, 3])),
     "one value of two items": join_pages(
@@ -149,7 +149,7 @@ BAD_ITEMS = {
     "64 bytes of user data": [(b"\x03", bytes(64))],
     "a macro without a body": [(b"\x04", b"\x02ON\x00")],
     "one label in two cases": [(b"\x04", b"\x02ON\x00\x01x" + b"\x02on\x00\x01y")],
-    "a label that is none": [(b"\x04", b"\x021N\x00\x01x")],
+    "an invalid label": [(b"\x04", b"\x021N\x00\x01x")],
     "a file without a name": [(b"\x05", b"\x00x")],
     "a name with a space": [(b"\x05a b", b"\x00x")],
     "a file of another type": [(b"\x05A", b"\x03x")],

@@ -57,7 +57,7 @@ def take_lock(supply: Instrument, timeout: float) -> None:
 
 def wait_for_disk(supply: Instrument, own_locks: int = 0) -> None:
     """Returns once all accepted changes are on the disk; Unconfirmed says why they are not."""
-    # A refused *OPC? has no response, so the query behind it shows at once that the first was refused.
+    # A refused *OPC? has no response, so the query after it shows at once that the first was refused.
     if len(answered(supply, "*OPC?;*STB?", own_locks).split(";")) != 2:
         raise Unconfirmed(Reason.STORE, "the store is broken: the disk fails")
 
