@@ -80,8 +80,10 @@ impl<S: Idle, A: Allocator + Copy> Model for ExecOf<S, A> {
 }
 
 impl<D: Disk, A: Allocator + Copy> Exec<D, A> {
+    ghost use Rattle.std.specs.Option.{ForSome};
     ghost use Rattle.psu_exec.specs.declared.idle_store.IdleStore.TheVariants as when_idle;
     ghost use Rattle.psu_exec.specs.Exec.{IsEnd};
+    ghost use Rattle.psu_exec.specs.Jobs.{IsStoreOf};
 
     /// Powers on with the contents that the store holds. The registers are as IEEE 488.2 prescribes: only PON is set,
     /// and the enables keep their values exactly if the power-on status clear flag is false. The cause of an error is
@@ -156,6 +158,15 @@ impl<D: Disk, A: Allocator + Copy> Exec<D, A> {
         }
     }
 
+    /// The condition of the store: whether it can take a commit. A store that the `Exec` holds has that condition, the
+    /// state's limit, and its map; a broken one the batch of the changes that it was to store.
+    pub fn condition(&self) -> Condition
+        ensures value { result ≡ self.now.device.flush.store }
+        ensures stored { ForSome self.now.idle_store (IsStoreOf self.now.device.flush) }
+    {
+        self.store
+    }
+
     /// Ends the `Exec`: returns its store, or the whole `Exec` if a job is out.
     pub fn end(self) -> Ended<D, A>
         ensures { IsEnd self result }
@@ -186,13 +197,6 @@ impl<S: Idle, A: Allocator + Copy> ExecOf<S, A> {
         ensures consistent { IsConsistent self.now.device.flush }
     {
         &self.contents
-    }
-
-    /// The condition of the store: whether it can take a commit.
-    pub fn condition(&self) -> Condition
-        ensures { result ≡ self.now.device.flush.store }
-    {
-        self.store
     }
 
     /// Whether all accepted changes are flushed.

@@ -234,7 +234,3 @@ pub one_trial : {X W : Type 0} (does : X → Effect → X → Type 0) (at now : 
     → Trial does at (is_some parked) request now reply
 one_trial does at now None request reply new again = record { effect = Executed request reply; done = new refl; is = (refl, refl) }
 one_trial does at now (Some wait) request reply new again = record { effect = Settled reply; done = again refl; is = refl }
-
-pub one_break : {X S W : Type 0} (r : Relations X S) (at now : X) (parked : Option W) (request : Request) (stop : S) → (parked ≡ None → r.fails at request stop now) → (is_some parked ≡ true → r.stops at stop now) → IsBrokenOff r at (is_some parked) request stop now
-one_break r at now None request stop new again = inl (refl, new refl)
-one_break r at now (Some wait) request stop new again = inr (refl, again refl)

@@ -3,8 +3,7 @@ ghost use Rattle.std.specs.Prelude.{◌≡◌, ◌≢◌, is_some, IfOk, IfErr};
 ghost use Rattle.psu_exec.specs.Device.{Parked};
 ghost use Rattle.psu_exec.specs.Shown.{outcome_of};
 ghost use Rattle.psu_messages.specs.Effects.{needs};
-ghost use Rattle.psu_messages.specs.Executions.{Trial};
-ghost use Rattle.psu_messages.specs.Shown.{HasItsWait, IsTried, reply_of};
+ghost use Rattle.psu_messages.specs.Shown.{IsTried};
 ghost use Rattle.psu_messages.specs.Stepping.{IsBrokenOff};
 
 use crate::{Executor, Need, Tried};
@@ -33,22 +32,7 @@ fn need_of<A: Allocator + Copy>(outcome: &Outcome<A>) -> Option<Need>
     }
 }
 
-// Executes a unit, or settles its wait where it was accepted.
-#[inline(always)]
-fn try_once<A: Allocator + Copy, F: Executor<A>>(
-    executor: &mut F,
-    parked: &Option<F::Wait>,
-    request: &Request<'_>,
-) -> Result<Tried<A, F::Wait>, F::Stop>
-    ensures tried { IfOk result (λ t. Trial F.relations.does executor.old (is_some parked.now) request.now executor.new (reply_of t)) }
-    ensures wait { IfOk result HasItsWait }
-    ensures stopped { IfErr result (λ stop. IsBrokenOff F.relations executor.old (is_some parked.now) request.now stop executor.new) }
-{
-    let tried = executor.try_unit(request, parked)?;
-    Ok(tried)
-}
-
-/// Tries a unit once, whether it was accepted before or not.
+/// Tries a unit once: executes it, or settles its wait where it was accepted.
 #[inline(always)]
 pub(crate) fn take_try<A: Allocator + Copy, F: Executor<A>>(
     executor: &mut F,
@@ -58,7 +42,7 @@ pub(crate) fn take_try<A: Allocator + Copy, F: Executor<A>>(
     ensures tried { IfOk result (IsTried F.relations.does executor.old (is_some parked.old) request.now executor.new (is_some parked.new)) }
     ensures stopped { IfErr result (λ stop. IsBrokenOff F.relations executor.old (is_some parked.old) request.now stop executor.new) }
 {
-    match try_once(executor, parked, request)? {
+    match executor.try_unit(request, parked)? {
         Tried::Parked(wait) => {
             *parked = Some(wait);
             Ok(Attempt::Waits(Need::Flush))
