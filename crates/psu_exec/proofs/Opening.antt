@@ -1,8 +1,7 @@
 -- Sessions that open.
 use Rattle.std.proofs.Common.{◌≡◌, ℕ, zero, suc, ◌+◌, ◌<◌, ◌≤◌, Bool, true, false, not, ◌==◌, ◌&&◌, Some, None, List, [], ◌∷◌, length, get_or, slice_set, refl, sym, subst, arith, cond}
 use Rattle.std.proofs.Math.Dec.{eqb-suc-zero}
-use Rattle.psu_exec.specs.Device.{place_of}
-use Rattle.psu_exec.specs.Device.{State, is_open}
+use Rattle.psu_exec.specs.Device.{place_of, State, is_open}
 use Rattle.psu_exec.specs.Calls.{Opened, Serves, free_from, with_session, least_free}
 use Rattle.psu_exec.specs.ServiceStates.{opened_service_state}
 use Rattle.psu_exec.proofs.Ignored.{serves_opened}
