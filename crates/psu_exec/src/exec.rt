@@ -158,8 +158,8 @@ impl<D: Disk, A: Allocator + Copy> Exec<D, A> {
         }
     }
 
-    /// The condition of the store: whether it can take a commit. A store that the `Exec` holds has that condition, the
-    /// state's limit, and its map; a broken one the batch of the changes that it was to store.
+    /// The condition of the store: whether it can take a commit. A store that the `Exec` holds is a broken one exactly if
+    /// the condition is `Broken`, and it has the state's limit and map; a broken one has the batch to the target too.
     pub fn condition(&self) -> Condition
         ensures value { result ≡ self.now.device.flush.store }
         ensures stored { ForSome self.now.idle_store (IsStoreOf self.now.device.flush) }
