@@ -5,7 +5,7 @@
 /// It has no `Drop`, so a struct with a field of this type has none either, and none can be derived for it. Such a
 /// field is private: only code that sees it can make the struct, or take it apart and end this value, so everywhere
 /// else a body that lets the struct go does not compile.
-pub struct CannotDrop(pub(crate) ());
+pub struct CannotDrop(());
 
 impl CannotDrop {
     /// Begins what must be done.
