@@ -1,5 +1,6 @@
 pub mod Calls
 pub mod Callers
+pub mod Opened
 pub mod Reopenings
 pub mod Lines
 pub mod PowerOn
