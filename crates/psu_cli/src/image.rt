@@ -14,7 +14,7 @@ pub fn new_image<F: FileCalls + Drop, S: FileSystem<F>>(
     system: &mut S,
     alloc: Global,
     path: &str,
-) -> Result<Store<KeptDisk<SystemFile<F>, Global>, Global>, Fault>
+) -> Result<Store<KeptDisk<SystemFile<F, Global>, Global>, Global>, Fault>
     ensures made { IfOk result (λ _. (file : F) × IsMade S.made F.made path.now 263168 system.old file system.new) }
     ensures empty { IfOk result (λ store. (store.items ≡ []) × (store.limit ≡ 256) × (store.version ≡ 2)) }
     ensures represents { F.keeps → IfOk result (λ store. IsOnDisk (λ disk. F.state disk.medium.file) store) }

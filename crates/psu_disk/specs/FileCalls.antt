@@ -67,6 +67,10 @@ IsLockRefused {F} made old = (answer : LockAnswer) × (new : F) × made old (Fil
 abbrev pub IsTakenUp : {F : Type 0} → (F → FileCall → F → Type 0) → F → F → Type 0
 IsTakenUp {F} made old new = (facts : FileFacts) × (seen : F) × made old (FileCall.Looked (Some facts)) seen × (facts.is_file ≡ true) × IsLocked made seen new
 
+-- the bytes of a file of this length were read once, all of them
+abbrev pub IsLoaded : {F : Type 0} → (F → FileCall → F → Type 0) → ℕ → F → F → Type 0
+IsLoaded made size old new = (bytes : List ℕ) × (length bytes ≡ size) × made old (FileCall.ReadAt 0 bytes true) new
+
 -- An existing file was opened at this path, and then checked and locked.
 abbrev pub IsOpened : {S F : Type 0} → (S → PathCall F → S → Type 0) → (F → FileCall → F → Type 0) → List ℕ → S → F → S → Type 0
 IsOpened {S} {F} made_path made path old file new = (first : F) × made_path old (PathCall.Opened path first) new × IsTakenUp made first file
@@ -107,14 +111,22 @@ pub record LeavesFile (old new : DiskState) (forgotten forgotten' : ℕ → Bool
   pub state : new ≡ old
   pub none_more : NoneMore forgotten forgotten'
 
--- The effect of a write, whether it succeeds or not. A write of what is read there already, to bytes that a power loss
--- may change already, changes nothing.
+-- The effect of a read: the file has what a successful one returned. A failed one changes nothing.
+pub record Reads (at : ℕ) (bytes : List ℕ) (worked : Bool) (old new : DiskState) (forgotten forgotten' : ℕ → Bool) : Type 0 where
+  pub returned : worked ≡ true → Holds at bytes old.bytes new.bytes
+  pub failed : worked ≡ false → new ≡ old
+  pub flags : new.unsynced ≡ old.unsynced
+  pub none_more : NoneMore forgotten forgotten'
+
+-- The effect of a write, whether it succeeds or not. After a failed one the bytes given count as forgotten, so that no
+-- sync makes them durable until they are written again. A write of what the file has there already, to bytes that a
+-- power loss may change already, changes neither.
 pub record Writes (at : ℕ) (bytes : List ℕ) (worked : Bool) (old new : DiskState) (forgotten forgotten' : ℕ → Bool) : Type 0 where
-  pub written : worked ≡ true → Holds at bytes old.bytes new.bytes
+  pub written : Holds at bytes old.bytes new.bytes
   pub flagged : IsFlagged at (length bytes) new
   pub state : Touches at (length bytes) old new
   pub again : bytes ≡ Range at (length bytes) old.bytes → IsFlagged at (length bytes) old → new ≡ old
-  pub none_more : NoneMore forgotten forgotten'
+  pub none_more : worked ≡ true → NoneMore forgotten forgotten'
   pub known : worked ≡ true → IsKnown at (length bytes) forgotten'
 
 -- The effect of a sync: a successful one makes the bytes durable that are not forgotten; a failed one may forget bytes,
@@ -125,15 +137,14 @@ pub record Syncs (worked : Bool) (old new : DiskState) (forgotten forgotten' : �
   pub none_more : worked ≡ true → NoneMore forgotten forgotten'
   pub failed : worked ≡ false → new ≡ old
 
--- The effect of a call on a file of this length that keeps what a successful sync confirmed. No one else truncates or
--- removes the file, and it can be looked at.
-abbrev pub Keeps : ℕ → FileCall → DiskState → DiskState → (ℕ → Bool) → (ℕ → Bool) → Type 0
-Keeps size (FileCall.ReadAt at bytes worked) old new forgotten forgotten' = (worked ≡ true → bytes ≡ Range at (length bytes) old.bytes) × LeavesFile old new forgotten forgotten'
-Keeps size (FileCall.WriteAt at bytes worked) old new forgotten forgotten' = Writes at bytes worked old new forgotten forgotten'
-Keeps size (FileCall.SyncData worked) old new forgotten forgotten' = Syncs worked old new forgotten forgotten'
-Keeps size (FileCall.SyncAll worked) old new forgotten forgotten' = Syncs worked old new forgotten forgotten'
-Keeps size (FileCall.Looked seen) old new forgotten forgotten' = IsWhole size seen × LeavesFile old new forgotten forgotten'
-Keeps size (FileCall.TriedLock answer) old new forgotten forgotten' = LeavesFile old new forgotten forgotten'
+-- The effect of a call. The bytes of the state are those that were last read or given to a write.
+abbrev pub Keeps : FileCall → DiskState → DiskState → (ℕ → Bool) → (ℕ → Bool) → Type 0
+Keeps (FileCall.ReadAt at bytes worked) old new forgotten forgotten' = Reads at bytes worked old new forgotten forgotten'
+Keeps (FileCall.WriteAt at bytes worked) old new forgotten forgotten' = Writes at bytes worked old new forgotten forgotten'
+Keeps (FileCall.SyncData worked) old new forgotten forgotten' = Syncs worked old new forgotten forgotten'
+Keeps (FileCall.SyncAll worked) old new forgotten forgotten' = Syncs worked old new forgotten forgotten'
+Keeps (FileCall.Looked seen) old new forgotten forgotten' = LeavesFile old new forgotten forgotten'
+Keeps (FileCall.TriedLock answer) old new forgotten forgotten' = LeavesFile old new forgotten forgotten'
 
 -- the call succeeded
 abbrev pub Works : ℕ → FileCall → Type 0

@@ -12,7 +12,7 @@ pub enum OpenFault {
     /// There is no file at the path, or no directory to create it in.
     #[error("no such file")]
     NoFile,
-    /// It isn't a regular file, can't be read, written and locked, or is open as another disk.
+    /// It isn't a regular file, has more than 16 MiB, can't be read, written and locked, or is open as another disk.
     #[error("device fault")]
     NotOpened,
     #[error("out of memory")]

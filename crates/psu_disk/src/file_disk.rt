@@ -1,7 +1,7 @@
 //! Disks in files of the system: how one is opened, and how one is created.
 ghost use Rattle.std.specs.Prelude.{◌≡◌, ◌+◌, ◌≤◌, ◌<◌, ◌-◌, ℕ, List, true, false, length, replicate, IfOk, IfErr, OnOk, OnErr};
 ghost use Rattle.psu_disk.specs.declared.faults.OpenFault.TheVariants.{NotOpened};
-ghost use Rattle.psu_disk.specs.FileCalls.{FileCall, PathCall, AreFileCalls, AreZeros, IsLocked, IsLockRefused, IsTakenUp, IsOpened, IsFilled, IsMade, MaySyncFolder, LeavesNoFile};
+ghost use Rattle.psu_disk.specs.FileCalls.{FileCall, PathCall, AreFileCalls, AreZeros, IsLocked, IsLockRefused, IsTakenUp, IsOpened, IsFilled, IsLoaded, IsMade, MaySyncFolder, LeavesNoFile};
 
 use crate::file_calls::{FileCalls, FileSystem, LockAnswer};
 use crate::{DiskFault, KeptDisk, OpenFault, SystemFile};
@@ -10,16 +10,20 @@ use std::alloc::{AllocError, Allocator};
 // The number of bytes of a new file that are written at a time.
 const ZEROS_PIECE: u64 = 4_096;
 
-impl<F: FileCalls + Drop, A: Allocator + Drop> KeptDisk<SystemFile<F>, A> {
-    /// Opens the disk in the existing file at a path. Its size is the file's, which stays unchanged. The file is locked
-    /// while it is open; a file that another program has locked is refused, and so is one whose lock fails, unless the
-    /// file system has no locks.
+// The maximum length of a file that is opened, 16 MiB: its bytes are kept in memory.
+const LENGTH_MOST: u64 = 16_777_216;
+
+impl<F: FileCalls + Drop, A: Allocator + Copy> KeptDisk<SystemFile<F, A>, A> {
+    /// Opens the disk in the existing file at a path, and reads the file. The disk's size is the file's, which stays
+    /// unchanged. A file of more than 16 MiB is refused before it is read. The file is locked while it is open; a file
+    /// that another program has locked is refused, and so is one whose lock fails, unless the file system has no locks.
     pub fn of<S: FileSystem<F>>(
         system: &mut S,
         alloc: A,
         path: &str,
-    ) -> Result<KeptDisk<SystemFile<F>, A>, OpenFault>
-        ensures opened { IfOk result (λ disk. IsOpened S.made F.made path.now system.old disk.medium.file system.new) }
+    ) -> Result<KeptDisk<SystemFile<F, A>, A>, OpenFault>
+        ensures opened { IfOk result (λ disk. (file : F) × IsOpened S.made F.made path.now system.old file system.new × IsLoaded F.made (F.extent file) file disk.medium.file) }
+        ensures most { IfOk result (λ disk. F.extent disk.medium.file ≤ 16777216) }
         ensures faults { IfOk result (λ disk. disk.faults ≡ 0) }
     {
         let file = system.open(path)?;
@@ -35,8 +39,8 @@ impl<F: FileCalls + Drop, A: Allocator + Drop> KeptDisk<SystemFile<F>, A> {
         alloc: A,
         path: &str,
         size: u64,
-    ) -> Result<KeptDisk<SystemFile<F>, A>, OpenFault>
-        ensures made { IfOk result (λ disk. IsMade S.made F.made path.now size system.old disk.medium.file system.new) }
+    ) -> Result<KeptDisk<SystemFile<F, A>, A>, OpenFault>
+        ensures made { IfOk result (λ disk. (file : F) × IsMade S.made F.made path.now size system.old file system.new × IsLoaded F.made size file disk.medium.file) }
         ensures size { IfOk result (λ disk. F.extent disk.medium.file ≡ size) }
         ensures faults { IfOk result (λ disk. disk.faults ≡ 0) }
         ensures refused { IfErr result (λ _. LeavesNoFile S.made path.now system.old system.new) }
@@ -53,15 +57,16 @@ impl<F: FileCalls + Drop, A: Allocator + Drop> KeptDisk<SystemFile<F>, A> {
 }
 
 // Makes a disk of a file that was created: it locks it, fills it with zeros, and makes it and its name durable.
-fn filled<F: FileCalls + Drop, S: FileSystem<F>, A: Allocator + Drop>(
+fn filled<F: FileCalls + Drop, S: FileSystem<F>, A: Allocator + Copy>(
     system: &mut S,
     alloc: A,
     path: &str,
     file: F,
-) -> Result<KeptDisk<SystemFile<F>, A>, OpenFault>
+) -> Result<KeptDisk<SystemFile<F, A>, A>, OpenFault>
     requires known { F.keeps → (k : ℕ) → F.forgotten file k ≡ false }
-    ensures filled { IfOk result (λ disk. (locked : F) × IsLocked F.made file locked × IsFilled F.made (F.extent file) locked disk.medium.file) }
-    ensures folder { IfOk result (λ disk. S.made system.old (PathCall.SyncedFolder path.now disk.medium.file true) system.new) }
+    ensures filled { IfOk result (λ disk. (locked filled : F) × IsLocked F.made file locked × IsFilled F.made (F.extent file) locked filled
+        × S.made system.old (PathCall.SyncedFolder path.now filled true) system.new
+        × IsLoaded F.made (F.extent file) filled disk.medium.file) }
     ensures size { IfOk result (λ disk. F.extent disk.medium.file ≡ F.extent file) }
     ensures faults { IfOk result (λ disk. disk.faults ≡ 0) }
     ensures refused { IfErr result (λ _. MaySyncFolder S.made path.now system.old system.new) }
@@ -73,29 +78,33 @@ fn filled<F: FileCalls + Drop, S: FileSystem<F>, A: Allocator + Drop>(
     }
 }
 
-// Returns the disk over a file of which no byte is forgotten.
-fn over<F: FileCalls + Drop, A: Allocator + Drop>(
+// Returns the disk over a file of which no byte is forgotten, once it has read it.
+fn over<F: FileCalls + Drop, A: Allocator + Copy>(
     alloc: A,
     file: F,
-) -> Result<KeptDisk<SystemFile<F>, A>, OpenFault>
+) -> Result<KeptDisk<SystemFile<F, A>, A>, OpenFault>
     requires { F.keeps → (k : ℕ) → F.forgotten file k ≡ false }
-    ensures file { IfOk result (λ disk. disk.medium.file ≡ file) }
+    ensures loaded { IfOk result (λ disk. IsLoaded F.made (F.extent file) file disk.medium.file) }
+    ensures extent { IfOk result (λ disk. F.extent disk.medium.file ≡ F.extent file) }
     ensures faults { IfOk result (λ disk. disk.faults ≡ 0) }
 {
-    match KeptDisk::new(alloc, SystemFile { file }) {
+    let medium = SystemFile::load(alloc, file)?;
+    match KeptDisk::new(alloc, medium) {
         Ok(disk) => Ok(disk),
         Err(AllocError) => Err(OpenFault::Memory),
     }
 }
 
-// Takes an existing file for this program alone: it has to be a regular file that no other opening of it has locked.
+// Takes an existing file for this program alone: it has to be a regular file of at most 16 MiB that no other opening of
+// it has locked.
 fn taken_up<F: FileCalls + Drop>(mut file: F) -> Result<F, OpenFault>
     ensures taken { IfOk result (λ taken. IsTakenUp F.made file taken) }
+    ensures most { IfOk result (λ taken. F.extent taken ≤ 16777216) }
     ensures refused { IfErr result (λ fault. fault ≡ NotOpened) }
     ensures known { F.keeps → ((k : ℕ) → F.forgotten file k ≡ false) → IfOk result (λ taken. (k : ℕ) → F.forgotten taken k ≡ false) }
 {
     match file.look() {
-        Some(facts) if facts.is_file => locked(file),
+        Some(facts) if facts.is_file && file.size() <= LENGTH_MOST => locked(file),
         _ => Err(OpenFault::NotOpened),
     }
 }
@@ -153,7 +162,7 @@ fn write_zeros<F: FileCalls>(file: &mut F, at: u64, n: u64) -> Result<(), DiskFa
     requires piece { n ≤ 4096 }
     ensures extent { F.extent file.new ≡ F.extent file.old }
     ensures made { OnOk result (F.made file.old (FileCall.WriteAt at (replicate n 0) true) file.new) }
-    ensures known { F.keeps → ((k : ℕ) → F.forgotten file.old k ≡ false) → (k : ℕ) → F.forgotten file.new k ≡ false }
+    ensures known { F.keeps → ((k : ℕ) → F.forgotten file.old k ≡ false) → OnOk result ((k : ℕ) → F.forgotten file.new k ≡ false) }
 {
     let zeros = [0; ZEROS_PIECE as usize];
     file.write_at(at, &zeros[..n as usize])?;
