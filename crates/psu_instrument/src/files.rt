@@ -11,7 +11,7 @@ use crate::macros::text_of;
 use psu_lex::{Bytes, ScpiError, definite, is_name};
 use psu_map::Pair;
 use psu_nv::{Contents, FileBytes, FileKind, NvCommand, Register};
-use psu_pages::PAGE_SIZE;
+use psu_map::PAGE_SIZE;
 use psu_tree::{OnFile, OnNames, Text, Transfer};
 use std::alloc::{AllocError, Allocator};
 

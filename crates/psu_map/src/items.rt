@@ -7,7 +7,7 @@ ghost use Rattle.psu_map.specs.Place.{IsAt, IsGap};
 
 use crate::search::{search, value_near, value_of};
 use crate::{Batch, Edit, Pair, Value, same_pairs};
-use psu_pages::PAGE_SIZE;
+use psu_disk::PAGE_SIZE;
 use std::alloc::{AllocError, Allocator};
 use std::marker::Model;
 

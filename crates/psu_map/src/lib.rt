@@ -18,5 +18,6 @@ pub use entry::Entry;
 pub use items::Items;
 pub use pair::{Pair, Value};
 pub use plan::Plan;
+pub use psu_disk::PAGE_SIZE;
 pub use same::{same_key, same_pairs};
 pub use target::Target;
