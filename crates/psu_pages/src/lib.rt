@@ -33,6 +33,6 @@ pub use free_map::FreeMap;
 pub use head::Head;
 pub use laws::represents_what_it_encodes;
 pub use pages::Pages;
-pub use psu_disk::PAGE_SIZE;
+pub use psu_map::PAGE_SIZE;
 pub use root::Root;
 pub use standing::Standing;

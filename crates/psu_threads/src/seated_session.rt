@@ -1,5 +1,6 @@
 //! A session with the seat under which it calls the device.
-ghost use Rattle.std.specs.Prelude.{◌≡◌, IfOk, OnOk, OnErr, IfSome, IsNone, Some, true, false};
+ghost use Rattle.std.specs.Prelude.{◌≡◌, ◌≢◌, ◌⊎◌, ◌↔◌, [], IsTrue, IfOk, OnOk, OnErr, IfSome, IsNone, Some, true, false};
+ghost use Rattle.psu_hislip.specs.declared.side.Side.TheVariants.{Async};
 ghost use Rattle.psu_session.specs.Phases.{phase_ended};
 ghost use Rattle.psu_session.specs.declared.phase.Phase.TheVariants.{Open};
 ghost use Rattle.psu_session_io.specs.Ending.{Drains};
@@ -84,7 +85,9 @@ impl<D: ServedDisk> SeatedSession<D> {
     }
 
     /// Whether what is received on a connection depends on the time.
-    pub fn needs_time(&self, side: Side) -> bool {
+    pub fn needs_time(&self, side: Side) -> bool
+        ensures { IsTrue result ↔ ((side ≡ Async) ⊎ (self.now.shared.state.releases ≢ [])) }
+    {
         self.session.needs_time(side)
     }
 

@@ -2,6 +2,3 @@ use Rattle.std.proofs.Common.{refl}
 use Rattle.psu_bench.proofs.Seats.{is_of}
 use Rattle.psu_threads.proofs.Seating.{seated_new}
 use Rattle.psu_threads.proofs.seated_session.SeatedSession.new.Goals as goal
-
-pub invariant_of-result : goal.invariant_of-result
-invariant_of-result g c = TODO
