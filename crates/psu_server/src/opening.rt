@@ -102,7 +102,9 @@ pub(crate) fn first_message<R: Clock>(
     rt: &R,
     alloc: Global,
     link: &Link,
-) -> io::Result<Option<Opening>> {
+) -> io::Result<Option<Opening>>
+    ensures { IfOk result (λ some. IfSome some (λ opening. IsFirst opening.first opening.message.items)) }
+{
     let start = Instant::now(rt)?;
     let mut space = space(alloc, FIRST_READ_SIZE)?;
     let mut message = FirstMessage {
@@ -141,7 +143,7 @@ fn session_of(
     message: &[u8],
 ) -> io::Result<(FirstReply, SharedSession)>
     ensures response { IfOk result (λ made. made.0.bytes ≡ initialize_response number) }
-    ensures session { IfOk result (λ made. HasBegun number made.1.phase made.1.state) }
+    ensures session { IfOk result (λ made. HasBegun number message.now made.1.phase made.1.state) }
 {
     match HislipSession::open(alloc, u16::from(number.number()), message) {
         Ok(session) => {

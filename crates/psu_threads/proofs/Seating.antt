@@ -25,8 +25,8 @@ use Rattle.psu_threads.proofs.Calling.{all_called}
 use Rattle.psu_threads.proofs.Recording.{both_are}
 
 -- a session that has just begun, with the seat that has opened it
-pub seated_new : (honest : Type 0) (session : ℕ) (s : Shared) (seat : Sight State Entry) → HasBegun session s.phase s.state → HasOpened honest session seat → IsSeated honest session false s seat
-seated_new honest session s seat new opened = record {
+pub seated_new : (honest : Type 0) (session : ℕ) (opening : List ℕ) (s : Shared) (seat : Sight State Entry) → HasBegun session opening s.phase s.state → HasOpened honest session seat → IsSeated honest session false s seat
+seated_new honest session opening s seat new opened = record {
   start = new.start;
   history = [];
   reached = s.state;
@@ -34,7 +34,7 @@ seated_new honest session s seat new opened = record {
   part = inl refl;
   entries = [];
   closing = [];
-  opening = new.opening;
+  opening = ((opening, new.first, new.sync), new.async);
   number = new.number;
   is = subst (λ (z : SessionState). IsHistory new.start [] z) (sym new.state_is) Still;
   now = λ alive. (refl, refl);

@@ -1,5 +1,7 @@
 -- A session, and the seat under which it calls the device, as they are kept together under the session's lock.
 use Rattle.std.specs.Prelude.{◌≡◌, ℕ, Bool, true, false, Option, Some, List, [], ◌∷◌, ◌++◌}
+use Rattle.psu_hislip.specs.Channel.{Fed}
+use Rattle.psu_hislip.specs.Stream.{Received}
 use Rattle.psu_exec.specs.Device.{State}
 use Rattle.psu_exec.specs.Calls.{Entry}
 use Rattle.psu_turn.specs.Seats.{Sight, SeatCalls}
@@ -48,10 +50,13 @@ pub record IsSeated (honest : Type 0) (session : ℕ) (closed : Bool) (s : Share
   pub device : HasHistory (AllowsOn honest) seat
   pub mine : seat.mine ≡ Entry.Opened (Some session) ∷ (entries ++ closing)
 
--- a session of this number that has just begun
-pub record HasBegun (session : ℕ) (phase : Phase) (state : SessionState) : Type 0 where
+-- A session of this number that has just begun: its synchronous connection has sent these bytes, which are one message, and
+-- its asynchronous one nothing.
+pub record HasBegun (session : ℕ) (opening : List ℕ) (phase : Phase) (state : SessionState) : Type 0 where
   pub start : Start
-  pub opening : IsOpening start
+  pub first : Received
+  pub sync : Fed start.sync opening (first ∷ [])
+  pub async : Fed start.async [] []
   pub number : start.session ≡ session
   pub state_is : state ≡ fresh start
   pub phase_is : phase ≡ Open

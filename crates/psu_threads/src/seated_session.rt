@@ -1,5 +1,5 @@
 //! A session with the seat under which it calls the device.
-ghost use Rattle.std.specs.Prelude.{◌≡◌, ◌≢◌, ◌⊎◌, ◌↔◌, [], IsTrue, IfOk, OnOk, OnErr, IfSome, IsNone, Some, true, false};
+ghost use Rattle.std.specs.Prelude.{◌≡◌, ◌≢◌, ◌⊎◌, ◌↔◌, ℕ, List, [], IsTrue, IfOk, OnOk, OnErr, IfSome, IsNone, Some, true, false};
 ghost use Rattle.psu_hislip.specs.declared.side.Side.TheVariants.{Async};
 ghost use Rattle.psu_session.specs.Phases.{phase_ended};
 ghost use Rattle.psu_session.specs.declared.phase.Phase.TheVariants.{Open};
@@ -67,7 +67,7 @@ impl<D: ServedDisk> SeatedSession<D> {
         session: SharedSession,
         opened: OpenedSession<D>,
     ) -> (SeatedSession<D>, MustClose)
-        requires { HasBegun opened.number session.phase session.state }
+        requires { (message : List ℕ) × HasBegun opened.number message session.phase session.state }
         ensures { result.0 ≡ record { number = opened.number; shared = session; seat = Some opened.access.seat; closed = false } }
     {
         let (number, access) = opened.into_parts();
