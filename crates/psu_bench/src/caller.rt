@@ -16,9 +16,7 @@ use crate::machine::{CausesNothing, Operation};
 use crate::operations::{
     CloseSession, Lock, MarkSent, Notify, OpenSession, Release, Tick, Try, TryUnit,
 };
-use crate::{
-    Bench, Caused, CausedByJob, Gate, Granted, OpenedSession, Point, Seat, ServedDisk,
-};
+use crate::{Bench, Caused, CausedByJob, Gate, Granted, OpenedSession, Point, Seat, ServedDisk};
 use psu_exec::{
     CannotDrop, Crowded, Freed, Grant, Kind, LockRefusal, NoJob, Notifications, Outcome, Session,
     Sessions, units_and_waits_are_quiet,

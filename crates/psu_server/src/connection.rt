@@ -47,7 +47,9 @@ impl<D: ServedDisk> Accepted<D> {
             must_close,
         } = opened;
         let number = served.number;
-        self.sessions.lock(rt).set(number, Arc::try_clone(&served).ok());
+        self.sessions
+            .lock(rt)
+            .set(number, Arc::try_clone(&served).ok());
         let read = match self.link.answer(response) {
             Ok(()) => self.read(rt, &served, began, opening.after),
             Err(error) => Err(error),

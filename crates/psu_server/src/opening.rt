@@ -172,7 +172,13 @@ fn shared<R: Wait, D: ServedDisk>(
     };
     match Arc::new(alloc, served) {
         Ok(served) => Ok((served, must_close)),
-        Err(refused) => Err(refused.value.session.lock_to_close(rt).close(rt, must_close)),
+        Err(refused) => Err(
+            refused
+                .value
+                .session
+                .lock_to_close(rt)
+                .close(rt, must_close),
+        ),
     }
 }
 

@@ -283,4 +283,3 @@ module _ {X : Type 0} {does : X → Call → X → Type 0} where
 pub of_result : {T E R : Type 0} (P : T → Type 0) (Q : Type 0) (result : Result T E) → ((value : T) → P value → R) → (Q → R) → IfOk result P → OnErr result Q → R
 of_result P Q (Ok value) done failed ok err = done value ok
 of_result P Q (Err error) done failed ok err = failed err
-

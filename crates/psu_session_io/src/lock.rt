@@ -5,9 +5,9 @@ ghost use Rattle.psu_session_io.specs.Leaving.{IsAfter, IsAfterWrite};
 use crate::linear::{AfterWrite, Closing, Disconnected, NextTask, Pending, Written};
 use crate::writes::Writes;
 use crate::{ConnectionSide, Token};
-use psu_replies::CannotDrop;
 use psu_hislip::Side;
 use psu_locks::Session;
+use psu_replies::CannotDrop;
 use std::alloc::AllocError;
 use std::sync::{Arc, Mutex, MutexGuard, Wait};
 
@@ -63,11 +63,7 @@ impl<V: Locked + Drop> SessionLock<V> {
     }
 
     /// Waits until no other thread holds the session, and holds it. It knows then which writes are over.
-    pub fn lock<'t, R: Wait, S>(
-        &'t self,
-        rt: &R,
-        token: &'t mut Token<S>,
-    ) -> MutexGuard<'t, V> {
+    pub fn lock<'t, R: Wait, S>(&'t self, rt: &R, token: &'t mut Token<S>) -> MutexGuard<'t, V> {
         let _ = token;
         let mut session = self.session.lock(rt);
         session.note_writes();

@@ -4,13 +4,13 @@ ghost use Rattle.psu_session_io.specs.Leaving.{IsNext};
 use crate::line::Line;
 use crate::linear::{AfterWrite, Arrived, Closed, Closing, NextTask, Outgoing, Pending, Remainder};
 use crate::{ConnectionSide, Notice, Token};
-use psu_replies::CannotDrop;
 use psu_hislip::Side;
+use psu_replies::CannotDrop;
 use std::alloc::{AllocError, Global};
 use std::marker::PhantomData;
 use std::rt::Clock;
-use std::sync::{Arc, Wait};
 use std::sync::atomic::{AtomicBool, Ordering};
+use std::sync::{Arc, Wait};
 use std::time::Duration;
 
 /// The notices to the threads of a session: its worker, its notifier and its two readers. Other sessions and the

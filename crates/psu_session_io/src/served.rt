@@ -45,11 +45,7 @@ pub struct ServedSession<V> {
 
 impl<V: Locked + Drop> ServedSession<V> {
     /// Returns a session that waits for its second connection; the value where memory is refused.
-    pub fn new(
-        session: V,
-        mailbox: Arc<Mailbox>,
-        first: Arc<Link>,
-    ) -> Result<ServedSession<V>, V>
+    pub fn new(session: V, mailbox: Arc<Mailbox>, first: Arc<Link>) -> Result<ServedSession<V>, V>
         ensures number { IfOk result (λ served. served.number ≡ V.number session) }
         ensures refused { IfErr result (λ refused. refused ≡ session) }
     {

@@ -13,10 +13,10 @@ use crate::linear::{Arrived, BytesRead, Closing, Disconnected, Pending, Received
 use crate::notice::Notice;
 use crate::writes::Writes;
 use crate::{Asynchronous, ConnectionSide, StepDevice, Synchronous};
-use psu_replies::CannotDrop;
 use psu_hislip::Side;
 use psu_locks::Grant;
 use psu_messages::Need;
+use psu_replies::CannotDrop;
 use psu_session::{Device, HislipSession, Phase, Proceeded};
 use std::alloc::{AllocError, Global};
 use std::marker::Model;

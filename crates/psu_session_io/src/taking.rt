@@ -6,9 +6,9 @@ ghost use Rattle.psu_session_io.specs.Shared.{with_value};
 
 use crate::linear::{Closing, Remainder};
 use crate::{ConnectionSide, SharedSession};
-use psu_replies::CannotDrop;
 use psu_hislip::Side;
 use psu_messages::Need;
+use psu_replies::CannotDrop;
 use std::marker::PhantomData;
 
 impl SharedSession {

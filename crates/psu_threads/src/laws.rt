@@ -4,8 +4,8 @@ ghost use Rattle.psu_threads.specs.Recorded.{EachResponseIsOfTheHistory, OneResp
 
 use psu_bench::{ServedDisk, threads_are_events};
 use psu_disk::Disk;
-use std::alloc::Allocator;
 use psu_session::{from_bytes_to_bytes, histories_are_exchanges};
+use std::alloc::Allocator;
 
 /// What a client is sent, from the one legal history of the device: under the number of the session's seat it has exactly
 /// the opening of the session and then the calls of the session's history, in the order in which the session made them,

@@ -63,10 +63,7 @@ impl<D: ServedDisk> Model for SeatedSession<D> {
 
 impl<D: ServedDisk> SeatedSession<D> {
     /// Returns a session that has just begun, with the seat that has opened it. It is to be closed.
-    pub fn new(
-        session: SharedSession,
-        opened: OpenedSession<D>,
-    ) -> (SeatedSession<D>, MustClose)
+    pub fn new(session: SharedSession, opened: OpenedSession<D>) -> (SeatedSession<D>, MustClose)
         requires { (message : List ℕ) × HasBegun opened.number message session.phase session.state }
         ensures { result.0 ≡ record { number = opened.number; shared = session; seat = Some opened.access.seat; closed = false } }
     {
@@ -102,7 +99,9 @@ impl<D: ServedDisk> SeatedSession<D> {
         ensures received { IfOk result (λ received. DoesUnder (Receives (CallsUnder D.honest) now S.SIDE bytes.entry.bytes.now received) self.old self.new) }
         ensures ended { OnErr result (DoesUnder (EndsReceiving (CallsUnder D.honest) now S.SIDE bytes.entry.bytes.now) self.old self.new) }
     {
-        let Some(seat) = self.seat.take() else { unreachable!() };
+        let Some(seat) = self.seat.take() else {
+            unreachable!()
+        };
         let caller = Caller::new(&self.bench, seat, &self.gate);
         let mut device = SharedDevice::new(rt, server, self.number, caller);
         let received = self.session.receive(now, bytes, &mut device);
@@ -120,7 +119,9 @@ impl<D: ServedDisk> SeatedSession<D> {
         ensures executed { IfOk result (λ remainder. DoesUnder (Executes (CallsUnder D.honest) pending.again remainder) self.old self.new) }
         ensures ended { OnErr result (DoesUnder (EndsExecuting (CallsUnder D.honest) pending.again) self.old self.new) }
     {
-        let Some(seat) = self.seat.take() else { unreachable!() };
+        let Some(seat) = self.seat.take() else {
+            unreachable!()
+        };
         let caller = Caller::new(&self.bench, seat, &self.gate);
         let mut device = SharedDevice::new(rt, server, self.number, caller);
         let executed = self.session.execute(pending, &mut device);
@@ -154,7 +155,9 @@ impl<D: ServedDisk> SeatedSession<D> {
         ensures ended { OnErr result (EndsNotified now arrived.notice self.old.shared self.new.shared) }
         ensures uncalled { OnErr result (self.new ≡ with_shared self.old self.new.shared) }
     {
-        let Some(seat) = self.seat.take() else { unreachable!() };
+        let Some(seat) = self.seat.take() else {
+            unreachable!()
+        };
         let caller = Caller::new(&self.bench, seat, &self.gate);
         let mut device = SharedDevice::new(rt, server, self.number, caller);
         let notified = self.session.notify(now, arrived, &mut device);
@@ -166,7 +169,9 @@ impl<D: ServedDisk> SeatedSession<D> {
     pub fn drain<R: Wait + Clock>(&mut self, rt: &R, server: &Server) -> Drained
         ensures { DoesUnder (Drains (CallsUnder D.honest) result) self.old self.new }
     {
-        let Some(seat) = self.seat.take() else { unreachable!() };
+        let Some(seat) = self.seat.take() else {
+            unreachable!()
+        };
         let caller = Caller::new(&self.bench, seat, &self.gate);
         let mut device = SharedDevice::new(rt, server, self.number, caller);
         let drained = self.session.drain(&mut device);
@@ -189,7 +194,9 @@ impl<D: ServedDisk> SeatedSession<D> {
             return None;
         }
         self.session.close();
-        let Some(seat) = self.seat.take() else { unreachable!() };
+        let Some(seat) = self.seat.take() else {
+            unreachable!()
+        };
         let mut caller = Caller::new(&self.bench, seat, &self.gate);
         let granted = caller.close_session(rt, self.number);
         self.seat = Some(caller.into_seat());
