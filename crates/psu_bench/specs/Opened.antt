@@ -12,6 +12,11 @@ module _ {S E : Type 0} (allows : S → E → S → Type 0) where
     pub legal : IsLegalFrom allows v.opening v.seen
     pub own : calls_by v.number v.seen ≡ v.mine
 
+-- the number of a session, and the seat that has opened it
+pub record OpenedSeat : Type 0 where
+  pub number : ℕ
+  pub seat : Sight State Entry
+
 -- the seat has opened a session under this number, and made no other call
 pub record HasOpened (honest : Type 0) (session : ℕ) (seat : Sight State Entry) : Type 0 where
   pub history : HasHistory (AllowsOn honest) seat

@@ -56,7 +56,7 @@ impl<D: ServedDisk> Access<D> {
     #[tactic(auto, using(crate::proofs::Seats::is_of))]
     pub fn open_session<R: Wait>(self, rt: &R) -> Result<OpenedSession<D>, Crowded>
         requires { self.seat.mine ≡ [] }
-        ensures opened { IfOk result (λ opened. SeatCalls (AllowsOn D.honest) self.seat (Opened (Some opened.number)) opened.access.seat) }
+        ensures opened { IfOk result (λ opened. SeatCalls (AllowsOn D.honest) self.seat (Opened (Some opened.number)) opened.seat) }
         ensures crowded { OnErr result ((new : Sight State Entry) × SeatCalls (AllowsOn D.honest) self.seat (Opened None) new) }
     {
         let Access {

@@ -65,7 +65,7 @@ impl<D: ServedDisk> SeatedSession<D> {
     /// Returns a session that has just begun, with the seat that has opened it. It is to be closed.
     pub fn new(session: SharedSession, opened: OpenedSession<D>) -> (SeatedSession<D>, MustClose)
         requires { (message : List ℕ) × HasBegun opened.number message session.phase session.state }
-        ensures { result.0 ≡ record { number = opened.number; shared = session; seat = Some opened.access.seat; closed = false } }
+        ensures { result.0 ≡ record { number = opened.number; shared = session; seat = Some opened.seat; closed = false } }
     {
         let (number, access) = opened.into_parts();
         let Access { bench, seat, gate } = access;
