@@ -11,6 +11,7 @@ import sys
 import threading
 from typing import Callable, NamedTuple, Optional, Set, Tuple, TypeVar
 
+from .build_note import Version
 from .frames import DEFAULT_PORT
 
 SERVER_ADDRESS = "127.0.0.1"
@@ -54,7 +55,8 @@ def parse_server_port(text: str) -> int:
 
 
 def add_listening_options(parser: argparse.ArgumentParser, port: int) -> None:
-    """Adds --listen, --to and the option that allows another address than a loopback one."""
+    """Adds --version, --listen, --to and the option that allows another address than a loopback one."""
+    parser.add_argument("--version", action=Version)
     default = Endpoint(SERVER_ADDRESS, port)
     parser.add_argument("--listen", type=parse_endpoint, default=default, metavar="ADDRESS:PORT",
                         help=f"where clients connect ({default}); port 0 takes a free one")

@@ -16,6 +16,7 @@ import tempfile
 import time
 from typing import IO, Dict, List, Optional, Union
 
+from .build_note import packaged_program
 from .client import Instrument
 from .errors import ServerNotStarted, Timeout
 
@@ -27,13 +28,14 @@ PORT_TAKEN = "psu: network fault"
 
 
 def find_program() -> str:
-    """Returns the path of `psu`: the variable PSU, else the one built in this repository, else that of the PATH."""
+    """Returns the path of `psu`: that of the variable PSU, else that of this package, of this clone, or of the PATH."""
     named = os.environ.get("PSU")
-    candidates: List[Optional[str]] = [named] if named else [os.path.normpath(BUILT), shutil.which("psu")]
-    for path in candidates:
+    paths: List[Optional[str]] = [named] if named else [packaged_program(), os.path.normpath(BUILT), shutil.which("psu")]
+    for path in paths:
         if path and os.path.isfile(path) and os.access(path, os.X_OK):
             return path
-    raise FileNotFoundError("no program psu: set PSU to its path, or build it (./psu run < crates/psu/stdin)")
+    missing = f"PSU names {named}" if named else "neither this package nor the PATH has one"
+    raise FileNotFoundError(f"set PSU to the path of the program psu: {missing} (in a clone ./psu builds it)")
 
 
 def free_port() -> int:
