@@ -147,11 +147,13 @@ def text_line(entry: Entry) -> str:
 
 
 def text_event(event: Event) -> str:
-    mark = "!" if event.name in MARKED_EVENTS else " "
+    is_unusual_end = event.name == "ended" and not event.text.startswith(USUAL_ENDS)
+    mark = "!" if event.name in MARKED_EVENTS or is_unusual_end else " "
     return f"{_clock(event.time)} {mark}{_session(event.session):>3} --- {event.name}: {event.text}\n"
 
 
 MARKED_EVENTS = ("unanswered", "missing", "no server", "no HiSLIP", "too many")
+USUAL_ENDS = ("closed by the client", "the relay stopped")  # how a session may end without a mark
 
 
 def _moment(moment: float) -> str:

@@ -14,6 +14,7 @@ from psu.errors import ConnectionLost, FatalError, ServerError, Timeout
 from psu.frames import Frame, MessageType, SocketFrames
 from psu.listening import Endpoint, LoopServer
 from psu.relay import Relay, main
+from psu.relay_connection import MOST_REPEATS
 
 SHORT = 0.3  # seconds; a timeout that is to pass, or a delay that is to be noticed
 LONG = 10.0
@@ -290,6 +291,13 @@ class FaultTest(RelayCase):
         self.assertEqual(client.wait_for_service_request(LONG), 0x60)
         self.assertGreaterEqual(time.monotonic() - begun, SHORT / 2)
 
+    def test_each_service_request_is_repeated(self):
+        client = self.client(self.relay("repeat 0.001"))
+        for _ in range(MOST_REPEATS + 10):
+            client.query("SRQ?")
+            for _ in range(2):
+                self.assertEqual(client.wait_for_service_request(LONG), 0x60)
+
     def test_by_session_count_and_seed(self):
         relay = self.relay("hold response session 2 number 2", "hold response session 1 probability 1 times 1")
         first, second = self.client(relay), self.client(relay)
@@ -305,8 +313,25 @@ class FaultTest(RelayCase):
         client.clear()
         client.query("B?")
         client.close()
-        self.assert_logged("unanswered: ffffff00 A?\\n after 0.", "..> AsyncDeviceClear", "B?", "ended")
+        self.assert_logged("..> AsyncDeviceClear", "unanswered: ffffff00 A?\\n after 0.", "B?", "ended")
         self.assertEqual(self.log.getvalue().count("unanswered"), 1)
+
+    def test_a_response_that_comes_in_a_device_clear_is_one(self):
+        client = self.client(self.relay('delay 0.3 response to "A?"'))
+        client.write("A?")
+        client.clear()
+        client.query("B?")
+        client.close()
+        self.assert_logged("..> AsyncDeviceClear", "A?", "DeviceClearAcknowledge", "B?", "ended: closed by the client")
+        self.assertNotIn("unanswered", self.log.getvalue())
+
+    def test_an_end_that_is_not_the_client_s_is_marked(self):
+        client = self.client(self.relay())
+        client.query("A?")
+        self.server.__exit__()
+        with self.assertRaises(ConnectionLost):
+            client.query("B?")
+        self.assert_logged("A?", " !  1 --- ended: ")
 
     def raw_session(self, relay):
         connection = socket.create_connection(("127.0.0.1", relay.port), timeout=LONG)
