@@ -1,4 +1,4 @@
-"""What psu-relay and psu-socket share: where they listen, and a server on an asyncio loop, alone or in a thread."""
+"""What psu-relay and psu-socket share: where they listen, a server on an asyncio loop, alone or in a thread, and frames."""
 from __future__ import annotations
 
 import argparse
@@ -12,7 +12,16 @@ import threading
 from typing import Callable, NamedTuple, Optional, Set, Tuple, TypeVar
 
 from .build_note import Version
-from .frames import DEFAULT_PORT
+from .frames import (
+    DEFAULT_PORT,
+    HEADER_SIZE,
+    LARGEST_PAYLOAD,
+    CutShort,
+    Frame,
+    Header,
+    allowed_length,
+    unpack_header,
+)
 
 SERVER_ADDRESS = "127.0.0.1"
 NO_PROTECTION = "--yes-i-know-it-has-no-protection"
@@ -169,6 +178,28 @@ class LoopServer:
             self._fault = fault
         finally:
             ready.set()
+
+
+async def read_header(reader: asyncio.StreamReader) -> Optional[Header]:
+    """Returns the next header, None where the stream ends before its first byte."""
+    try:
+        return unpack_header(await reader.readexactly(HEADER_SIZE))
+    except asyncio.IncompleteReadError as end:
+        if end.partial:
+            raise CutShort("the stream ended in the middle of a header") from None
+        return None
+
+
+async def read_frame(reader: asyncio.StreamReader, largest: int = LARGEST_PAYLOAD) -> Optional[Frame]:
+    """Returns the next frame of an asyncio stream, None where the stream ends before it."""
+    header = await read_header(reader)
+    if header is None:
+        return None
+    try:
+        payload = await reader.readexactly(allowed_length(header, largest))
+    except asyncio.IncompleteReadError:
+        raise CutShort("the stream ended in the middle of a payload") from None
+    return Frame(header.kind, header.control, header.parameter, payload)
 
 
 async def connect(port: int) -> Tuple[asyncio.StreamReader, asyncio.StreamWriter]:
