@@ -322,7 +322,7 @@ class FaultTest(RelayCase):
         client.clear()
         client.query("B?")
         client.close()
-        self.assert_logged("..> AsyncDeviceClear", "A?", "DeviceClearAcknowledge", "B?", "ended: closed by the client")
+        self.assert_logged("[delayed", "DeviceClearAcknowledge", "B?", "ended: closed by the client")
         self.assertNotIn("unanswered", self.log.getvalue())
 
     def test_an_end_that_is_not_the_client_s_is_marked(self):
