@@ -159,10 +159,10 @@ class Instrument:
             return self._exchange.errors(self.timeout)
 
     def clear(self) -> None:
-        """Device clear: discards messages that were not executed and responses that were not read.
+        """Device clear: discards messages that were not executed and responses that were not read. A query of another
+        thread ends at once, with Cleared.
 
-        What was executed remains, and so do locks, registers and the error queue. A query of another thread ends at
-        once, with Cleared.
+        What was executed remains, and so do locks, registers and the error queue.
         """
         with self._turn.before_others(), self._order:
             self._ask(Frame(MessageType.ASYNC_DEVICE_CLEAR), MessageType.ASYNC_DEVICE_CLEAR_ACKNOWLEDGE)

@@ -118,6 +118,7 @@ class Server:
 
     @property
     def is_running(self) -> bool:
+        """Whether the process runs."""
         return self.process is not None and self.process.poll() is None
 
     @property
