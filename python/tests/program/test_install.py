@@ -8,6 +8,9 @@ import pytest
 PACKAGE = os.path.dirname(os.path.dirname(os.path.dirname(os.path.abspath(__file__))))
 PROGRAMS = ("psu-relay", "psu-socket", "psu-backup")
 
+if not os.path.exists(os.path.join(PACKAGE, "pyproject.toml")):
+    pytest.skip("this is no clone", allow_module_level=True)
+
 
 def run(*command, **how):
     return subprocess.run(command, stdout=subprocess.PIPE, stderr=subprocess.STDOUT, universal_newlines=True, **how)
