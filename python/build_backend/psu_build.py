@@ -32,7 +32,7 @@ SCRIPTS = {
     "psu-backup": "psu.backup:main",
 }
 PLUGINS = {"psu": "psu_pytest"}
-TOP_MODULES = ("psu_pytest.py",)  # beside the package
+TOP_MODULES = ("psu_pytest.py", "psu_pytest_names.py")  # beside the package
 NOTE = f"{NAME}/BUILD"
 VERSION = re.compile(r'^__version__ = "([0-9.]+)"$', re.MULTILINE)
 ANY = "py3-none-any"

@@ -15,11 +15,14 @@ import socket
 import subprocess
 import tempfile
 import time
-from typing import IO, Dict, List, Optional, Union
+from typing import IO, TYPE_CHECKING, Dict, Iterable, List, Optional, TextIO, Union
 
 from .build_note import packaged_program
 from .client import Instrument
 from .errors import ServerNotStarted, Timeout
+
+if TYPE_CHECKING:
+    from .relay import Relay
 
 # In a clone of the repository the program is built there.
 BUILT = os.path.join(os.path.dirname(os.path.abspath(__file__)), "..", "..", "crates", "psu", "out", "psu")
@@ -93,7 +96,8 @@ class Server:
             self._folder = tempfile.mkdtemp(prefix="psu-")
             image = os.path.join(self._folder, "bench.psu")
         self.image = os.fspath(image)
-        self.port = port
+        self.relay: Optional[Relay] = None
+        self._port = port
         self.process: Optional[subprocess.Popen[str]] = None
         self._is_port_given = port is not None
         self._environment = {**os.environ, **(environment or {})}
@@ -122,6 +126,11 @@ class Server:
         return self.process is not None and self.process.poll() is None
 
     @property
+    def port(self) -> Optional[int]:
+        """Where clients connect: the server's port, or that of the relay before it."""
+        return self._port if self.relay is None else self.relay.port
+
+    @property
     def resource(self) -> str:
         """The resource string of VISA."""
         return f"TCPIP::127.0.0.1::hislip0,{self.port}::INSTR"
@@ -134,9 +143,17 @@ class Server:
         if not os.path.exists(self.image):
             self._make_image()
         if self._is_port_given:
-            self._start_at(self.port)
+            self._start_at(self._port)
         else:
             self._start_at_a_free_port()
+
+    def put_relay(self, rules: Iterable[str] = (), log: Optional[TextIO] = None) -> Relay:
+        """Puts a relay with these rules before the server that runs, until `close`; `port` is the relay's from now on."""
+        from .relay import Relay
+
+        assert self.relay is None and self._port is not None, "the server was started, and has no relay yet"
+        self.relay = Relay(self._port, rules, log).__enter__()
+        return self.relay
 
     def connect(self, timeout: Optional[float] = 5.0, check_errors: bool = False) -> Instrument:
         """Returns a new session."""
@@ -163,6 +180,9 @@ class Server:
     def close(self) -> None:
         """Ends the process; a temporary image is removed."""
         atexit.unregister(self.close)
+        if self.relay is not None:
+            self.relay.__exit__()
+            self.relay = None
         self.stop()
         if self._messages is not None:
             self._messages.close()
@@ -202,14 +222,14 @@ class Server:
 
     def _start_at_a_free_port(self) -> None:
         for _ in range(TRIES):
-            self.port = self.port or free_port()
+            self._port = self._port or free_port()
             try:
-                return self._start_at(self.port)
+                return self._start_at(self._port)
             except ServerNotStarted as fault:
                 # Another program took the port after it was looked for.
                 if PORT_TAKEN not in str(fault):
                     raise
-                self.port = None
+                self._port = None
         raise ServerNotStarted(f"{TRIES} free ports were taken by others before the server had them")
 
     def _start_at(self, port: Optional[int]) -> None:
@@ -231,6 +251,8 @@ class Server:
             raise ServerNotStarted(f"{self.program} can't be run: {fault.strerror}") from None
         self.process = process
         self._lifeline.tie(process.pid)
+        if self.relay is not None and port is not None:
+            self.relay.to = port
         # The line comes once the server takes connections.
         if first_line(process) != f"listening on 127.0.0.1:{port}\n":
             self._end_by(signal.SIGTERM)
