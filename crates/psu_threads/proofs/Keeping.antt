@@ -1,12 +1,11 @@
 -- A seat's answered `*OPC?` in the history, and what is on the disk since.
-use Rattle.std.proofs.Common.{◌≡◌, ◌⊎◌, inl, inr, ℕ, ◌+◌, ◌<◌, ◌≤◌, Bool, true, false, ◌&&◌, ◌==◌, suc, zero, Option, Some, None, List, [], ◌∷◌, ◌++◌, length, map, refl, sym, ap, subst, ◌∙◌, arith, length-append, append_assoc, if◌then◌else◌}
+use Rattle.std.proofs.Common.{◌≡◌, inl, inr, ℕ, ◌+◌, Bool, true, false, ◌&&◌, ◌==◌, suc, zero, Option, Some, List, [], ◌∷◌, ◌++◌, length, map, refl, sym, ap, subst, ◌∙◌, arith, length-append, append_assoc, if◌then◌else◌}
 use Rattle.std.proofs.lemmas.Bool.{eqb-true}
 use Rattle.std.specs.Prelude.{slice_get}
 use Rattle.psu_disk.specs.Disk.{DiskState}
 use Rattle.psu_exec.specs.Calls.{Entry, ends_wait}
-use Rattle.psu_exec.specs.Device.{Answer, Reply, State, is_open}
-use Rattle.psu_exec.specs.Headline.{IsPrefix}
-use Rattle.psu_exec.specs.World.{World, Fate, Gave, Waits, Dropped, PastUnit, Happens, Call, DiskCall, asks_opc, dropped, ended, ended_fate, is_answer, is_answered, is_executed, recorded, recorded_settle, unit_of, IsStart}
+use Rattle.psu_exec.specs.Device.{Answer, State, is_open}
+use Rattle.psu_exec.specs.World.{World, Fate, Gave, Waits, Dropped, PastUnit, Happens, Call, DiskCall, asks_opc, ended, ended_fate, is_answer, is_answered, is_executed, recorded, unit_of}
 use Rattle.psu_exec.proofs.Histories.{AnsweredAt, answered_greatest}
 use Rattle.psu_tree.specs.declared.command.Request.{Request}
 use Rattle.psu_turn.specs.History.{calls_by, numbered, StartsWith}

@@ -12,12 +12,12 @@ use Rattle.psu_messages.specs.Effects as messages
 use Rattle.psu_messages.specs.Effects.{Effect}
 use Rattle.psu_session.specs.Answered.{AreMessagesAnswered, AreTheClients, IsMessageAnswered, EachIsAnswered, MessagesAreTheStreams, NothingElseIsSent, TakesAtMost, TransmissionsAreTheClients, Weaves, pieces}
 use Rattle.psu_session.specs.Answered as replies
-use Rattle.psu_session.specs.Events.{Event, Did, call_of, Put, exchange_history, Call, bytes_received}
+use Rattle.psu_session.specs.Events.{Event, Did, call_of, Put, exchange_history, bytes_received}
 use Rattle.psu_session.specs.Exchange.{Done, Order, effects, frames, orders, Turn}
 use Rattle.psu_session.specs.Step.{happened}
 use Rattle.psu_session.proofs.Mapped.{none_mapped, split}
 use Rattle.psu_threads.specs.Called.{AreAllEntries, AreEntries, MayNotify}
-use Rattle.psu_threads.specs.Recorded.{AreEffects, AreSent, IsSent, Recorded, responses, responses_in, IsAnswered, RecordedTurn, effects_of, HasOne, IsReplied, OneResponseIsSent, EachResponseIsOfTheHistory, HasEntries, IsRecorded, all_entries}
+use Rattle.psu_threads.specs.Recorded.{AreEffects, AreSent, IsSent, Recorded, responses, responses_in, IsAnswered, RecordedTurn, effects_of, HasOne, IsReplied, OneResponseIsSent, EachResponseIsOfTheHistory, HasEntries}
 use Rattle.psu_threads.specs.Recorded.AreSent.{NoMessage, OneMore}
 use Rattle.psu_threads.proofs.Recording.{of_history}
 use Rattle.psu_hislip.specs.declared.side.Side.TheVariants.{Sync, Async}
@@ -28,7 +28,6 @@ use Rattle.std.proofs.lemmas.List.Elements.{All-from_recursion, recursion_from_A
 use Rattle.std.proofs.lemmas.Simd.{map-map}
 use Rattle.psu_session.specs.History.{HistoriesAreExchanges}
 use Rattle.psu_session.specs.State.{orders_in}
-use Rattle.psu_threads.specs.Seated.{IsSeated}
 
 -- what holds of each element of two lists holds of each of both
 pub both_of : {X : Type 0} (P : X → Type 0) (xs ys : List X) → AllByRecursion P (xs ++ ys) → AllByRecursion P xs × AllByRecursion P ys

@@ -1,6 +1,6 @@
 -- A session and its seat, from one call of the session to the next.
 use Rattle.std.specs.Prelude.{IfOk, OnErr}
-use Rattle.std.proofs.Common.{Result, Ok, Err, ◌≡◌, ℕ, Bool, true, false, Option, Some, None, List, [], ◌∷◌, ◌++◌, refl, sym, ap, ◌∙◌, subst, append_assoc, inl}
+use Rattle.std.proofs.Common.{Result, Ok, Err, ◌≡◌, ℕ, Bool, true, false, Option, Some, List, [], ◌∷◌, ◌++◌, refl, sym, ap, ◌∙◌, subst, append_assoc, inl}
 use Rattle.std.proofs.lemmas.List.{append-nil}
 use Rattle.std.proofs.lemmas.Bool.{false≢true}
 use Rattle.psu_exec.specs.Device.{State}
@@ -11,8 +11,8 @@ use Rattle.psu_bench.specs.Calls.{AllowsOn}
 use Rattle.psu_bench.specs.Opened.{HasOpened}
 use Rattle.psu_session.specs.Events.{Call, Event, calls}
 use Rattle.psu_session.specs.Phases.{phase_ended}
-use Rattle.psu_session.specs.State.{SessionState, Start}
-use Rattle.psu_session.specs.Step.{IsHistory, Steps}
+use Rattle.psu_session.specs.State.{SessionState}
+use Rattle.psu_session.specs.Step.{IsHistory}
 use Rattle.psu_session.specs.Step.Steps.{Still}
 use Rattle.psu_session.specs.declared.phase.Phase.{Phase}
 use Rattle.psu_session.proofs.Serving.{calls-append}

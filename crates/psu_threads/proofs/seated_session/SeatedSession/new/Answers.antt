@@ -6,7 +6,7 @@ use Rattle.psu_threads.proofs.seated_session.SeatedSession.new.Goals as goal
 
 pub invariant_of-session : goal.invariant_of-session
 invariant_of-session g c =
-    let parts = c.into_parts in
+    let parts = c.into_parts-number in
     let s = c.args.session in
     let begun = subst (λ (n : ℕ). HasBegun n c.requires.0 s.phase s.state) (sym parts.ensures.number) c.requires.1 in
     let access = parts.result.1 in
