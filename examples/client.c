@@ -2,23 +2,26 @@
  *
  *     cc -o client client.c && ./client 4880 'VOLT 5;VOLT?' '*OPC?'
  *
- * It reads the response of each message that has a `?`. docs/COMMANDS.md, "For a client of your own", has the frames.
+ * It reads the response of each message that has a query, for five seconds at most: a refused one has none. The guide
+ * has the frames (COMMANDS.md, "A client of your own").
  */
 #include <arpa/inet.h>
 #include <endian.h>
+#include <errno.h>
 #include <netinet/tcp.h>
 #include <stdint.h>
 #include <stdio.h>
 #include <stdlib.h>
 #include <string.h>
 #include <sys/socket.h>
+#include <sys/time.h>
 #include <unistd.h>
 
 enum {
     INITIALIZE = 0, FATAL_ERROR = 2, ERROR = 3, DATA = 6, DATA_END = 7, ASYNC_MAXIMUM_SIZE = 15, ASYNC_INITIALIZE = 17,
     ASYNC_SERVICE_REQUEST = 20, ASYNC_STATUS_QUERY = 21
 };
-enum { LARGEST = 65536, PROTOCOL_1_0 = 0x0100, VENDOR = 'X' << 8 | 'X' };
+enum { LARGEST = 65536, PROTOCOL_1_0 = 0x0100, VENDOR = 'X' << 8 | 'X', LONGEST_WAIT = 5 /* seconds */ };
 
 struct header { /* 16 bytes, high byte first */
     char prologue[2];
@@ -39,9 +42,11 @@ static void fail(const char *what) {
 
 static int connected(int port) {
     struct sockaddr_in address = {.sin_family = AF_INET, .sin_port = htons(port)};
+    struct timeval longest = {.tv_sec = LONGEST_WAIT};
     int made = socket(AF_INET, SOCK_STREAM, 0), on = 1;
     inet_pton(AF_INET, "127.0.0.1", &address.sin_addr);
     if (made < 0 || connect(made, (struct sockaddr *)&address, sizeof address) < 0) fail("nothing listens");
+    setsockopt(made, SOL_SOCKET, SO_RCVTIMEO, &longest, sizeof longest);
     setsockopt(made, IPPROTO_TCP, TCP_NODELAY, &on, sizeof on);
     return made;
 }
@@ -57,13 +62,19 @@ static void send_frame(int to, int type, int control, uint32_t parameter, const 
     send_all(to, bytes, count);
 }
 
+static void receive_all(int from, void *bytes, size_t count) {
+    for (ssize_t done; count > 0; bytes = (char *)bytes + done, count -= done)
+        if ((done = recv(from, bytes, count, 0)) <= 0)
+            fail(done < 0 && errno == EAGAIN ? "no response in time (SYST:ERR? says why)" : "the server closed the connection");
+}
+
 /* Receives a frame into `header` and `payload`. An Error or FatalError ends the program. */
 static void receive_frame(int from, struct header *header) {
-    if (recv(from, header, sizeof *header, MSG_WAITALL) != sizeof *header) fail("the server closed the connection");
+    receive_all(from, header, sizeof *header);
     header->parameter = ntohl(header->parameter);
     header->length = be64toh(header->length);
     if (memcmp(header->prologue, "HS", 2) || header->length > LARGEST) fail("this is not HiSLIP");
-    if (header->length && recv(from, payload, header->length, MSG_WAITALL) != (ssize_t)header->length) fail("cut short");
+    receive_all(from, payload, header->length);
     payload[header->length] = 0;
     if (header->type == ERROR || header->type == FATAL_ERROR) {
         fprintf(stderr, "client: %s %d\n", header->type == ERROR ? "Error" : "FatalError", header->control);
@@ -100,13 +111,32 @@ static void print_response(uint32_t id) {
     is_delivered = 1;
 }
 
+/* The last byte of the block `#15hello` at a place, or of the message where that ends before. `#0` takes all of it. */
+static const char *end_of_block(const char *at) {
+    size_t digits = at[1] - '0', length = 0;
+    if (digits == 0) return at + strlen(at) - 1;
+    for (at++; digits > 0 && at[1] >= '0' && at[1] <= '9'; digits--) length = 10 * length + *++at - '0';
+    return at + strnlen(at + 1, length);
+}
+
+/* Whether a message has a `?` outside of strings and blocks. */
+static int has_query(const char *at) {
+    for (; *at; at++) {
+        if (*at == '?') return 1;
+        if (*at == '"' || *at == '\'') at = strchr(at + 1, *at);
+        else if (*at == '#' && at[1] >= '0' && at[1] <= '9') at = end_of_block(at);
+        if (!at) return 0;
+    }
+    return 0;
+}
+
 int main(int count, char **words) {
     if (count < 3) fail("usage: client PORT MESSAGE..");
     begin_session(atoi(words[1]));
     for (int i = 2; i < count; i++, message_id += 2) {
         send_frame(sync_socket, DATA_END, is_delivered, message_id, words[i], strlen(words[i]));
         is_delivered = 0;
-        if (strchr(words[i], '?')) print_response(message_id);
+        if (has_query(words[i])) print_response(message_id);
     }
     printf("status byte %d\n", ask(ASYNC_STATUS_QUERY, is_delivered, message_id - 2, "", 0).control);
     return 0;

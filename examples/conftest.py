@@ -1,4 +1,4 @@
-"""Fixtures of pytest for the tests in this folder: `server`, `supply` and `connect` of psu.pytest_plugin.
+"""Fixtures of pytest for the tests in this folder: `psu_server` and the others of psu.pytest_plugin.
 
 Needs pytest, Python 3.8 or later and the program `psu`, which is found by the variable PSU, else in ../crates/psu/out,
 else on the PATH: python3 -m pytest examples
@@ -6,4 +6,4 @@ Where the package `psu` is installed, a driver's tests have these fixtures witho
 127.0.0.1 at `server.port`, or to `server.resource` by VISA.
 """
 import psu_path  # noqa: F401  (finds ../python)
-from psu.pytest_plugin import connect, server, supply  # noqa: F401
+from psu.pytest_plugin import *  # noqa: F401, F403

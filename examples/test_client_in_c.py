@@ -65,3 +65,13 @@ def test_nothing_listens(run, server):
     port = server.port
     server.kill()
     assert run("*IDN?", port=port).stderr == b"client: nothing listens\n"
+
+
+def test_a_refused_query_has_no_response(run):
+    ended = run("FOO?")
+    assert (ended.returncode, ended.stderr) == (1, b"client: no response in time (SYST:ERR? says why)\n")
+
+
+def test_a_question_mark_in_a_string_or_a_block(run):
+    ended = run('MMEM:DATA "a",#13x?y', "MMEM:DEL 'b?'", "VOLT 'not closed?", 'MMEM:DATA "b",#0?', '*CLS;MMEM:DATA? "a"')
+    assert (ended.returncode, ended.stdout) == (0, b"#13x?y\nstatus byte 0\n")

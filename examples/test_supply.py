@@ -252,7 +252,7 @@ def test_a_block_of_any_bytes_in_both_directions(supply):
 
 def test_a_message_of_many_parts(supply):
     data = bytes(range(256)) * 128
-    supply._room = 100
+    supply._messages.room = 100
     supply.write_block('MMEM:DATA "bytes",', data)
     assert supply.query_block('MMEM:DATA? "bytes"') == data
 
@@ -274,7 +274,7 @@ def wait_until(holds):
 
 
 def test_message_ids_wrap(supply):
-    supply._next_id = 0xFFFF_FFFE
+    supply._messages._next_id = 0xFFFF_FFFE
     assert [supply.query("*OPC?") for _ in range(3)] == ["1"] * 3
 
 
@@ -287,7 +287,7 @@ def test_clear_discards_unread_responses(supply):
 
 
 def test_an_error_of_the_server_leaves_the_session_usable(supply):
-    supply._sync.send(Frame(200), 5)  # a message type of a vendor, which the server does not have
+    supply._messages.send(Frame(200), 5)  # a message type of a vendor, which the server does not have
     with pytest.raises(ServerError) as error:
         supply.query("*OPC?")
     assert error.value.code == 3

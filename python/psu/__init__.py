@@ -4,6 +4,7 @@
 """
 from .client import Instrument, LockInfo
 from .errors import (
+    Cleared,
     ConnectionLost,
     FatalError,
     HislipError,
@@ -22,6 +23,7 @@ from .server import Server
 __version__ = "1.0"
 
 __all__ = [
+    "Cleared",
     "ConnectionLost",
     "FatalError",
     "HislipError",

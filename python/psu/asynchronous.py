@@ -7,12 +7,13 @@ import threading
 import time
 from typing import Callable, Deque, List, NoReturn, Optional
 
-from .channel import Channel
+from .channel import Channel, EndAll, closed_by_client, finite
 from .errors import FatalError, HislipError, ProtocolError, ServerError, Timeout
-from .frames import Frame, MessageType, name_of
+from .frames import Frame, MessageType, is_known, name_of, refusal_of
 
 WITHOUT_END = 3600.0  # seconds that the reading thread waits at once
 JOIN_TIMEOUT = 1.0  # seconds
+REFUSAL_TIMEOUT = 1.0  # seconds in which a server reads that one of its messages is unknown
 MOST_REQUESTS = 1000  # service requests that are kept; of more the oldest are forgotten
 
 Callback = Callable[[int], object]
@@ -42,7 +43,7 @@ class Asynchronous:
     `end_all` is called with the reason where the session can't continue.
     """
 
-    def __init__(self, channel: Channel, end_all: Callable[[str], None]) -> None:
+    def __init__(self, channel: Channel, end_all: EndAll) -> None:
         self._channel = channel
         self._end_all = end_all
         self._changed = threading.Condition()
@@ -67,13 +68,13 @@ class Asynchronous:
             while not ask.is_answered():
                 if self._end is not None:
                     self._raise_end()
-                if not self._changed.wait(deadline - time.monotonic()) and not ask.is_answered():
+                if not self._changed.wait(finite(deadline - time.monotonic())) and not ask.is_answered():
                     break
         if not ask.is_answered():
             # The response, if it came later, would be taken for the response to the next message.
             name = name_of(frame.kind)
-            self._end_all(f"the server did not answer {name} in time")
-            raise Timeout(f"no response to {name} in time; this client closed the session")
+            self._end_all(*closed_by_client(f"the server did not answer {name} in time"))
+            raise Timeout(f"no response to {name} in {timeout:g} s", session_continues=False)
         return ask.result()
 
     def wait_for_request(self, timeout: float) -> int:
@@ -88,9 +89,16 @@ class Asynchronous:
                 self._raise_fault()
                 remaining = deadline - time.monotonic()
                 if remaining <= 0:
-                    raise Timeout("no service request in time")
-                self._changed.wait(remaining)
+                    raise Timeout(f"no service request in {timeout:g} s", session_continues=True)
+                self._changed.wait(finite(remaining))
             return self._requests.popleft()
+
+    def drop_requests(self) -> int:
+        """Forgets the service requests that came and were not fetched, and returns how many they were."""
+        with self._changed:
+            count = len(self._requests)
+            self._requests.clear()
+        return count
 
     def set_callback(self, callback: Optional[Callback]) -> None:
         with self._changed:
@@ -106,6 +114,7 @@ class Asynchronous:
                 thread.join(JOIN_TIMEOUT)
 
     def _send(self, frame: Frame, ask: Ask, timeout: float) -> None:
+        message = frame.pack()  # what can't be packed raises here, before its ask stands among the others
         # The list of asks is in the order of sending, since responses of a kind come in that order.
         with self._sending:
             with self._changed:
@@ -114,9 +123,15 @@ class Asynchronous:
                 self._raise_fault()
                 self._asks.append(ask)
             try:
-                self._channel.send(frame, timeout)
-            except Timeout:
-                self._end_all("the server did not read")
+                self._channel.send(message, timeout)
+            except Timeout as fault:
+                self._end_all(*closed_by_client("the server did not read"))
+                raise Timeout(fault.text, session_continues=False) from None
+            except ConnectionError:
+                raise
+            except BaseException:
+                # Its ask stands among the others, and a part of it may be sent.
+                self._end_all(*closed_by_client("a write was interrupted"))
                 raise
 
     def _raise_fault(self) -> None:
@@ -143,7 +158,7 @@ class Asynchronous:
                 self._end = end
                 self._changed.notify_all()
             if isinstance(end, (FatalError, ProtocolError)):
-                self._end_all(str(end))
+                self._end_all(*closed_by_client(str(end)))
 
     def _receive(self) -> Frame:
         while True:
@@ -156,6 +171,10 @@ class Asynchronous:
         text = frame.payload.decode("utf-8", "replace")
         if frame.kind == MessageType.FATAL_ERROR:
             raise FatalError(frame.control, text)
+        if not is_known(frame.kind):
+            with self._sending:
+                self._channel.send(refusal_of(frame).pack(), REFUSAL_TIMEOUT)
+            return
         with self._changed:
             if frame.kind == MessageType.ASYNC_SERVICE_REQUEST:
                 self._requests.append(frame.control)

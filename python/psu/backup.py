@@ -9,7 +9,8 @@ server at this port is seen by a change that leaves all as it is (*PSC with the 
 root has to rise. Where no process has IMAGE open, it is locked (flock) and copied without a server.
 
 The copy is checked by `psu recover`, which closes an older gate of it where one is open. Then COPY and COPY.sha256 are
-made, each whole or not at all; COPY must not be there before. --check compares the two; `sha256sum -c` does too.
+made, each whole or not at all; COPY must not be there before. A run that is killed may leave COPY.new, which the next
+one to COPY replaces. --check compares the two; `sha256sum -c` does too.
 Prints nothing where all is well, else one line on standard error with status 1. Restore a copy while no server runs:
     install -o psu -g psu -m 600 COPY IMAGE && sync IMAGE
 """
@@ -108,10 +109,25 @@ def sync_path(path: str) -> None:
 
 
 @contextlib.contextmanager
+def alone_in(folder: str) -> Iterator[None]:
+    """Has other runs that write into this folder wait in a `with` block."""
+    file = os.open(folder, os.O_RDONLY | os.O_CLOEXEC)
+    try:
+        with contextlib.suppress(OSError):  # a file system without locks
+            fcntl.flock(file, fcntl.LOCK_EX)
+        yield
+    finally:
+        os.close(file)
+
+
+@contextlib.contextmanager
 def new_file(path: str, content: bytes) -> Iterator[str]:
-    """Writes a file beside a path, for a `with` block that ends with its name changed to the path."""
+    """Writes a file beside a path, for a `with` block that ends with its name changed to the path.
+
+    No other run writes into the folder meanwhile, so a file that is there already is one that a killed run left.
+    """
     unfinished = f"{path}.new"
-    with open(unfinished, "xb", opener=lambda name, flags: os.open(name, flags, 0o600)) as file:
+    with open(unfinished, "wb", opener=lambda name, flags: os.open(name, flags, 0o600)) as file:
         try:
             file.write(content)
             file.flush()
@@ -136,6 +152,13 @@ def sum_of(path: str) -> str:
 
 def make(image: str, copy: str, port: int, timeout: float, program: str) -> None:
     """Makes a copy that was checked, with its SHA-256 beside it."""
+    folder = os.path.dirname(os.path.abspath(copy))
+    with alone_in(folder):
+        make_alone(image, copy, port, timeout, program)
+        sync_path(folder)
+
+
+def make_alone(image: str, copy: str, port: int, timeout: float, program: str) -> None:
     sums = f"{copy}.sha256"
     for path in (copy, sums):
         if os.path.lexists(path):
@@ -146,7 +169,6 @@ def make(image: str, copy: str, port: int, timeout: float, program: str) -> None
         sync_path(unfinished)
     with new_file(sums, line.encode()):
         pass
-    sync_path(os.path.dirname(os.path.abspath(copy)))
 
 
 def check(copy: str) -> None:

@@ -3,6 +3,8 @@ from __future__ import annotations
 
 from .errors import ProtocolError, ScpiError
 
+MOST_SHOWN = 60  # characters of a message in the text of an exception
+
 
 def encoded(text: str) -> bytes:
     # Bytes of a command line that are not UTF-8 are sent as they were typed.
@@ -29,10 +31,16 @@ def block_content(response: bytes) -> bytes:
     return response[begin:end]
 
 
-def error_of(response: str) -> ScpiError:
+def error_of(response: bytes) -> ScpiError:
     """Returns the error of a response to SYST:ERR?, as `-113,"Undefined header"`."""
-    number, _, text = response.partition(",")
+    number, _, text = response.decode("utf-8", "replace").partition(",")
     try:
         return ScpiError(int(number), text.strip().strip('"'))
     except ValueError:
         raise ProtocolError(f"no error of a queue: {response!r}") from None
+
+
+def shown(message: bytes) -> str:
+    """Returns a message as it is named in the text of an exception: its first characters, without the line feed."""
+    text = message.rstrip(b"\n").decode("utf-8", "replace")
+    return text if len(text) <= MOST_SHOWN else f"{text[:MOST_SHOWN]}.."

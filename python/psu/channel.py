@@ -1,67 +1,106 @@
 """One of the two connections of a HiSLIP session, on which whole messages are sent and received."""
 from __future__ import annotations
 
+import errno
+import ipaddress
 import socket
-from typing import Callable, Optional
+import threading
+from typing import Callable, List, Optional, Tuple, Type
 
 from .errors import ConnectionLost, ProtocolError, SessionClosed, Timeout
-from .frames import Frame, FrameError, SocketFrames
+from .frames import CutShort, Frame, FrameError, Interrupt, SocketFrames
+
+LOST = "the server closed the connection"
+End = Tuple[Type[ConnectionError], str]  # why a connection has ended
+EndAll = Callable[[Type[ConnectionError], str], None]
+
+
+def finite(seconds: float) -> Optional[float]:
+    """Returns what the system takes as the longest wait: None where it is without end."""
+    return seconds if seconds <= threading.TIMEOUT_MAX else None
+
+
+def is_of_this_machine(host: str) -> bool:
+    try:
+        return ipaddress.ip_address(host).is_loopback
+    except ValueError:
+        return host == "localhost"
 
 
 def connected(host: str, port: int, timeout: float) -> socket.socket:
     try:
-        made = socket.create_connection((host, port), timeout)
+        made = socket.create_connection((host, port), finite(timeout))
     except ConnectionRefusedError:
-        raise ConnectionRefusedError(f"nothing listens on {host}:{port} (start: psu serve IMAGE)") from None
+        start = " (start: psu serve IMAGE)" if is_of_this_machine(host) else ""
+        refused = ConnectionRefusedError(f"nothing listens on {host}:{port}{start}")
+        refused.errno = errno.ECONNREFUSED
+        raise refused from None
     except socket.timeout:
-        raise Timeout(f"{host}:{port} takes no connection in time") from None
+        raise Timeout(f"{host}:{port} takes no connection in {timeout:g} s", session_continues=False) from None
     made.setsockopt(socket.IPPROTO_TCP, socket.TCP_NODELAY, 1)
     return made
 
 
 class Channel:
-    """A connection. One thread at a time may send, and one receive; any thread may end it."""
+    """A connection. One thread at a time may send, and one receive; any thread may end it.
 
-    def __init__(self, host: str, port: int, timeout: float) -> None:
+    `end_all` ends both connections of the session, where this one is lost. `interrupt` ends the wait in `receive`.
+    """
+
+    def __init__(
+        self, host: str, port: int, timeout: float, end_all: EndAll, interrupt: Optional[Interrupt] = None
+    ) -> None:
+        self._end_all = end_all
         self._socket = connected(host, port, timeout)
-        self._frames = SocketFrames(self._socket)
-        self._end: Optional[Callable[[], ConnectionError]] = None
+        self._frames = SocketFrames(self._socket, interrupt=interrupt)
+        self._end: Optional[End] = None
 
-    def send(self, frame: Frame, timeout: float) -> None:
-        """Sends a message. After a Timeout a part of it may be sent, so that the connection has to be ended."""
+    def send(self, message: bytes, timeout: float) -> None:
+        """Sends a packed message. After an exception a part of it may be sent, so that the connection has to be ended."""
         self._raise_end()
         # With a timeout of 0 the socket would not wait, and would not raise the exception of a timeout.
-        self._socket.settimeout(max(timeout, 0.001))
+        self._socket.settimeout(finite(max(timeout, 0.001)))
         try:
-            self._socket.sendall(frame.pack())
+            self._socket.sendall(message)
         except socket.timeout:
-            raise Timeout("the server does not read") from None
+            raise Timeout(f"the server has not read in {timeout:g} s") from None
         except OSError:
             self._raise_end()
-            raise self._lost() from None
+            raise self._lost(LOST) from None
 
-    def receive(self, timeout: float) -> Frame:
-        """Returns the next message. After a Timeout its bytes so far are kept, and the next call continues."""
+    def receive(self, timeout: float, is_interrupted: bool = True) -> Frame:
+        """Returns the next message. After a Timeout its bytes so far are kept, and the next call continues.
+
+        Raises Interrupted where the channel's interrupt is set, unless `is_interrupted` is false.
+        """
         self._raise_end()
         try:
-            frame = self._frames.receive(timeout)
+            frame = self._frames.receive(finite(timeout), is_interrupted)
         except TimeoutError:
-            raise Timeout("no response in time") from None
+            raise Timeout(f"no message in {timeout:g} s") from None
+        except CutShort:
+            self._raise_end()
+            raise self._lost(f"{LOST} in the middle of a message") from None
         except FrameError as fault:
             self._raise_end()
             raise ProtocolError(f"the server sent no HiSLIP message: {fault}") from None
         except OSError:
             self._raise_end()
-            raise self._lost() from None
+            raise self._lost(LOST) from None
         if frame is None:
             self._raise_end()
-            raise self._lost()
+            raise self._lost(LOST)
         return frame
 
-    def note_end(self, why: str) -> None:
-        """Notes why the connection is ended from this side, before it is. The first reason stays."""
+    def note_end(self, end: End) -> None:
+        """Notes why the connection ends, before it is ended from this side. The first reason stays."""
         if self._end is None:
-            self._end = lambda: SessionClosed(f"this client closed the session: {why}")
+            self._end = end
+
+    @property
+    def end(self) -> Optional[End]:
+        """Why the connection has ended; None while it is open."""
+        return self._end
 
     def shut(self) -> None:
         """Ends the connection, and wakes a thread that waits in `receive`."""
@@ -74,12 +113,30 @@ class Channel:
         """Gives back the socket of a connection that has ended, once no thread uses it."""
         self._socket.close()
 
-    def _lost(self) -> ConnectionError:
-        if self._end is None:
-            self._end = lambda: ConnectionLost("the server closed the connection")
-            self.shut()
-        return self._end()
+    def _lost(self, why: str) -> ConnectionError:
+        self._end_all(ConnectionLost, why)
+        assert self._end is not None
+        kind, why = self._end
+        return kind(why)
 
     def _raise_end(self) -> None:
         if self._end is not None:
-            raise self._end()
+            kind, why = self._end
+            raise kind(why)
+
+
+def ender(channels: List[Channel]) -> EndAll:
+    """Returns a function that ends all connections of a session. It does not hold the session itself."""
+
+    def end_all(kind: Type[ConnectionError], why: str) -> None:
+        # Once one connection has ended the server ends the other, for the same reason.
+        for channel in channels:
+            channel.note_end((kind, why))
+        for channel in channels:
+            channel.shut()
+
+    return end_all
+
+
+def closed_by_client(why: str) -> End:
+    return SessionClosed, f"this client closed the session: {why}"

@@ -4,6 +4,7 @@ from __future__ import annotations
 import argparse
 from typing import Callable, Optional, Union
 
+from .build_note import Version
 from .errors import HislipError
 from .frames import DEFAULT_PORT
 
@@ -14,6 +15,7 @@ def parser(description: Optional[str]) -> argparse.ArgumentParser:
     """Returns a parser of the command line with the option --port."""
     form = argparse.RawDescriptionHelpFormatter
     made = argparse.ArgumentParser(description=description, formatter_class=form)
+    made.add_argument("--version", action=Version)
     made.add_argument("--port", type=int, default=DEFAULT_PORT, help="the server's port on 127.0.0.1 (4880)")
     return made
 

@@ -2,7 +2,7 @@
 from __future__ import annotations
 
 import enum
-from typing import List, NamedTuple
+from typing import List, NamedTuple, Optional
 
 from .frames import ERRORS, FATAL_ERRORS
 
@@ -35,7 +35,22 @@ class ProtocolError(HislipError):
 
 
 class Timeout(HislipError, TimeoutError):
-    """Nothing came in time. A sent message may still be executed: `Instrument.clear` discards it and its response."""
+    """Nothing came in time. The text says of what, in how many seconds, and whether the session continues.
+
+    A message that was sent may still be executed: `Instrument.clear` discards it and its response.
+    `session_continues` is None where it is no session that was waited for.
+    """
+
+    ENDS = {None: "", True: "; the session continues", False: "; this client closed the session"}
+
+    def __init__(self, text: str, session_continues: Optional[bool] = None) -> None:
+        super().__init__(text + self.ENDS[session_continues])
+        self.text = text
+        self.session_continues = session_continues
+
+
+class Cleared(HislipError):
+    """A device clear by another thread discarded this thread's message or its response."""
 
 
 class ConnectionLost(HislipError, ConnectionError):
@@ -78,14 +93,17 @@ class ScpiError(NamedTuple):
 class InstrumentError(HislipError):
     """The instrument's errors, the oldest first; `number` is that of the newest, which the last message caused.
 
-    All sessions share the error queue, so with several clients an error may be another's.
+    `response` has what the message was answered all the same, without the line feed at its end; None where nothing.
+    Where a query has no response and the error queue is empty, `errors` is empty and `number` is 0: it was no query, or
+    another session read its error. All sessions share the queue, so with several clients an error may be another's.
     """
 
-    def __init__(self, errors: List[ScpiError], message: str = "") -> None:
-        listed = "; ".join(map(str, errors))
+    def __init__(self, errors: List[ScpiError], message: str = "", response: Optional[bytes] = None) -> None:
+        listed = "; ".join(map(str, errors)) or "no response, and no error in the queue"
         super().__init__(f"{message}: {listed}" if message else listed)
         self.errors = errors
-        self.number = errors[-1].number
+        self.number = errors[-1].number if errors else 0
+        self.response = response
 
 
 class ServerNotStarted(RuntimeError):

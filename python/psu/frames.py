@@ -10,13 +10,13 @@ A frame is a header of 16 bytes and a payload:
 """
 from __future__ import annotations
 
-import asyncio
 import enum
 import functools
+import selectors
 import socket
 import struct
 import time
-from typing import Dict, NamedTuple, Optional
+from typing import Dict, List, NamedTuple, Optional
 
 PROLOGUE = b"HS"
 HEADER = struct.Struct(">2sBBIQ")
@@ -25,7 +25,8 @@ DEFAULT_PORT = 4880
 PROTOCOL_1_0 = 0x0100  # the version in the high half of the parameter of Initialize and InitializeResponse
 FIRST_MESSAGE_ID = 0xFFFF_FF00
 MESSAGE_ID_STEP = 2
-LARGEST_PAYLOAD = 1 << 20  # what the readers below take, where the caller names no limit
+LARGEST_PAYLOAD = 1 << 20  # what the readers take, where the caller names no limit
+FIRST_VENDOR_TYPE = 128
 
 
 class MessageType(enum.IntEnum):
@@ -88,6 +89,14 @@ class FrameError(Exception):
     """What came is no frame: no "HS" at its begin, an end in its middle, or a payload over the reader's limit."""
 
 
+class CutShort(FrameError):
+    """The stream ended in the middle of a frame."""
+
+
+class Interrupted(Exception):
+    """Another thread wants the place of the one that waits for a frame."""
+
+
 class Header(NamedTuple):
     """The header of a frame. `kind` is a number, since a peer may send types that HiSLIP 1.0 does not have."""
 
@@ -133,7 +142,12 @@ def before(message_id: int) -> int:
     return (message_id - MESSAGE_ID_STEP) % (1 << 32)
 
 
-# Readers
+# Readers, of which listening.py has those of asyncio's streams
+
+
+# On Windows there is no poll.
+SELECTOR = getattr(selectors, "PollSelector", selectors.SelectSelector)
+LONGEST_SELECT = 86400.0  # seconds; the system takes less than a month
 
 
 def allowed_length(header: Header, largest: int) -> int:
@@ -143,67 +157,78 @@ def allowed_length(header: Header, largest: int) -> int:
     return header.length
 
 
-async def read_header(reader: asyncio.StreamReader) -> Optional[Header]:
-    """Returns the next header, None where the stream ends before its first byte."""
-    try:
-        return unpack_header(await reader.readexactly(HEADER_SIZE))
-    except asyncio.IncompleteReadError as end:
-        if end.partial:
-            raise FrameError("the stream ended in the middle of a header") from None
-        return None
+class Interrupt:
+    """Ends the wait of threads for a frame, and keeps them from another, from `set` until `clear`."""
 
+    def __init__(self) -> None:
+        self.near, self._far = socket.socketpair()  # a byte is in it while it is set
 
-async def read_frame(reader: asyncio.StreamReader, largest: int = LARGEST_PAYLOAD) -> Optional[Frame]:
-    """Returns the next frame of an asyncio stream, None where the stream ends before it."""
-    header = await read_header(reader)
-    if header is None:
-        return None
-    try:
-        payload = await reader.readexactly(allowed_length(header, largest))
-    except asyncio.IncompleteReadError:
-        raise FrameError("the stream ended in the middle of a payload") from None
-    return Frame(header.kind, header.control, header.parameter, payload)
+    def set(self) -> None:
+        self._far.send(b"!")
+
+    def clear(self) -> None:
+        self.near.recv(1)
+
+    def close(self) -> None:
+        self.near.close()
+        self._far.close()
 
 
 class SocketFrames:
     """Reads frames from a socket. After a timeout the bytes so far are kept, and the next call continues."""
 
-    def __init__(self, connection: socket.socket, largest: int = LARGEST_PAYLOAD) -> None:
+    def __init__(
+        self, connection: socket.socket, largest: int = LARGEST_PAYLOAD, interrupt: Optional[Interrupt] = None
+    ) -> None:
         self._socket = connection
         self._largest = largest
         self._received = bytearray()
+        self._ready, self._socket_alone = SELECTOR(), SELECTOR()
+        self._ready.register(connection, selectors.EVENT_READ)
+        self._socket_alone.register(connection, selectors.EVENT_READ)
+        if interrupt is not None:
+            self._ready.register(interrupt.near, selectors.EVENT_READ)
 
-    def receive(self, timeout: Optional[float] = None) -> Optional[Frame]:
-        """Returns the next frame, None where the stream ends before it; raises TimeoutError after so many seconds."""
+    def receive(self, timeout: Optional[float] = None, is_interrupted: bool = True) -> Optional[Frame]:
+        """Returns the next frame, None where the stream ends before it.
+
+        Raises TimeoutError after so many seconds, CutShort where the stream ends within the frame, and Interrupted
+        where another thread ends the wait, unless `is_interrupted` is false.
+        """
         deadline = None if timeout is None else time.monotonic() + timeout
-        if not self._has_filled(HEADER_SIZE, deadline):
+        ready = self._ready if is_interrupted else self._socket_alone
+        if not self._has_filled(HEADER_SIZE, deadline, ready):
             return None
         header = unpack_header(self._received)
         end = HEADER_SIZE + allowed_length(header, self._largest)
-        self._has_filled(end, deadline)
+        self._has_filled(end, deadline, ready)
         payload = bytes(self._received[HEADER_SIZE:end])
         del self._received[:end]
         return Frame(header.kind, header.control, header.parameter, payload)
 
-    def _has_filled(self, size: int, deadline: Optional[float]) -> bool:
+    def _has_filled(self, size: int, deadline: Optional[float], ready: selectors.BaseSelector) -> bool:
         """Reads until `size` bytes are there; False where the stream ended and none are."""
         while len(self._received) < size:
-            piece = self._read_once(deadline)
+            self._wait(deadline, ready)
+            piece = self._socket.recv(65536)
             if piece:
                 self._received += piece
             elif self._received:
-                raise FrameError("the stream ended in the middle of a frame")
+                raise CutShort("the stream ended in the middle of a frame")
             else:
                 return False
         return True
 
-    def _read_once(self, deadline: Optional[float]) -> bytes:
-        # With a timeout of 0 the socket would not wait, and would not raise the exception of a timeout.
-        self._socket.settimeout(None if deadline is None else max(deadline - time.monotonic(), 0.001))
-        try:
-            return self._socket.recv(65536)
-        except socket.timeout:
-            raise TimeoutError("no frame in time") from None
+    def _wait(self, deadline: Optional[float], ready: selectors.BaseSelector) -> None:
+        """Waits until the socket can be read. Its own timeout is that of a thread which sends."""
+        files: List[object] = []
+        while not files:
+            left = LONGEST_SELECT if deadline is None else deadline - time.monotonic()
+            files = [key.fileobj for key, _ in ready.select(min(max(left, 0), LONGEST_SELECT))]
+            if not files and left < LONGEST_SELECT:
+                raise TimeoutError("no frame in time")
+        if files != [self._socket]:
+            raise Interrupted
 
 
 # In words
@@ -270,7 +295,21 @@ def name_of(kind: int) -> str:
     try:
         return MessageType(kind).name.title().replace("_", "")
     except ValueError:
-        return f"vendor type {kind}" if kind >= 128 else f"unknown type {kind}"
+        return f"vendor type {kind}" if kind >= FIRST_VENDOR_TYPE else f"unknown type {kind}"
+
+
+_KNOWN = frozenset(int(it) for it in MessageType)
+
+
+def is_known(kind: int) -> bool:
+    """Whether HiSLIP 1.0 has a message of this type."""
+    return kind in _KNOWN
+
+
+def refusal_of(frame: Frame) -> Frame:
+    """Returns the Error by which a message of an unknown type is answered before it is ignored."""
+    code = 3 if frame.kind >= FIRST_VENDOR_TYPE else 1
+    return Frame(MessageType.ERROR, code, 0, ERRORS[code].encode())
 
 
 def status_in_words(status: int) -> str:

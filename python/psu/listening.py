@@ -1,4 +1,4 @@
-"""What psu-relay and psu-socket share: where they listen, and a server on an asyncio loop, alone or in a thread."""
+"""What psu-relay and psu-socket share: where they listen, a server on an asyncio loop, alone or in a thread, and frames."""
 from __future__ import annotations
 
 import argparse
@@ -11,7 +11,17 @@ import sys
 import threading
 from typing import Callable, NamedTuple, Optional, Set, Tuple, TypeVar
 
-from .frames import DEFAULT_PORT
+from .build_note import Version
+from .frames import (
+    DEFAULT_PORT,
+    HEADER_SIZE,
+    LARGEST_PAYLOAD,
+    CutShort,
+    Frame,
+    Header,
+    allowed_length,
+    unpack_header,
+)
 
 SERVER_ADDRESS = "127.0.0.1"
 NO_PROTECTION = "--yes-i-know-it-has-no-protection"
@@ -54,7 +64,8 @@ def parse_server_port(text: str) -> int:
 
 
 def add_listening_options(parser: argparse.ArgumentParser, port: int) -> None:
-    """Adds --listen, --to and the option that allows another address than a loopback one."""
+    """Adds --version, --listen, --to and the option that allows another address than a loopback one."""
+    parser.add_argument("--version", action=Version)
     default = Endpoint(SERVER_ADDRESS, port)
     parser.add_argument("--listen", type=parse_endpoint, default=default, metavar="ADDRESS:PORT",
                         help=f"where clients connect ({default}); port 0 takes a free one")
@@ -167,6 +178,28 @@ class LoopServer:
             self._fault = fault
         finally:
             ready.set()
+
+
+async def read_header(reader: asyncio.StreamReader) -> Optional[Header]:
+    """Returns the next header, None where the stream ends before its first byte."""
+    try:
+        return unpack_header(await reader.readexactly(HEADER_SIZE))
+    except asyncio.IncompleteReadError as end:
+        if end.partial:
+            raise CutShort("the stream ended in the middle of a header") from None
+        return None
+
+
+async def read_frame(reader: asyncio.StreamReader, largest: int = LARGEST_PAYLOAD) -> Optional[Frame]:
+    """Returns the next frame of an asyncio stream, None where the stream ends before it."""
+    header = await read_header(reader)
+    if header is None:
+        return None
+    try:
+        payload = await reader.readexactly(allowed_length(header, largest))
+    except asyncio.IncompleteReadError:
+        raise CutShort("the stream ended in the middle of a payload") from None
+    return Frame(header.kind, header.control, header.parameter, payload)
 
 
 async def connect(port: int) -> Tuple[asyncio.StreamReader, asyncio.StreamWriter]:

@@ -1,7 +1,7 @@
 """Divides what a raw socket receives into messages, as the instrument's grammar divides them.
 
 A line feed ends a message, but not in a definite block (`#15a\\nbcd`), which may contain any byte. A string that is
-open at a line feed, a block whose length can't be read, and `#0` all extend to the end of the message: here the line.
+open at a line feed, a block whose length can't be read or is over 16 MiB, and `#0` all extend to the end of the message: here the line.
 """
 from __future__ import annotations
 
@@ -10,6 +10,7 @@ import re
 from typing import Callable, Dict, NamedTuple, Optional
 
 LARGEST_PART = 32768  # so many bytes of a message are passed on before its end is known
+LARGEST_BLOCK = 1 << 24  # bytes; of a longer one the length is an error of the client, which would take all that follows
 
 NEWLINE = 10
 HASH = 35
@@ -134,8 +135,13 @@ class Divider:
         self._left = 10 * self._left + digit
         self._digits -= 1
         if self._digits == 0:
-            self._place = Place.BLOCK if self._left else Place.CLOSED
+            self._place = self._place_after_length()
         return False
+
+    def _place_after_length(self) -> Place:
+        if self._left > LARGEST_BLOCK:
+            return Place.LINE
+        return Place.BLOCK if self._left else Place.CLOSED
 
     def _read_block(self) -> bool:
         size = min(self._left, len(self._bytes) - self._at)

@@ -22,7 +22,6 @@ from .frames import (
     after,
     control_in_words,
     name_of,
-    read_frame,
 )
 from .listening import (
     Endpoint,
@@ -32,6 +31,7 @@ from .listening import (
     check_listening,
     close_soon,
     connect,
+    read_frame,
     report,
     run_until_signal,
 )

@@ -50,14 +50,26 @@ class Relay(LoopServer):
     ) -> None:
         super().__init__(listen)
         self.to = to
-        parsed = [parse_rule(line, f"rule {number}") for number, line in enumerate(rules, 1)]
-        self._traffic = Traffic(Rules(parsed, seed), self._write_entry, self._write_event)
+        self._traffic = Traffic(parsed_rules(rules, seed), self._write_entry, self._write_event)
         self._entry_line, self._event_line = (json_line, json_event) if is_json else (text_line, text_event)
         self._log = LogWriter(log, say) if log is not None else None
+
+    def set_rules(self, rules: Iterable[str], seed: int = 0) -> None:
+        """Takes other rules, also while it runs: they are for the messages that come from now on, and count anew."""
+        self._traffic.rules = parsed_rules(rules, seed)
 
     def take_rules(self, rules: Iterable[Rule], seed: int) -> None:
         """Takes rules that are read already, instead of those of the constructor."""
         self._traffic.rules = Rules(rules, seed)
+
+    def unused_rules(self) -> List[str]:
+        """Returns the lines of the rules that never applied: often a word in them is wrong."""
+        return [rule.line for rule in self._traffic.rules.unused()]
+
+    def flush_log(self, timeout: float = 1.0) -> None:
+        """Returns once what the log has so far is in its file, or after so many seconds."""
+        if self._log is not None:
+            self._log.flush(timeout)
 
     async def start(self) -> None:
         await super().start()
@@ -99,6 +111,10 @@ class Relay(LoopServer):
         missing = self._log.take_missing()
         if missing:
             self._log.add(self._event_line(Event(time.time(), 0, "missing", f"{missing} lines had no place here")))
+
+
+def parsed_rules(lines: Iterable[str], seed: int) -> Rules:
+    return Rules([parse_rule(line, f"rule {number}") for number, line in enumerate(lines, 1)], seed)
 
 
 def make_parser() -> argparse.ArgumentParser:

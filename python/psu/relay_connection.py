@@ -2,6 +2,7 @@
 from __future__ import annotations
 
 import asyncio
+import itertools
 import time
 from typing import Awaitable, Callable, Dict, List, Optional
 
@@ -36,7 +37,7 @@ class Connection:
         self.is_async = False
         self.outlets = {Side.SERVER: Outlet(to_client), Side.CLIENT: Outlet(to_server)}  # by who sends
         self._tasks: "List[asyncio.Task[None]]" = []
-        self.timers: List[asyncio.TimerHandle] = []
+        self.timers: Dict[int, asyncio.TimerHandle] = {}  # of what is still to be repeated
         self._is_ending = asyncio.Event()
 
     async def run(self, from_client: asyncio.StreamReader, from_server: asyncio.StreamReader) -> None:
@@ -79,7 +80,7 @@ class Connection:
                 task.cancel()
 
     def _end(self) -> None:
-        for timer in self.timers:
+        for timer in self.timers.values():
             timer.cancel()
         for outlet in self.outlets.values():
             close_soon(outlet.writer)
@@ -123,6 +124,7 @@ class Direction:
         self._outlet = connection.outlets[side]
         self._to_client = connection.outlets[Side.SERVER]
         self._transmissions = Transmissions()
+        self._repeats = itertools.count()
         self._acts: Dict[Action, Callable[[Rule, Header, bytes], Awaitable[None]]] = {
             Action.DELAY: self._delay,
             Action.HOLD: self._hold,
@@ -191,9 +193,11 @@ class Direction:
         if self._side is Side.SERVER:
             if header.kind == MessageType.INITIALIZE_RESPONSE:
                 self._traffic.sessions.name(header.parameter & 0xFFFF, session)
+            if header.kind == MessageType.DEVICE_CLEAR_ACKNOWLEDGE:
+                # Up to here a response may have been under way.
+                self._traffic.report_unanswered(session)
+                session.forget_queries()
             return session.note_response(header, now)
-        if header.kind == MessageType.ASYNC_DEVICE_CLEAR:
-            self._traffic.report_unanswered(session)
         session.note_request(header, payload, now)
         return None
 
@@ -321,10 +325,15 @@ class Direction:
 
     async def _repeat(self, rule: Rule, header: Header, payload: bytes) -> None:
         await self._pass(header, payload)
-        timers = self._connection.timers = [one for one in self._connection.timers if not one.cancelled()]
+        timers = self._connection.timers
         if len(timers) < MOST_REPEATS:
+            number = next(self._repeats)
             frame = Frame(header.kind, header.control, header.parameter, payload)
-            timers.append(asyncio.get_running_loop().call_later(rule.value or 0, self._add, rule, frame))
+            timers[number] = asyncio.get_running_loop().call_later(rule.value or 0, self._add_repeated, number, rule, frame)
+
+    def _add_repeated(self, number: int, rule: Rule, frame: Frame) -> None:
+        del self._connection.timers[number]
+        self._add(rule, frame)
 
     def _answer(self, rule: Rule, kind: MessageType, code: int) -> None:
         self._add(rule, Frame(kind, code, 0, ERROR_TEXT))

@@ -147,11 +147,13 @@ def text_line(entry: Entry) -> str:
 
 
 def text_event(event: Event) -> str:
-    mark = "!" if event.name in MARKED_EVENTS else " "
+    is_unusual_end = event.name == "ended" and not event.text.startswith(USUAL_ENDS)
+    mark = "!" if event.name in MARKED_EVENTS or is_unusual_end else " "
     return f"{_clock(event.time)} {mark}{_session(event.session):>3} --- {event.name}: {event.text}\n"
 
 
 MARKED_EVENTS = ("unanswered", "missing", "no server", "no HiSLIP", "too many")
+USUAL_ENDS = ("closed by the client", "the relay stopped")  # how a session may end without a mark
 
 
 def _moment(moment: float) -> str:
@@ -198,6 +200,7 @@ class LogWriter:
         self._missing = 0
         self._has_lines = threading.Event()
         self._is_ending = False
+        self._is_writing = False
         self._thread = threading.Thread(target=self._run, daemon=True)
         self._thread.start()
 
@@ -218,6 +221,12 @@ class LogWriter:
         missing, self._missing = self._missing, 0
         return missing
 
+    def flush(self, seconds: float) -> None:
+        """Returns once all lines that were added are written, or after so many seconds."""
+        deadline = time.monotonic() + seconds
+        while (self._lines or self._is_writing) and time.monotonic() < deadline:
+            time.sleep(BATCH_SECONDS / 4)
+
     def end(self, seconds: float) -> None:
         """Writes what waits; returns after so many seconds at most."""
         self._is_ending = True
@@ -237,7 +246,9 @@ class LogWriter:
             self._limit = 0
 
     def _write(self) -> None:
+        self._is_writing = True
         # Lines that come meanwhile wait for the next call, so that each call ends.
         batch = [self._lines.popleft() for _ in range(len(self._lines))]
         self._file.write("".join(batch))
         self._file.flush()
+        self._is_writing = False

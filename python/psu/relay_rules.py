@@ -118,13 +118,19 @@ class Rules:
         self.rules = list(rules)
         self.seed = seed
         self._counts: Dict[int, Counts] = {}
+        self._unused = set(range(len(self.rules)))
 
     def choose(self, seen: Seen, of_session: Dict[int, Counts]) -> Optional[Rule]:
         """Returns the rule that applies to a message. `of_session` has the counts of its session."""
         for place, rule in enumerate(self.rules):
             if rule.matches(seen) and rule.count(self._counts_of(place, rule, seen.session, of_session)):
+                self._unused.discard(place)
                 return rule
         return None
+
+    def unused(self) -> List[Rule]:
+        """Returns the rules that never applied, in order."""
+        return [self.rules[place] for place in sorted(self._unused)]
 
     def _counts_of(self, place: int, rule: Rule, session: int, of_session: Dict[int, Counts]) -> Counts:
         # Each has random numbers of its own, so that a session's faults do not depend on what others send meanwhile.

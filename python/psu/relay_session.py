@@ -102,10 +102,13 @@ class Session:
             self._parts = b""
         elif kind == MessageType.DEVICE_CLEAR_COMPLETE:
             self._parts = b""
-            self._queries.clear()
-            self._unanswered.clear()
         if kind in REQUESTS:
             self._requests.setdefault(kind, collections.deque(maxlen=KEPT_QUERIES)).append(now)
+
+    def forget_queries(self) -> None:
+        """Forgets what was sent before a device clear: nothing responds to it any more."""
+        self._queries.clear()
+        self._unanswered.clear()
 
     def note_response(self, header: Header, now: float) -> Optional[float]:
         """Returns the seconds since the message that this one of the server responds to, where it is known."""

@@ -5,6 +5,7 @@
 """
 from __future__ import annotations
 
+import atexit
 import contextlib
 import os
 import select
@@ -14,10 +15,14 @@ import socket
 import subprocess
 import tempfile
 import time
-from typing import IO, Dict, List, Optional, Union
+from typing import IO, TYPE_CHECKING, Dict, Iterable, List, Optional, TextIO, Union
 
+from .build_note import packaged_program
 from .client import Instrument
 from .errors import ServerNotStarted, Timeout
+
+if TYPE_CHECKING:
+    from .relay import Relay
 
 # In a clone of the repository the program is built there.
 BUILT = os.path.join(os.path.dirname(os.path.abspath(__file__)), "..", "..", "crates", "psu", "out", "psu")
@@ -27,13 +32,14 @@ PORT_TAKEN = "psu: network fault"
 
 
 def find_program() -> str:
-    """Returns the path of `psu`: the variable PSU, else the one built in this repository, else that of the PATH."""
+    """Returns the path of `psu`: that of the variable PSU, else that of this package, of this clone, or of the PATH."""
     named = os.environ.get("PSU")
-    candidates: List[Optional[str]] = [named] if named else [os.path.normpath(BUILT), shutil.which("psu")]
-    for path in candidates:
+    paths: List[Optional[str]] = [named] if named else [packaged_program(), os.path.normpath(BUILT), shutil.which("psu")]
+    for path in paths:
         if path and os.path.isfile(path) and os.access(path, os.X_OK):
             return path
-    raise FileNotFoundError("no program psu: set PSU to its path, or build it (./psu run < crates/psu/stdin)")
+    missing = f"PSU names {named}" if named else "neither this package nor the PATH has one"
+    raise FileNotFoundError(f"set PSU to the path of the program psu: {missing} (in a clone ./psu builds it)")
 
 
 def free_port() -> int:
@@ -44,8 +50,33 @@ def free_port() -> int:
         return port
 
 
+class Lifeline:
+    """What ends a server process together with this one, however this one ends: by SIGKILL or `os._exit` too.
+
+    The server has the far end of a pair of sockets as its standard input, which it does not read. Once no process has
+    the near end any more, the kernel sends the server a SIGKILL.
+    """
+
+    def __init__(self) -> None:
+        self._near, self.far = socket.socketpair()
+
+    def tie(self, process: int) -> None:
+        """Names the process that is to end; it has inherited the far end."""
+        import fcntl  # which Windows does not have, where there is no server either
+
+        file = self.far.fileno()
+        fcntl.fcntl(file, fcntl.F_SETOWN, process)
+        fcntl.fcntl(file, fcntl.F_SETSIG, signal.SIGKILL)
+        fcntl.fcntl(file, fcntl.F_SETFL, fcntl.fcntl(file, fcntl.F_GETFL) | os.O_ASYNC)
+        self.far.close()
+
+    def close(self) -> None:
+        self._near.close()
+        self.far.close()
+
+
 class Server:
-    """A server process over an image.
+    """A server process over an image, which ends at the latest when this process does.
 
     `image` is made where it is missing; without one the image is a temporary file, kept until `close` or the end of the
     `with` block. Without `port` it is a free one: another is tried where a program takes it first, and a restart uses
@@ -59,28 +90,45 @@ class Server:
         port: Optional[int] = None,
         environment: Optional[Dict[str, str]] = None,
     ) -> None:
+        self.program = program or find_program()
         self._folder: Optional[str] = None
         if image is None:
             self._folder = tempfile.mkdtemp(prefix="psu-")
             image = os.path.join(self._folder, "bench.psu")
         self.image = os.fspath(image)
-        self.program = program or find_program()
-        self.port = port
+        self.relay: Optional[Relay] = None
+        self._port = port
         self.process: Optional[subprocess.Popen[str]] = None
         self._is_port_given = port is not None
         self._environment = {**os.environ, **(environment or {})}
         self._messages: Optional[IO[bytes]] = None
+        self._lifeline: Optional[Lifeline] = None
+        atexit.register(self.close)
 
     def __enter__(self) -> Server:
-        self.start()
+        try:
+            self.start()
+        except BaseException:
+            self.close()
+            raise
         return self
 
     def __exit__(self, *_: object) -> None:
         self.close()
 
+    def __repr__(self) -> str:
+        state = f"at 127.0.0.1:{self.port}" if self.is_running else "not running"
+        return f"<Server {self.image}, {state}>"
+
     @property
     def is_running(self) -> bool:
+        """Whether the process runs."""
         return self.process is not None and self.process.poll() is None
+
+    @property
+    def port(self) -> Optional[int]:
+        """Where clients connect: the server's port, or that of the relay before it."""
+        return self._port if self.relay is None else self.relay.port
 
     @property
     def resource(self) -> str:
@@ -91,14 +139,23 @@ class Server:
         """Starts the server, and returns once it takes connections."""
         if self.is_running:
             raise ServerNotStarted(f"it runs already, at port {self.port}")
+        self._end_by(signal.SIGKILL)  # what is left of a process that ended by itself
         if not os.path.exists(self.image):
-            subprocess.run([self.program, "make", self.image], check=True, env=self._environment)
+            self._make_image()
         if self._is_port_given:
-            self._start_at(self.port)
+            self._start_at(self._port)
         else:
             self._start_at_a_free_port()
 
-    def connect(self, timeout: float = 5.0, check_errors: bool = False) -> Instrument:
+    def put_relay(self, rules: Iterable[str] = (), log: Optional[TextIO] = None) -> Relay:
+        """Puts a relay with these rules before the server that runs, until `close`; `port` is the relay's from now on."""
+        from .relay import Relay
+
+        assert self.relay is None and self._port is not None, "the server was started, and has no relay yet"
+        self.relay = Relay(self._port, rules, log).__enter__()
+        return self.relay
+
+    def connect(self, timeout: Optional[float] = 5.0, check_errors: bool = False) -> Instrument:
         """Returns a new session."""
         return Instrument(port=self._used_port(), timeout=timeout, check_errors=check_errors)
 
@@ -122,6 +179,10 @@ class Server:
 
     def close(self) -> None:
         """Ends the process; a temporary image is removed."""
+        atexit.unregister(self.close)
+        if self.relay is not None:
+            self.relay.__exit__()
+            self.relay = None
         self.stop()
         if self._messages is not None:
             self._messages.close()
@@ -142,8 +203,18 @@ class Server:
         deadline = time.monotonic() + timeout
         while text not in self.messages():
             if time.monotonic() >= deadline:
-                raise Timeout(f"the server did not say {text!r} in time")
+                raise Timeout(f"the server did not say {text!r} in {timeout:g} s")
             time.sleep(0.02)
+
+    def _make_image(self) -> None:
+        try:
+            command = [self.program, "make", self.image]
+            made = subprocess.run(command, stderr=subprocess.PIPE, universal_newlines=True, env=self._environment)
+        except OSError as fault:
+            raise ServerNotStarted(f"{self.program} can't be run: {fault.strerror}") from None
+        if made.returncode != 0:
+            why = made.stderr.strip() or f"status {made.returncode}, without a message"
+            raise ServerNotStarted(f"{self.program} make {self.image}: {why}")
 
     def _used_port(self) -> int:
         assert self.port is not None, "the server was started"
@@ -151,14 +222,14 @@ class Server:
 
     def _start_at_a_free_port(self) -> None:
         for _ in range(TRIES):
-            self.port = self.port or free_port()
+            self._port = self._port or free_port()
             try:
-                return self._start_at(self.port)
+                return self._start_at(self._port)
             except ServerNotStarted as fault:
                 # Another program took the port after it was looked for.
                 if PORT_TAKEN not in str(fault):
                     raise
-                self.port = None
+                self._port = None
         raise ServerNotStarted(f"{TRIES} free ports were taken by others before the server had them")
 
     def _start_at(self, port: Optional[int]) -> None:
@@ -166,23 +237,38 @@ class Server:
             self._messages.close()
         self._messages = tempfile.TemporaryFile()
         command = [self.program, "serve", self.image, "--port", str(port)]
-        self.process = subprocess.Popen(
-            command, stdout=subprocess.PIPE, stderr=self._messages, universal_newlines=True, env=self._environment
-        )
+        self._lifeline = Lifeline()
+        try:
+            process = subprocess.Popen(
+                command,
+                stdin=self._lifeline.far.fileno(),
+                stdout=subprocess.PIPE,
+                stderr=self._messages,
+                universal_newlines=True,
+                env=self._environment,
+            )
+        except OSError as fault:
+            raise ServerNotStarted(f"{self.program} can't be run: {fault.strerror}") from None
+        self.process = process
+        self._lifeline.tie(process.pid)
+        if self.relay is not None and port is not None:
+            self.relay.to = port
         # The line comes once the server takes connections.
-        if first_line(self.process) != f"listening on 127.0.0.1:{port}\n":
+        if first_line(process) != f"listening on 127.0.0.1:{port}\n":
             self._end_by(signal.SIGTERM)
             raise ServerNotStarted(self.messages().strip() or "the server ended or did not listen, without a message")
 
     def _end_by(self, number: int) -> None:
-        if self.process is None:
-            return
-        with contextlib.suppress(ProcessLookupError):
-            self.process.send_signal(number)
-        self.process.wait()
-        assert self.process.stdout is not None
-        self.process.stdout.close()
-        self.process = None
+        if self.process is not None:
+            with contextlib.suppress(ProcessLookupError):
+                self.process.send_signal(number)
+            self.process.wait()
+            assert self.process.stdout is not None
+            self.process.stdout.close()
+            self.process = None
+        if self._lifeline is not None:
+            self._lifeline.close()
+            self._lifeline = None
 
 
 def first_line(process: subprocess.Popen[str]) -> str:

@@ -8,8 +8,8 @@ import threading
 import time
 from typing import Callable, Dict, List, Tuple
 
-from psu.frames import PROTOCOL_1_0, Frame, FrameError, MessageType, read_frame
-from psu.listening import SERVER_ADDRESS, Endpoint, LoopServer
+from psu.frames import PROTOCOL_1_0, Frame, FrameError, MessageType
+from psu.listening import SERVER_ADDRESS, Endpoint, LoopServer, read_frame
 
 LARGEST_MESSAGE = 65536
 

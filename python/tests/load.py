@@ -13,7 +13,7 @@ import re
 import sys
 import time
 
-from psu.frames import FIRST_MESSAGE_ID, PROTOCOL_1_0, Frame, MessageType, after, read_frame
+from psu.frames import FIRST_MESSAGE_ID, PROTOCOL_1_0, Frame, MessageType, after
 
 MESSAGE = re.compile(r"^\S+ +(\d+) (-->|<--) DataEnd +([0-9a-f]{8}) .*\\n$")
 QUERY = b"MEAS:VOLT?\n"

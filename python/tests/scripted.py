@@ -4,7 +4,7 @@ from __future__ import annotations
 import socket
 import struct
 import threading
-from typing import List
+from typing import List, Optional, Tuple
 
 from psu.client import Instrument
 from psu.frames import HEADER, HEADER_SIZE, Frame, MessageType
@@ -28,16 +28,33 @@ def receive(channel: socket.socket) -> Frame:
 
 
 class Script:
-    """A client, and the server's two connections to it."""
+    """A client, and the server's two connections to it.
 
-    def __init__(self, room: int = ROOM, timeout: float = 10.0) -> None:
+    `size` is the payload that says the server's largest message; `modes` are the control codes of InitializeResponse
+    and, after a device clear that the client begins for another mode, of DeviceClearAcknowledge.
+    """
+
+    def __init__(
+        self,
+        room: int = ROOM,
+        timeout: Optional[float] = 10.0,
+        size: Optional[bytes] = None,
+        modes: Tuple[int, int] = (0, 0),
+        check_errors: bool = False,
+    ) -> None:
         self._channels: List[socket.socket] = []
-        self._room = room
+        self._size = struct.pack(">Q", HEADER_SIZE + room) if size is None else size
+        self._modes = modes
         with socket.create_server(("127.0.0.1", 0)) as listener:
             listener.settimeout(10)
             thread = threading.Thread(target=self._begin, args=(listener,), daemon=True)
             thread.start()
-            self.client = Instrument(port=listener.getsockname()[1], timeout=timeout)
+            try:
+                port = listener.getsockname()[1]
+                self.client = Instrument(port=port, timeout=timeout, check_errors=check_errors)
+            except BaseException:
+                self.close_channels()
+                raise
             thread.join()
         self.sync, self.asynchronous = self._channels
 
@@ -58,15 +75,19 @@ class Script:
     def _begin(self, listener: socket.socket) -> None:
         sync = self._accepted(listener)
         assert receive(sync)[:3] == (MessageType.INITIALIZE, 0, 0x0100_5059)
-        send(sync, MessageType.INITIALIZE_RESPONSE, 0, 0x0100_0000 | SESSION)
+        send(sync, MessageType.INITIALIZE_RESPONSE, self._modes[0], 0x0100_0000 | SESSION)
         asynchronous = self._accepted(listener)
         assert receive(asynchronous)[:3] == (MessageType.ASYNC_INITIALIZE, 0, SESSION)
         send(asynchronous, MessageType.ASYNC_INITIALIZE_RESPONSE)
         assert receive(asynchronous).kind == MessageType.ASYNC_MAXIMUM_MESSAGE_SIZE
         # A service request may come at any place of the asynchronous connection.
         send(asynchronous, MessageType.ASYNC_SERVICE_REQUEST, FIRST_REQUEST)
-        size = struct.pack(">Q", HEADER_SIZE + self._room)
-        send(asynchronous, MessageType.ASYNC_MAXIMUM_MESSAGE_SIZE_RESPONSE, 0, 0, size)
+        send(asynchronous, MessageType.ASYNC_MAXIMUM_MESSAGE_SIZE_RESPONSE, 0, 0, self._size)
+        if self._modes[0]:
+            assert receive(asynchronous).kind == MessageType.ASYNC_DEVICE_CLEAR
+            send(asynchronous, MessageType.ASYNC_DEVICE_CLEAR_ACKNOWLEDGE, self._modes[0])
+            assert receive(sync) == (MessageType.DEVICE_CLEAR_COMPLETE, 0, 0, b"")
+            send(sync, MessageType.DEVICE_CLEAR_ACKNOWLEDGE, self._modes[1])
 
     def _accepted(self, listener: socket.socket) -> socket.socket:
         channel, _ = listener.accept()

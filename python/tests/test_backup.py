@@ -7,6 +7,7 @@ import io
 import os
 import struct
 import tempfile
+import threading
 import unittest
 from unittest import mock
 
@@ -44,13 +45,28 @@ class Files(unittest.TestCase):
             raise KeyError
         self.assertEqual(os.listdir(self.folder), [])
 
-    def test_an_unfinished_file_of_another_run_is_left(self) -> None:
+    def test_an_unfinished_file_that_was_left_behind_is_replaced(self) -> None:
         with open(f"{self.copy}.new", "wb") as file:
-            file.write(b"of another run")
-        with self.assertRaises(FileExistsError), backup.new_file(self.copy, b"content"):
+            file.write(b"of a run that was killed")
+        with backup.new_file(self.copy, b"content"):
             pass
-        with open(f"{self.copy}.new", "rb") as file:
-            self.assertEqual(file.read(), b"of another run")
+        self.assertEqual(os.listdir(self.folder), ["copy.psu"])
+        with open(self.copy, "rb") as file:
+            self.assertEqual(file.read(), b"content")
+
+    def test_runs_into_one_folder_wait_for_each_other(self) -> None:
+        has_waited = threading.Event()
+
+        def run() -> None:
+            with backup.alone_in(self.folder):
+                has_waited.set()
+
+        waiting = threading.Thread(target=run)
+        with backup.alone_in(self.folder):
+            waiting.start()
+            self.assertFalse(has_waited.wait(0.2))
+        self.assertTrue(has_waited.wait(10))
+        waiting.join()
 
     def test_check(self) -> None:
         with open(self.copy, "wb") as file:

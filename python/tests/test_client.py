@@ -11,11 +11,9 @@ import unittest.mock
 from psu import (
     ConnectionLost,
     FatalError,
-    InstrumentError,
     LockError,
     LockRefusal,
     ProtocolError,
-    ScpiError,
     ServerError,
     SessionClosed,
     Timeout,
@@ -61,7 +59,7 @@ class Messages(ScriptCase):
         self.assertEqual(receive(self.sync)[:3], (MessageType.DATA_END, 0, 0xFFFF_FF08))
 
     def test_message_ids_wrap(self):
-        self.client._next_id = 0xFFFF_FFFE
+        self.client._messages._next_id = 0xFFFF_FFFE
         for expected in (0xFFFF_FFFE, 0):
             self.client.write("*CLS")
             self.assertEqual(receive(self.sync).parameter, expected)
@@ -115,7 +113,7 @@ class Clear(ScriptCase):
         send(self.sync, MessageType.ERROR, 1)
         self.let_wait(2.0)
         answering = self.in_thread(lambda: send_after(self.asynchronous, MessageType.ASYNC_DEVICE_CLEAR_ACKNOWLEDGE))
-        with self.assertRaisesRegex(Timeout, "no response to DeviceClearComplete in time"):
+        with self.assertRaisesRegex(Timeout, "no response to DeviceClearComplete in 2 s; this client closed the session"):
             self.client.clear()
         answering.join()
         with self.assertRaisesRegex(SessionClosed, "the server did not answer DeviceClearComplete in time"):
@@ -146,7 +144,7 @@ class Status(ScriptCase):
 
     def test_a_status_query_that_is_not_answered_ends_the_session(self):
         self.let_wait(0.2)
-        with self.assertRaisesRegex(Timeout, "no response to AsyncStatusQuery in time; this client closed the session"):
+        with self.assertRaisesRegex(Timeout, "no response to AsyncStatusQuery in 0.2 s; this client closed the session"):
             self.client.read_stb()
         with self.assertRaisesRegex(SessionClosed, "the server did not answer AsyncStatusQuery in time"):
             self.client.write("*CLS")
@@ -190,9 +188,9 @@ class Ends(ScriptCase):
 
     def test_a_server_that_does_not_read(self):
         self.let_wait(0.2)
-        with self.assertRaisesRegex(Timeout, "the server does not read; this client closed the session"):
+        with self.assertRaisesRegex(Timeout, "the server has not read in 0.2 s; this client closed the session"):
             for _ in range(100):
-                self.client._room = 1 << 20
+                self.client._messages.room = 1 << 20
                 self.client.write_bytes(bytes(1 << 20))
         with self.assertRaisesRegex(SessionClosed, "the server did not read"):
             self.client.read_stb()
@@ -288,43 +286,6 @@ class Locks(ScriptCase):
         self.assertFalse(waiting.is_alive())
 
 
-class Refusals(ScriptCase):
-    """A refused query has no response: the errors are raised after a timeout, where that was asked for."""
-
-    def answer(self, *responses):
-        self.assertEqual(receive(self.sync).payload, b"FOO?\n")
-        self.assertEqual(receive(self.asynchronous).kind, MessageType.ASYNC_DEVICE_CLEAR)
-        send(self.asynchronous, MessageType.ASYNC_DEVICE_CLEAR_ACKNOWLEDGE)
-        self.assertEqual(receive(self.sync).kind, MessageType.DEVICE_CLEAR_COMPLETE)
-        send(self.sync, MessageType.DEVICE_CLEAR_ACKNOWLEDGE)
-        for response in responses:
-            parts = [receive(self.sync) for _ in range(2)]
-            self.assertEqual(b"".join(it.payload for it in parts), b"SYST:ERR?\n")
-            self.script.respond(parts[-1].parameter, response + b"\n")
-
-    def test_the_errors_are_raised(self):
-        self.client.check_errors = True
-        self.in_thread(self.answer, b'-222,"Data out of range"', b'-113,"Undefined header"', b'0,"No error"')
-        with self.assertRaisesRegex(InstrumentError, 'FOO\\?: -222,"Data out of range"; -113,"Undef') as caught:
-            self.client.query("FOO?", timeout=0.2)
-        self.assertEqual(caught.exception.number, -113)
-        self.assertEqual(caught.exception.errors[0], ScpiError(-222, "Data out of range"))
-
-    def test_a_late_response_without_errors_is_a_timeout(self):
-        self.client.check_errors = True
-        self.in_thread(self.answer, b'0,"No error"')
-        with self.assertRaises(Timeout):
-            self.client.query("FOO?", timeout=0.2)
-
-    def test_without_the_option_nothing_more_is_sent(self):
-        with self.assertRaises(Timeout):
-            self.client.query("FOO?", timeout=0.2)
-        self.assertEqual(receive(self.sync).payload, b"FOO?\n")
-        self.sync.settimeout(0.1)
-        with self.assertRaises(socket.timeout):
-            receive(self.sync)
-
-
 def send_after(channel, kind):
     """Answers the next message with one of this type."""
     receive(channel)
@@ -342,10 +303,10 @@ class Texts(unittest.TestCase):
                 block_content(response)
 
     def test_errors(self):
-        self.assertEqual(error_of('-113,"Undefined header"'), (-113, "Undefined header"))
-        self.assertEqual(str(error_of('0,"No error"')), '0,"No error"')
+        self.assertEqual(error_of(b'-113,"Undefined header"'), (-113, "Undefined header"))
+        self.assertEqual(str(error_of(b'0,"No error"\n')), '0,"No error"')
         with self.assertRaises(ProtocolError):
-            error_of("1.000")
+            error_of(b"1.000")
 
 
 if __name__ == "__main__":

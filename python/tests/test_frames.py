@@ -13,9 +13,9 @@ from psu.frames import (
     before,
     control_in_words,
     name_of,
-    read_frame,
     unpack_header,
 )
+from psu.listening import read_frame
 
 # DataEnd with RMT-delivered, the first MessageID and a payload of four bytes, as IVI-6.1 writes it.
 QUERY = b"HS\x07\x01\xff\xff\xff\x00\x00\x00\x00\x00\x00\x00\x00\x04VOL?"

@@ -2,7 +2,7 @@
 import random
 import unittest
 
-from psu.raw_messages import LARGEST_PART, Divider
+from psu.raw_messages import LARGEST_BLOCK, LARGEST_PART, Divider
 
 
 def divided(data, sizes=None):
@@ -42,6 +42,8 @@ WHOLE = [
     [b'MMEM:DEL "a"b,#15a\n', b"b\n"],  # so after a string
     [b"*PUD #11x\t ,#15a\nb\nc\n"],
     [b"\xff\xfe\n", b"*IDN?\n"],
+    [b"*PUD #9999999999\n", b"*IDN?\n"],  # a length that is an error of the client
+    [b"*PUD #816777217\n", b"*IDN?\n"],
 ]
 
 
@@ -67,9 +69,14 @@ class DividerTest(unittest.TestCase):
         for data in (b"*IDN?", b'MMEM:DEL "a', b'MMEM:DATA "a",#15a\nb\n', b"*PUD #", b"*PUD #2", b"*PUD #0a"):
             self.assertEqual(divided(data), ([], data))
 
+    def test_the_largest_block(self):
+        data = b"*PUD #816777216" + b"\n" * LARGEST_BLOCK + b"\n"
+        messages, rest = divided(data)
+        self.assertEqual(([len(it) for it in messages], rest), ([len(data)], b""))
+
     def test_a_long_message_is_passed_on_in_parts(self):
         divider = Divider()
-        divider.feed(b"*PUD #9999999999")
+        divider.feed(b"*PUD #816777216")
         self.assertIsNone(divider.next_piece())
         for _ in range(10):
             divider.feed(b"\n" * LARGEST_PART)

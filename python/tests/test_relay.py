@@ -1,19 +1,17 @@
 """Tests of psu-relay before a small server: what it passes on, what it shows, and each kind of fault."""
 import io
 import socket
-import subprocess
-import sys
-import tempfile
 import time
 import unittest
 
 from blocked_file import BlockedFile
-from fake_server import FakeServer, run_main, wait_until
+from fake_server import FakeServer, wait_until
 from psu.client import Instrument
 from psu.errors import ConnectionLost, FatalError, ServerError, Timeout
 from psu.frames import Frame, MessageType, SocketFrames
 from psu.listening import Endpoint, LoopServer
-from psu.relay import Relay, main
+from psu.relay import Relay
+from psu.relay_connection import MOST_REPEATS
 
 SHORT = 0.3  # seconds; a timeout that is to pass, or a delay that is to be noticed
 LONG = 10.0
@@ -290,6 +288,22 @@ class FaultTest(RelayCase):
         self.assertEqual(client.wait_for_service_request(LONG), 0x60)
         self.assertGreaterEqual(time.monotonic() - begun, SHORT / 2)
 
+    def test_each_service_request_is_repeated(self):
+        client = self.client(self.relay("repeat 0.001"))
+        for _ in range(MOST_REPEATS + 10):
+            client.query("SRQ?")
+            for _ in range(2):
+                self.assertEqual(client.wait_for_service_request(LONG), 0x60)
+
+    def test_rules_while_it_runs(self):
+        relay = self.relay("hold response to NEVER", "error 1 command with A?")
+        client = self.client(relay)
+        with self.assertRaises(ServerError):
+            client.query("A?")
+        self.assertEqual(relay.unused_rules(), ["hold response to NEVER"])
+        relay.set_rules([])
+        self.assertEqual((client.query("A?"), relay.unused_rules()), ("A?", []))
+
     def test_by_session_count_and_seed(self):
         relay = self.relay("hold response session 2 number 2", "hold response session 1 probability 1 times 1")
         first, second = self.client(relay), self.client(relay)
@@ -305,8 +319,25 @@ class FaultTest(RelayCase):
         client.clear()
         client.query("B?")
         client.close()
-        self.assert_logged("unanswered: ffffff00 A?\\n after 0.", "..> AsyncDeviceClear", "B?", "ended")
+        self.assert_logged("..> AsyncDeviceClear", "unanswered: ffffff00 A?\\n after 0.", "B?", "ended")
         self.assertEqual(self.log.getvalue().count("unanswered"), 1)
+
+    def test_a_response_that_comes_in_a_device_clear_is_one(self):
+        client = self.client(self.relay('delay 0.3 response to "A?"'))
+        client.write("A?")
+        client.clear()
+        client.query("B?")
+        client.close()
+        self.assert_logged("[delayed", "DeviceClearAcknowledge", "B?", "ended: closed by the client")
+        self.assertNotIn("unanswered", self.log.getvalue())
+
+    def test_an_end_that_is_not_the_client_s_is_marked(self):
+        client = self.client(self.relay())
+        client.query("A?")
+        self.server.__exit__()
+        with self.assertRaises(ConnectionLost):
+            client.query("B?")
+        self.assert_logged("A?", " !  1 --- ended: ")
 
     def raw_session(self, relay):
         connection = socket.create_connection(("127.0.0.1", relay.port), timeout=LONG)
@@ -326,48 +357,6 @@ def read_all(connection):
             piece = b""
         data += piece
     return data
-
-
-class ProgramTest(unittest.TestCase):
-    def assert_ends(self, words, status, text):
-        """The program ends with this status, and with a line that has this text."""
-        ended, written = run_main(main, words)
-        self.assertEqual(ended, status)
-        self.assertIn(text, written)
-
-    def test_another_address_needs_its_option(self):
-        self.assert_ends(["--listen", "0.0.0.0:4881"], 2, "add --yes-i-know-it-has-no-protection")
-
-    def test_wrong_rules_and_addresses(self):
-        with tempfile.NamedTemporaryFile("w") as file:
-            file.write("hold response\nhold it\n")
-            file.flush()
-            self.assert_ends(["--rules", file.name], 2, "line 2: 'it' is not command")
-        self.assert_ends(["--rule", "slow"], 2, "--rule 'slow': the first word is one of")
-        self.assert_ends(["--listen", "localhost:4881"], 2, "is not ADDRESS:PORT")
-        self.assert_ends(["--to", "0"], 2, "is not a port")
-
-    def test_a_port_that_is_taken(self):
-        with socket.create_server(("127.0.0.1", 0)) as taken:
-            listen = f"127.0.0.1:{taken.getsockname()[1]}"
-            self.assert_ends(["--listen", listen, "--quiet"], 1, "psu-relay: ")
-
-    def test_a_run_with_a_log_file(self):
-        with tempfile.TemporaryDirectory() as folder, FakeServer() as server:
-            log = f"{folder}/traffic.log"
-            command = [sys.executable, "-m", "psu.relay", "--listen", "127.0.0.1:0", "--to", str(server.port),
-                       "--log", log, "--json", "--rule", "delay 0 response"]
-            process = subprocess.Popen(command, stdout=subprocess.PIPE, universal_newlines=True)
-            self.addCleanup(process.stdout.close)
-            port = int(process.stdout.readline().rpartition(":")[2])
-            with Instrument(port=port) as client:
-                client.query("VOLT?")
-            process.terminate()
-            self.assertEqual(process.wait(30), 0)
-            with open(log) as file:
-                text = file.read()
-            self.assertIn('"payload": "VOLT?\\\\n"', text)
-            self.assertIn('"event": "ended"', text)
 
 
 if __name__ == "__main__":

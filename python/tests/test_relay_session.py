@@ -32,7 +32,10 @@ class QueriesTest(unittest.TestCase):
             self.session.note_request(data(message_id), text, 1.0)
         self.session.note_delivered(data(6))
         self.assertEqual([query.text for query in self.session.unanswered()], [b"VOLT?"])
+        # Until the server has acknowledged a device clear the response may be under way.
         self.session.note_request(Header(MessageType.DEVICE_CLEAR_COMPLETE, 0, 0, 0), b"", 2.0)
+        self.assertEqual(len(self.session.unanswered()), 1)
+        self.session.forget_queries()
         self.assertEqual(self.session.unanswered(), [])
 
     def test_a_message_of_several_frames_is_known_by_its_last_message_id(self):

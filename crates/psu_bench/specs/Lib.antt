@@ -1,6 +1,7 @@
 pub mod Calls
 pub mod JobRun
 pub mod Callers
+pub mod Opened
 pub mod Reopenings
 pub mod Lines
 pub mod PowerOn

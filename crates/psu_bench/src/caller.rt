@@ -1,8 +1,10 @@
 //! A thread's access to the device, and its calls of it.
-ghost use Rattle.std.specs.Prelude.{◌≡◌, ◌↔◌, [], Ok, IfOk, IsTrue, is_some, true};
+ghost use Rattle.std.specs.Prelude.{◌≡◌, ◌↔◌, [], Ok, IfOk, OnErr, IsTrue, None, Some, is_some, true};
 ghost use Rattle.std.specs.Arc.{arc_value};
-ghost use Rattle.psu_turn.specs.Seats.{SeatCalls, Splits};
-ghost use Rattle.psu_exec.specs.Calls.Entry.{Closed, Sent, Locked, Released, Ticked};
+ghost use Rattle.psu_turn.specs.Seats.{SeatCalls, Sight, Splits};
+ghost use Rattle.psu_exec.specs.Device.{State};
+ghost use Rattle.psu_exec.specs.Calls.{Entry};
+ghost use Rattle.psu_exec.specs.Calls.Entry.{Closed, Opened, Sent, Locked, Released, Ticked};
 ghost use Rattle.psu_exec.specs.Quiet.{may_cause};
 ghost use Rattle.psu_exec.specs.Shown.{outcome_of};
 ghost use Rattle.psu_locks.specs.declared.results.Grant.TheVariants as grants;
@@ -11,11 +13,13 @@ ghost use Rattle.psu_bench.specs.Callers.{Causes, CausesByRound, released_of};
 ghost use Rattle.psu_bench.specs.Tries.{tried};
 
 use crate::machine::{CausesNothing, Operation};
-use crate::operations::{CloseSession, Lock, MarkSent, Notify, Release, Tick, Try, TryUnit};
-use crate::{Bench, Caused, CausedByJob, Gate, Granted, Point, Seat, ServedDisk};
+use crate::operations::{
+    CloseSession, Lock, MarkSent, Notify, OpenSession, Release, Tick, Try, TryUnit,
+};
+use crate::{Bench, Caused, CausedByJob, Gate, Granted, OpenedSession, Point, Seat, ServedDisk};
 use psu_exec::{
-    CannotDrop, Freed, Grant, Kind, LockRefusal, NoJob, Notifications, Outcome, Session, Sessions,
-    units_and_waits_are_quiet,
+    CannotDrop, Crowded, Freed, Grant, Kind, LockRefusal, NoJob, Notifications, Outcome, Session,
+    Sessions, units_and_waits_are_quiet,
 };
 use std::alloc::{AllocError, Global};
 use std::marker::Model;
@@ -47,6 +51,22 @@ impl<D: ServedDisk> Access<D> {
         let seat = self.bench.split(&mut self.seat);
         Ok(Access { bench, seat, gate })
     }
+
+    /// Opens a session, under a seat that has made no call. The session keeps the seat.
+    #[tactic(auto, using(crate::proofs::Seats::is_of))]
+    pub fn open_session<R: Wait>(self, rt: &R) -> Result<OpenedSession<D>, Crowded>
+        requires { self.seat.mine ≡ [] }
+        ensures opened { IfOk result (λ opened. SeatCalls (AllowsOn D.honest) self.seat (Opened (Some opened.number)) opened.seat) }
+        ensures crowded { OnErr result ((new : Sight State Entry) × SeatCalls (AllowsOn D.honest) self.seat (Opened None) new) }
+    {
+        let Access {
+            bench,
+            mut seat,
+            gate,
+        } = self;
+        let number = bench.call(rt, &mut seat, OpenSession)?;
+        Ok(OpenedSession::new(number, Access { bench, seat, gate }))
+    }
 }
 
 /// What a thread calls the device by: the bench, a seat of its own there, and the gate. Each call says what the seat has
@@ -56,7 +76,7 @@ impl<D: ServedDisk> Access<D> {
 pub struct Caller<'b, D: ServedDisk> {
     bench: &'b Arc<Bench<D, Global>>,
     seat: Seat,
-    gate: Arc<D::Gate>,
+    gate: &'b Arc<D::Gate>,
     // The mutex of the bench, where it is kept for the next call.
     kept: Option<MutexGuard<'b, ()>>,
 }
@@ -84,7 +104,11 @@ fn may_cause(outcome: &Outcome<Global>) -> bool
 impl<'b, D: ServedDisk> Caller<'b, D> {
     /// Creates a caller with this seat of a bench.
     #[tactic(auto, using(crate::proofs::Seats::is_of))]
-    pub fn new(bench: &'b Arc<Bench<D, Global>>, seat: Seat, gate: Arc<D::Gate>) -> Caller<'b, D>
+    pub fn new(
+        bench: &'b Arc<Bench<D, Global>>,
+        seat: Seat,
+        gate: &'b Arc<D::Gate>,
+    ) -> Caller<'b, D>
         requires same { seat.turn ≡ arc_value bench.now }
         requires here { is_some seat.opening ≡ true }
         ensures { result ≡ seat }
@@ -95,6 +119,19 @@ impl<'b, D: ServedDisk> Caller<'b, D> {
             gate,
             kept: None,
         }
+    }
+
+    /// Returns the seat. Releases the mutex, if it is kept from a query.
+    pub fn into_seat(self) -> Seat
+        ensures { result ≡ self.entry }
+    {
+        let Caller {
+            bench: _,
+            seat,
+            gate: _,
+            kept: _,
+        } = self;
+        seat
     }
 
     // Takes the mutex, unless it is kept.

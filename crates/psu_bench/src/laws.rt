@@ -6,8 +6,8 @@ use psu_disk::Disk;
 use std::alloc::Allocator;
 
 /// The power-loss theorem holds for threads: what happens while they run, the calls of a legal history and the disk
-/// calls of its jobs, is a list of events of the theorem, except for calls for closed sessions, which change nothing.
-/// The histories that happen are those whose accepted ends are each true of some disk, and there are such histories.
+/// calls of its jobs, is a list of events of the theorem. The histories that happen are those whose accepted ends are each
+/// true of some disk, and there are such histories.
 pub fn histories_are_lives()
     ensures events { LivesAreEvents }
     ensures each { HistoriesHappen }

@@ -167,7 +167,7 @@ fn defined<R: Wait>(
 // Makes the calls of a thread, and notes its sets up to a step that fails.
 fn one_thread<R: Wait>(rt: &R, access: Access<Disk>, shared: &Shared, thread: u8) {
     let Access { bench, seat, gate } = access;
-    let mut caller = Caller::new(&bench, seat, gate);
+    let mut caller = Caller::new(&bench, seat, &gate);
     let Ok(session) = caller.call(rt, OpenSession) else {
         return;
     };

@@ -50,7 +50,7 @@ pub(crate) fn idle_store_after<D: Disk, A: Allocator + Copy>(
     ensures { result ≡ idle_store_of finished.end }
 {
     let Finished { end, duty } = finished;
-    let CannotDrop(_) = duty;
+    duty.end();
     match end {
         End::Stored(store) => IdleStore::Whole(store),
         End::Unstarted(store, _, _) => IdleStore::Whole(store),

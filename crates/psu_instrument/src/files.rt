@@ -9,9 +9,8 @@ ghost use Rattle.psu_instrument.specs.Meaning.{ActsAs, situation};
 use crate::Act;
 use crate::macros::text_of;
 use psu_lex::{Bytes, ScpiError, definite, is_name};
-use psu_map::Pair;
+use psu_map::{PAGE_SIZE, Pair};
 use psu_nv::{Contents, FileBytes, FileKind, NvCommand, Register};
-use psu_pages::PAGE_SIZE;
 use psu_tree::{OnFile, OnNames, Text, Transfer};
 use std::alloc::{AllocError, Allocator};
 

@@ -6,8 +6,7 @@ ghost use Rattle.psu_map.specs.Batch.{edited, changed, Assigns};
 ghost use Rattle.psu_map.specs.Place.{IsAt, IsGap};
 
 use crate::search::{search, value_near, value_of};
-use crate::{Batch, Edit, Pair, Value, same_pairs};
-use psu_pages::PAGE_SIZE;
+use crate::{Batch, Edit, PAGE_SIZE, Pair, Value, same_pairs};
 use std::alloc::{AllocError, Allocator};
 use std::marker::Model;
 

@@ -7,7 +7,7 @@ use Rattle.std.proofs.Math.Bool.{or-true}
 use Rattle.psu_lex.specs.Bytes.{all_white}
 use Rattle.psu_lex.specs.Message.{Part, Token, Byte, Separator, Whole, Faulty, next_first, units_of}
 use Rattle.psu_tree.specs.declared.command.Request.{Request}
-use Rattle.psu_exec.specs.Device.{Reply, Done, Answer, Error, Expand, Parked, Held, Later}
+use Rattle.psu_replies.specs.Reply.{Reply, Done, Answer, Error, Expand, Parked, Held, Later}
 use Rattle.psu_messages.specs.ResponseBuffer.{MakesBuffer, PartsAreTheAnswers, Text, nothing}
 use Rattle.psu_messages.specs.ResponseBuffer.MakesBuffer.{Begin, Append, Send}
 use Rattle.psu_messages.specs.declared.need.Need.{Need}

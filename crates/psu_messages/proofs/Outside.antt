@@ -3,9 +3,9 @@ use Rattle.std.proofs.Common.{◌≡◌, not, ℕ, Bool, true, false, Option, So
 use Rattle.std.proofs.lemmas.Grind.{common_steps}
 use Rattle.psu_lex.specs.Message.{Part}
 use Rattle.psu_tree.specs.declared.command.Request.{Request}
-use Rattle.psu_exec.specs.Shown.{outcome_of}
-use Rattle.psu_exec.specs.declared.outcome.Outcome.{Outcome}
-use Rattle.psu_exec.specs.declared.outcome.Outcome.TheVariants as outcome
+use Rattle.psu_replies.specs.Reply.{outcome_of}
+use Rattle.psu_replies.specs.declared.outcome.Outcome.{Outcome}
+use Rattle.psu_replies.specs.declared.outcome.Outcome.TheVariants as outcome
 use Rattle.psu_messages.specs.ResponseBuffer.{Text}
 use Rattle.psu_messages.specs.Effects.{Effect, Sent}
 use Rattle.psu_messages.specs.Units as units

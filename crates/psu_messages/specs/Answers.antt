@@ -1,7 +1,7 @@
 -- The texts that are sent for a transmission, message by message. Source: IEEE 488.2, 8.4: the responses of a
 -- message's units, joined by `;` and ended by NL.
 use Rattle.std.specs.Prelude.{◌≡◌, ℕ, ◌||◌, Bool, true, false, List, [], ◌∷◌, ◌++◌}
-use Rattle.psu_exec.specs.Device.{Reply, Done, Answer, Error, Expand, Parked, Held, Later}
+use Rattle.psu_replies.specs.Reply.{Reply, Done, Answer, Error, Expand, Parked, Held, Later}
 use Rattle.psu_messages.specs.Response.{are_some, joined}
 use Rattle.psu_messages.specs.Effects.{Effect, Executed, Settled, Sent}
 use Rattle.psu_messages.specs.Units.{Source}

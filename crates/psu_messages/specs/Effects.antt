@@ -3,7 +3,7 @@ use Rattle.std.specs.Prelude.{◌≡◌, [], ◌∷◌, ℕ, Bool, true, false, 
 use Rattle.psu_tree.specs.declared.command.Request.{Request}
 use Rattle.psu_messages.specs.declared.need.Need.{Need}
 use Rattle.psu_messages.specs.declared.need.Need.TheVariants.{Flush, Lock, Room}
-use Rattle.psu_exec.specs.Device.{Reply, Parked, Held, Later}
+use Rattle.psu_replies.specs.Reply.{Reply, Parked, Held, Later}
 
 -- An effect: a unit is executed, or the wait of one that was accepted is settled, or a piece of text is sent, the
 -- last of its message or an earlier one.

@@ -2,7 +2,7 @@
 use Rattle.std.specs.Prelude.{◌≡◌, ◌⊎◌, ℕ, ◌<◌, Bool, true, false, Option, Some, None, is_some, List, [], ◌∷◌, ◌++◌, length}
 use Rattle.psu_tree.specs.declared.command.Request.{Request}
 use Rattle.psu_lex.specs.Message.{Part}
-use Rattle.psu_exec.specs.Device.{Reply, Done, Answer, Error, Expand, Parked, Held, Later}
+use Rattle.psu_replies.specs.Reply.{Reply, Done, Answer, Error, Expand, Parked, Held, Later}
 use Rattle.psu_messages.specs.ResponseBuffer.{Text, emptied, nothing, appended}
 use Rattle.psu_messages.specs.Standing as standing
 use Rattle.psu_messages.specs.Standing.{Standing, start}

@@ -1,7 +1,7 @@
 -- The code's values as the definitions name them.
 use Rattle.std.specs.Prelude.{◌≡◌, ◌≢◌, Bool, false, Option, Some, None, is_some, List, ℕ}
 use Rattle.psu_tree.specs.declared.command.Request.{Request}
-use Rattle.psu_exec.specs.Shown.{outcome_of}
+use Rattle.psu_replies.specs.Reply.{outcome_of}
 use Rattle.psu_messages.specs.Effects.{Effect, needs}
 use Rattle.psu_messages.specs.Executions.{Trial}
 use Rattle.psu_messages.specs.Relations.{Relations}
@@ -11,7 +11,7 @@ use Rattle.psu_messages.specs.declared.tried.Tried.{Tried}
 use Rattle.psu_messages.specs.declared.tried.Tried.TheVariants as tried
 use Rattle.psu_messages.specs.declared.tries.Attempt.{Attempt}
 use Rattle.psu_messages.specs.declared.tries.Attempt.TheVariants as attempt
-use Rattle.psu_exec.specs.Device.{Reply, Parked}
+use Rattle.psu_replies.specs.Reply.{Reply, Parked}
 use Rattle.psu_messages.specs.ResponseBuffer.{Text}
 use Rattle.psu_messages.specs.Standing.{Standing}
 use Rattle.psu_messages.specs.Executions as executions

@@ -1,7 +1,7 @@
 -- The progress after a step.
 use Rattle.std.specs.Prelude.{◌≡◌, ◌⊎◌, ◌+◌, Bool, true, false, Option, Some, None, List, ℕ}
 use Rattle.psu_tree.specs.declared.command.Request.{Request}
-use Rattle.psu_exec.specs.Device.{Reply}
+use Rattle.psu_replies.specs.Reply.{Reply}
 use Rattle.psu_messages.specs.ResponseBuffer.{Text}
 use Rattle.psu_messages.specs.Executions.{Progress, text_after}
 use Rattle.psu_messages.specs.Relations.{Relations}

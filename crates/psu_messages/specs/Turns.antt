@@ -2,7 +2,7 @@
 use Rattle.std.specs.Prelude.{◌≡◌, ℕ, ◌+◌, Bool, true, false, Some, None, List, [], ◌∷◌, ◌++◌}
 use Rattle.psu_tree.specs.declared.command.Request.{Request}
 use Rattle.psu_lex.specs.Message.{Part}
-use Rattle.psu_exec.specs.Device.{Reply, Expand, Parked}
+use Rattle.psu_replies.specs.Reply.{Reply, Expand, Parked}
 use Rattle.psu_messages.specs.declared.need.Need.{Need}
 use Rattle.psu_messages.specs.Effects.{Effect, Executed, Settled, Sent, IsTry, needs}
 use Rattle.psu_messages.specs.Units.{Asks, IsBehind, IsUnit, Source}

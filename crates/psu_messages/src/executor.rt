@@ -5,7 +5,7 @@ ghost use Rattle.psu_messages.specs.Relations.{Relations};
 ghost use Rattle.psu_messages.specs.Shown.{HasItsWait, reply_of};
 
 use crate::{MemoryRefused, Tried};
-use psu_exec::Request;
+use psu_tree::Request;
 use std::alloc::Allocator;
 
 /// The executor of a session's units, which also sends their responses. It is known only by how an effect (`Effect`)

@@ -8,7 +8,7 @@ ghost use Rattle.psu_messages.specs.Units.{Source};
 use crate::cursor::{Cursor, take_unit};
 use crate::steps::take_step;
 use crate::{Executor, Need, ResponseBuffer};
-use psu_exec::Request;
+use psu_tree::Request;
 use std::alloc::Allocator;
 
 /// Executes the rest of an expansion. Returns what has to be waited for, if the expansion isn't done then.

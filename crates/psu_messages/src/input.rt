@@ -2,7 +2,7 @@
 ghost use Rattle.std.specs.Prelude.{◌≡◌};
 ghost use Rattle.psu_messages.specs.Units.{size_of, source_of};
 
-use psu_exec::ScpiError;
+use psu_lex::ScpiError;
 use std::alloc::Allocator;
 
 /// What is executed: the text of a transmission, or the report of an error in place of one.

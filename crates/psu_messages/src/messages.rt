@@ -12,7 +12,9 @@ use crate::expansions::expand;
 use crate::responses::{add_response, close};
 use crate::tries::{Attempt, take_try};
 use crate::{Executor, Expansion, Need, Progress};
-use psu_exec::{Outcome, Request, ScpiError};
+use psu_lex::ScpiError;
+use psu_replies::Outcome;
+use psu_tree::Request;
 use std::alloc::Allocator;
 
 // Executes the rest of the expansion that replaces the next unit.

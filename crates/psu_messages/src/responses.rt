@@ -1,12 +1,12 @@
 //! The responses of units: gathered in the response buffer, and sent.
 ghost use Rattle.std.specs.Prelude.{◌≡◌, true, IfErr, OnOk, OnErr};
-ghost use Rattle.psu_exec.specs.Shown.{outcome_of};
+ghost use Rattle.psu_replies.specs.Reply.{outcome_of};
 ghost use Rattle.psu_messages.specs.Executions.{AddsResponse, Closes, IsResponse};
 ghost use Rattle.psu_messages.specs.Stepping.{IsLeft};
 
 use crate::memory_refused::{append_to, end};
 use crate::{Executor, ResponseBuffer};
-use psu_exec::Outcome;
+use psu_replies::Outcome;
 use std::alloc::Allocator;
 
 /// Adds the response of a unit to the response buffer; a long buffer is sent as a part. If the executor stops, what

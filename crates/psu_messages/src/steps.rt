@@ -9,7 +9,7 @@ ghost use Rattle.psu_messages.specs.Units.{Source};
 use crate::responses::add_response;
 use crate::tries::{Attempt, take_try};
 use crate::{Executor, Need, ResponseBuffer};
-use psu_exec::Request;
+use psu_tree::Request;
 use std::alloc::Allocator;
 
 /// Tries a unit of an expansion, and adds its response to the response buffer. Returns what the unit waits for, if it

@@ -1,9 +1,9 @@
 //! The reply of an executor to a try of a unit.
 ghost use Rattle.std.specs.Prelude.{◌≡◌};
-ghost use Rattle.psu_exec.specs.Shown.{outcome_of};
+ghost use Rattle.psu_replies.specs.Reply.{outcome_of};
 ghost use Rattle.psu_messages.specs.Shown.{HasItsWait, reply_of};
 
-use psu_exec::Outcome;
+use psu_replies::Outcome;
 use std::alloc::Allocator;
 
 /// The reply of an executor to a try of a unit.

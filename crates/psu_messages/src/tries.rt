@@ -1,13 +1,14 @@
 //! One try of a unit.
 ghost use Rattle.std.specs.Prelude.{◌≡◌, ◌≢◌, is_some, IfOk, IfErr};
-ghost use Rattle.psu_exec.specs.Device.{Parked};
-ghost use Rattle.psu_exec.specs.Shown.{outcome_of};
+ghost use Rattle.psu_replies.specs.Reply.{Parked};
+ghost use Rattle.psu_replies.specs.Reply.{outcome_of};
 ghost use Rattle.psu_messages.specs.Effects.{needs};
 ghost use Rattle.psu_messages.specs.Shown.{IsTried};
 ghost use Rattle.psu_messages.specs.Stepping.{IsBrokenOff};
 
 use crate::{Executor, Need, Tried};
-use psu_exec::{Outcome, Request};
+use psu_replies::Outcome;
+use psu_tree::Request;
 use std::alloc::Allocator;
 
 /// Whether a unit has ended with a try.

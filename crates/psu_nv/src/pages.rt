@@ -4,7 +4,7 @@ ghost use Rattle.psu_map.specs.Map.{cost};
 ghost use Rattle.psu_nv.specs.Contents.{enables_items, user_items};
 ghost use Rattle.psu_nv.specs.Costs.{page_count};
 
-use psu_pages::PAGE_SIZE;
+use psu_map::PAGE_SIZE;
 use psu_status::Enables;
 
 // The pages of each part.

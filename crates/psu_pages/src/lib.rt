@@ -10,7 +10,6 @@ mod gates;
 mod hand_over;
 mod head;
 mod laws;
-mod limits;
 mod load;
 mod open;
 mod page;
@@ -33,7 +32,7 @@ pub use faults::{BadImage, FormatCause, FormatFault, ImageError, OpenCause, Page
 pub use free_map::FreeMap;
 pub use head::Head;
 pub use laws::represents_what_it_encodes;
-pub use limits::PAGE_SIZE;
 pub use pages::Pages;
+pub use psu_map::PAGE_SIZE;
 pub use root::Root;
 pub use standing::Standing;

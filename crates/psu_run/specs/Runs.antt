@@ -157,7 +157,7 @@ Runs (Message.Power ∷ ms) p q = (mid : RunPoint) × (on : RunPoint) × ((mid �
 Runs (Message.Line source ∷ ms) p q = (mid : RunPoint) × (end : Progress) × Advances Does source p beginning mid end × IsOver source end × Runs ms mid q
 
 -- The first of these messages has begun. What is not sent of a line's text is written too, and of its next unit all may be
--- executed but its answer. Of a power loss there are no more than jobs, and likewise after the last message.
+-- executed but its answer. Of a power loss, and after the last message, there are only calls that execute no unit.
 abbrev pub NextBegins : List Message → RunPoint → RunPoint → Type 0
 NextBegins (Message.Line source ∷ ms) p q = (mid : RunPoint) × (at : Progress) × Advances Does source p beginning mid at
     × let said : RunPoint = record mid { text = mid.text ++ at.text.rest } in (q ≡ said) ⊎ ((request : Request) × IsNext source at request × Begins (request ∷ []) said q)

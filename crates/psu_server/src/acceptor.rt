@@ -1,5 +1,6 @@
 //! The server: it powers on, and gives each connection a thread.
 use crate::connection::Accepted;
+use crate::directory::Directory;
 use crate::serve_fault::ServeFault;
 use crate::silent_connections::SilentConnections;
 use psu_bench::{Access, Caller, Gate, ServedDisk, power_on};
@@ -23,6 +24,7 @@ const ACCEPT_PAUSE: u64 = 20;
 #[derive(Drop)]
 struct Acceptor<D: ServedDisk> {
     server: Arc<Server>,
+    sessions: Arc<Mutex<Directory<D>>>,
     silent: Arc<Mutex<SilentConnections>>,
     access: Access<D>,
 }
@@ -50,11 +52,13 @@ where
         stream.set_nodelay(true)?;
         let link = Arc::new(self.server.alloc, Link::new(stream))?;
         let server = Arc::try_clone(&self.server)?;
+        let sessions = Arc::try_clone(&self.sessions)?;
         let silent = Arc::try_clone(&self.silent)?;
         let access = self.access.split()?;
         let number = self.silent.lock(rt).add(Arc::try_clone(&link)?);
         Ok(Accepted {
             server,
+            sessions,
             silent,
             number,
             link,
@@ -88,7 +92,7 @@ where
         let access = self.access.split()?;
         let _flusher = thread::spawn(&rt, move || {
             let Access { bench, seat, gate } = access;
-            let caller = Caller::new(&bench, seat, gate);
+            let caller = Caller::new(&bench, seat, &gate);
             Flusher::new(&server, caller).flush(&rt)
         })?;
         Ok(())
@@ -155,9 +159,11 @@ fn acceptor_of<R: Clock, D: ServedDisk>(
     access: Access<D>,
 ) -> io::Result<Acceptor<D>> {
     let server = Arc::new(alloc, Server::new(alloc, Instant::now(rt)?))?;
+    let sessions = Arc::new(alloc, Mutex::new(Directory::new()))?;
     let silent = Arc::new(alloc, Mutex::new(SilentConnections::new(alloc)))?;
     Ok(Acceptor {
         server,
+        sessions,
         silent,
         access,
     })

@@ -1,11 +1,15 @@
 //! A connection, from its first byte to its end.
-use crate::opening::{Opening, close, first_message, open};
+ghost use Rattle.std.specs.Prelude.{◌≡◌, IfSome};
+ghost use Rattle.std.specs.Arc.{arc_value};
+
+use crate::directory::Directory;
+use crate::opening::{Opened, Opening, close, first_message, open};
 use crate::silent_connections::SilentConnections;
-use psu_bench::{Access, Caller, ServedDisk};
+use psu_bench::{Access, ServedDisk};
 use psu_exec::Session;
 use psu_hislip::{FatalCode, First};
-use psu_session_io::{Connection, FirstReply, Link, ServedSession};
-use psu_threads::{Role, Server, serve_session};
+use psu_session_io::{Connection, FirstReply, Link};
+use psu_threads::{Role, Server, SessionOf, serve_session};
 use std::rt::Clock;
 use std::sync::{Arc, Mutex, Wait};
 use std::thread::{JoinHandle, Threads};
@@ -16,6 +20,7 @@ use std::{io, thread};
 #[derive(Drop)]
 pub(crate) struct Accepted<D: ServedDisk> {
     pub server: Arc<Server>,
+    pub sessions: Arc<Mutex<Directory<D>>>,
     pub silent: Arc<Mutex<SilentConnections>>,
     pub number: u64,
     pub link: Arc<Link>,
@@ -30,21 +35,29 @@ impl<D: ServedDisk> Accepted<D> {
 
     // Serves a session over its synchronous connection, until it is over.
     fn start<R: Wait + Clock>(&mut self, rt: &R, opening: Opening) -> io::Result<()> {
-        let opened = Instant::now(rt)?;
-        let Access { bench, seat, gate } = self.access.split()?;
-        let mut caller = Caller::new(&bench, seat, gate);
+        let began = Instant::now(rt)?;
+        let access = self.access.split()?;
         let message = opening.message.as_slice();
-        let open = open(rt, &self.server, &mut caller, &self.link, message)?;
-        let Some((response, served)) = open else {
+        let Some(opened) = open(rt, &self.server, access, &self.link, message)? else {
             return self.refuse(FatalCode::TooManyClients);
         };
+        let Opened {
+            response,
+            served,
+            must_close,
+        } = opened;
+        let number = served.number;
+        self.sessions
+            .lock(rt)
+            .set(number, Arc::try_clone(&served).ok());
         let read = match self.link.answer(response) {
-            Ok(()) => self.read(rt, &served, opened, opening.after),
+            Ok(()) => self.read(rt, &served, began, opening.after),
             Err(error) => Err(error),
         };
         served.abandon(rt);
         served.wait_for_second(rt);
-        close(rt, &self.server, &mut caller, served.number);
+        self.sessions.lock(rt).set(number, None);
+        close(rt, &self.server, &served, must_close);
         read
     }
 
@@ -52,34 +65,34 @@ impl<D: ServedDisk> Accepted<D> {
     fn read<R: Wait + Clock>(
         &mut self,
         rt: &R,
-        served: &ServedSession,
-        opened: Instant,
+        served: &SessionOf<D>,
+        began: Instant,
         after: Vec<u8>,
     ) -> io::Result<()> {
         let connection = Connection::new(Arc::try_clone(&self.link)?, after);
-        let role = Role::Read(connection, opened);
-        let access = self.access.split()?;
-        serve_session(rt, &self.server, served, access, role)
+        let role = Role::Read(connection, began);
+        serve_session(rt, &self.server, served, role)
     }
 
     // Returns the session of a number.
-    fn session<R: Wait>(&self, rt: &R, number: u32) -> Option<Arc<ServedSession>> {
+    fn session<R: Wait>(&self, rt: &R, number: u32) -> Option<Arc<SessionOf<D>>>
+        ensures { IfSome result (λ session. (arc_value session).number ≡ number) }
+    {
         let number = Session::new(u8::try_from(number).ok()?)?;
-        self.server.registry.lock(rt).session(number)
+        self.sessions.lock(rt).session(number)
     }
 
     // Reads the asynchronous connection of a session, until the session is over.
     fn listen<R: Wait + Clock>(
         &mut self,
         rt: &R,
-        served: &ServedSession,
+        served: &SessionOf<D>,
         opening: Opening,
     ) -> io::Result<()> {
         self.link.wait_at_most(None)?;
         let connection = Connection::new(Arc::try_clone(&self.link)?, opening.whole()?);
         let role = Role::Listen(connection);
-        let access = self.access.split()?;
-        serve_session(rt, &self.server, served, access, role)
+        serve_session(rt, &self.server, served, role)
     }
 }
 
@@ -91,7 +104,7 @@ where
     fn start_beside<R>(
         &mut self,
         rt: R,
-        served: &Arc<ServedSession>,
+        served: &Arc<SessionOf<D>>,
         role: Role,
     ) -> io::Result<JoinHandle<()>>
     where
@@ -99,10 +112,9 @@ where
     {
         let server = Arc::try_clone(&self.server)?;
         let served = Arc::try_clone(served)?;
-        let access = self.access.split()?;
         let started = thread::spawn(&rt, move || {
             // It needs no memory of its own.
-            let _ = serve_session(&rt, &server, &served, access, role);
+            let _ = serve_session(&rt, &server, &served, role);
         })?;
         Ok(started)
     }
@@ -111,7 +123,7 @@ where
     fn listen_and_notify<R>(
         &mut self,
         rt: R,
-        served: &Arc<ServedSession>,
+        served: &Arc<SessionOf<D>>,
         opening: Opening,
     ) -> io::Result<()>
     where
@@ -126,7 +138,7 @@ where
     }
 
     // Serves a session over its second connection, beside its worker, until the session is over.
-    fn attend<R>(&mut self, rt: R, served: &Arc<ServedSession>, opening: Opening) -> io::Result<()>
+    fn attend<R>(&mut self, rt: R, served: &Arc<SessionOf<D>>, opening: Opening) -> io::Result<()>
     where
         R: Threads + Wait + Clock + Copy + Send + 'static,
     {
@@ -139,7 +151,7 @@ where
     }
 
     // Joins this connection to a session that waits for its second connection.
-    fn join<R>(&mut self, rt: R, served: &Arc<ServedSession>, opening: Opening) -> io::Result<()>
+    fn join<R>(&mut self, rt: R, served: &Arc<SessionOf<D>>, opening: Opening) -> io::Result<()>
     where
         R: Threads + Wait + Clock + Copy + Send + 'static,
     {

@@ -1,20 +1,20 @@
 //! A connection up to its first message, and sessions that open and close.
-ghost use Rattle.std.specs.Prelude.{◌≡◌, ℕ, List, [], ◌∷◌, ◌++◌, IfOk, IfSome, IsNone, None, OnErr};
+ghost use Rattle.std.specs.Prelude.{◌≡◌, [], ◌∷◌, ◌++◌, IfOk, IfSome, IsNone, None};
 ghost use Rattle.std.specs.Arc.{arc_value};
-ghost use Rattle.psu_turn.specs.Seats.{SeatCalls};
-ghost use Rattle.psu_exec.specs.Calls.Entry.{Closed, Opened};
+ghost use Rattle.psu_turn.specs.Seats.{SeatCalls, Sight};
+ghost use Rattle.psu_exec.specs.Device.{State};
+ghost use Rattle.psu_exec.specs.Calls.{Entry};
 ghost use Rattle.psu_bench.specs.Calls.{AllowsOn};
 ghost use Rattle.psu_hislip.specs.Channel.{Fed};
-ghost use Rattle.psu_session.specs.State.{Start, fresh};
-ghost use Rattle.psu_server.specs.Opening.{IsClosedAgain, IsFirst, IsOpened, initialize_response};
+ghost use Rattle.psu_threads.specs.Seated.{HasBegun};
+ghost use Rattle.psu_server.specs.Opening.{IsFirst, initialize_response};
 
-use psu_bench::operations::OpenSession;
-use psu_bench::{Caller, Others, ServedDisk};
+use psu_bench::{Access, Granted, Others, ServedDisk};
 use psu_exec::Session;
 use psu_hislip::{Channel, First};
 use psu_session::HislipSession;
-use psu_session_io::{FirstReply, Link, ReadResult, ServedSession};
-use psu_threads::{Reporter, SILENCE_SECONDS, Server, space};
+use psu_session_io::{FirstReply, Link, Mailbox, ReadResult, ServedSession, SharedSession};
+use psu_threads::{MustClose, Reporter, SILENCE_SECONDS, SeatedSession, Server, SessionOf, space};
 use std::alloc::Global;
 use std::collections::VecDeque;
 use std::io::{self, ErrorKind};
@@ -102,7 +102,9 @@ pub(crate) fn first_message<R: Clock>(
     rt: &R,
     alloc: Global,
     link: &Link,
-) -> io::Result<Option<Opening>> {
+) -> io::Result<Option<Opening>>
+    ensures { IfOk result (λ some. IfSome some (λ opening. IsFirst opening.first opening.message.items)) }
+{
     let start = Instant::now(rt)?;
     let mut space = space(alloc, FIRST_READ_SIZE)?;
     let mut message = FirstMessage {
@@ -127,79 +129,119 @@ pub(crate) fn first_message<R: Clock>(
     Ok(None)
 }
 
-// Returns the value of a session of this number, whose synchronous connection has sent these bytes first.
-fn session_of(alloc: Global, number: Session, message: &[u8]) -> io::Result<HislipSession>
-    ensures { IfOk result (λ session. (start : Start) × (start.session ≡ number) × (session.state ≡ fresh start)) }
+/// A session that was opened, and the response to its Initialize.
+pub(crate) struct Opened<D: ServedDisk> {
+    pub response: FirstReply,
+    pub served: Arc<SessionOf<D>>,
+    pub must_close: MustClose,
+}
+
+// Returns a session of this number, whose synchronous connection has sent these bytes first, with its response to them.
+fn session_of(
+    alloc: Global,
+    number: Session,
+    message: &[u8],
+) -> io::Result<(FirstReply, SharedSession)>
+    ensures response { IfOk result (λ made. made.0.bytes ≡ initialize_response number) }
+    ensures session { IfOk result (λ made. HasBegun number message.now made.1.phase made.1.state) }
 {
     match HislipSession::open(alloc, u16::from(number.number()), message) {
-        Ok(session) => Ok(session),
+        Ok(session) => {
+            let response = FirstReply::initialized(&session);
+            Ok((response, SharedSession::new(alloc, session)?))
+        }
         Err(_) => Err(io::Error::from(ErrorKind::OutOfMemory)),
     }
 }
 
-// Returns a session of this number, whose synchronous connection has sent these bytes first, with its response to them,
-// as the registry and its connection share it.
-fn opened(
+// Returns a session with its seat, as its connections share it. Where memory is refused it is closed, and what is returned
+// is which sessions' lock requests were then granted.
+fn shared<R: Wait, D: ServedDisk>(
+    rt: &R,
     alloc: Global,
-    number: Session,
-    link: &Arc<Link>,
-    message: &[u8],
-) -> io::Result<(FirstReply, Arc<ServedSession>, Arc<ServedSession>)>
-    ensures response { IfOk result (λ opened. opened.0.bytes ≡ initialize_response number) }
-    ensures number { IfOk result (λ opened. (arc_value opened.2).number ≡ number) }
-    ensures same { IfOk result (λ opened. arc_value opened.1 ≡ arc_value opened.2) }
+    session: SeatedSession<D>,
+    must_close: MustClose,
+    mailbox: Arc<Mailbox>,
+    link: Arc<Link>,
+) -> Result<(Arc<SessionOf<D>>, MustClose), Option<Granted>>
+    ensures { IfOk result (λ made. (arc_value made.0).number ≡ session.number) }
 {
-    let session = session_of(alloc, number, message)?;
-    let response = FirstReply::initialized(&session);
-    let served = ServedSession::new(alloc, number, session, Arc::try_clone(link)?)?;
-    let served = Arc::new(alloc, served)?;
-    let known = Arc::try_clone(&served)?;
-    Ok((response, known, served))
+    let served = match ServedSession::new(session, mailbox, link) {
+        Ok(served) => served,
+        Err(mut session) => return Err(session.close(rt, must_close)),
+    };
+    match Arc::new(alloc, served) {
+        Ok(served) => Ok((served, must_close)),
+        Err(refused) => Err(
+            refused
+                .value
+                .session
+                .lock_to_close(rt)
+                .close(rt, must_close),
+        ),
+    }
 }
 
-/// Opens a session over its synchronous connection, whose first message has these bytes, and returns it with its
-/// response; `None` where there are too many sessions. Its number is the one that the device has given it, and is free
-/// again where memory for it is refused.
+/// Opens a session over its synchronous connection, whose first message has these bytes; `None` where there are too many
+/// sessions. Its number is the one that the device has given it. The session keeps the seat that has opened it, and is
+/// closed under this where memory for it is refused.
 pub(crate) fn open<R: Wait, D: ServedDisk>(
     rt: &R,
     server: &Server,
-    caller: &mut Caller<'_, D>,
+    access: Access<D>,
     link: &Arc<Link>,
     message: &[u8],
-) -> io::Result<Option<(FirstReply, Arc<ServedSession>)>>
-    ensures number { IfOk result (λ some. IfSome some (λ opened. IsOpened D.honest caller.old (arc_value opened.1).number caller.new)) }
-    ensures response { IfOk result (λ some. IfSome some (λ opened. opened.0.bytes ≡ initialize_response (arc_value opened.1).number)) }
-    ensures crowded { IfOk result (λ some. IsNone some → SeatCalls (AllowsOn D.honest) caller.old (Opened None) caller.new) }
-    ensures closed { OnErr result (IsClosedAgain D.honest caller.old caller.new) }
+) -> io::Result<Option<Opened<D>>>
+    requires { access.seat.mine ≡ [] }
+    ensures response { IfOk result (λ some. IfSome some (λ opened. opened.response.bytes ≡ initialize_response (arc_value opened.served).number)) }
+    ensures crowded { IfOk result (λ some. IsNone some → (seat : Sight State Entry) × SeatCalls (AllowsOn D.honest) access.seat (Entry.Opened None) seat) }
 {
+    let mailbox = Mailbox::new(server.alloc)?;
+    let known = Arc::try_clone(&mailbox)?;
+    let link = Arc::try_clone(link)?;
     let others = Reporter { rt, server };
     let mut registry = others.lock_registry();
-    let Ok(number) = caller.call(rt, OpenSession) else {
+    let Ok(opened) = access.open_session(rt) else {
         return Ok(None);
     };
-    match opened(server.alloc, number, link, message) {
-        Ok((response, known, served)) => {
-            registry.registry.set(number, Some(known));
-            Ok(Some((response, served)))
-        }
+    let (response, session) = match session_of(server.alloc, opened.number(), message) {
+        Ok(made) => made,
         Err(error) => {
-            caller.close_session(rt, number).pass_on(&mut registry);
-            Err(error)
+            opened.close(rt).pass_on(&mut registry);
+            return Err(error);
+        }
+    };
+    let (session, must_close) = SeatedSession::new(session, opened);
+    match shared(rt, server.alloc, session, must_close, mailbox, link) {
+        Ok((served, must_close)) => {
+            registry.registry.set(served.number, Some(known));
+            Ok(Some(Opened {
+                response,
+                served,
+                must_close,
+            }))
+        }
+        Err(granted) => {
+            if let Some(granted) = granted {
+                granted.pass_on(&mut registry);
+            }
+            Err(io::Error::from(ErrorKind::OutOfMemory))
         }
     }
 }
 
-/// Closes a session and frees its number.
+/// Closes a session under its own seat, and frees its number.
 pub(crate) fn close<R: Wait, D: ServedDisk>(
     rt: &R,
     server: &Server,
-    caller: &mut Caller<'_, D>,
-    number: Session,
-)
-    ensures { (granted : List ℕ) × SeatCalls (AllowsOn D.honest) caller.old (Closed number granted) caller.new }
-{
+    served: &SessionOf<D>,
+    must_close: MustClose,
+) {
+    let mut session = served.session.lock_to_close(rt);
     let others = Reporter { rt, server };
     let mut registry = others.lock_registry();
-    registry.registry.set(number, None);
-    caller.close_session(rt, number).pass_on(&mut registry);
+    registry.registry.set(served.number, None);
+    if let Some(granted) = session.close(rt, must_close) {
+        granted.pass_on(&mut registry);
+    }
 }

@@ -9,7 +9,7 @@ use Rattle.psu_messages.specs.Effects as messages
 use Rattle.psu_messages.specs.Effects.{Effect, needs}
 use Rattle.psu_messages.specs.declared.need.Need.{Need}
 use Rattle.psu_messages.specs.declared.need.Need.TheVariants.{Turn}
-use Rattle.psu_exec.specs.Device.{Reply, Done, Answer, Error, Expand, Parked, Held, Later}
+use Rattle.psu_replies.specs.Reply.{Reply, Done, Answer, Error, Expand, Parked, Held, Later}
 use Rattle.psu_messages.specs.Units.{Source}
 use Rattle.psu_session.specs.Exchange as exchange
 use Rattle.psu_session.specs.Exchange.{effects, frames}

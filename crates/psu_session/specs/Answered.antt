@@ -1,6 +1,6 @@
 -- What a client is sent. Source: IVI-6.1 (a response is Data messages and a DataEnd, under the MessageID of the
 -- transmission) and IEEE 488.2, 8.4 (the responses of a message's units are one text, joined by `;` and ended by NL).
-use Rattle.std.specs.Prelude.{◌≡◌, ◌⊎◌, ℕ, ◌^◌, ◌<◌, ◌≤◌, true, false, All, Option, Some, None, List, [], ◌∷◌, ◌++◌, length, map, flat_map}
+use Rattle.std.specs.Prelude.{◌≡◌, ◌⊎◌, ℕ, ◌^◌, ◌<◌, ◌≤◌, Bool, true, false, All, Option, Some, None, List, [], ◌∷◌, ◌++◌, length, map, flat_map}
 use Rattle.std.specs.List.{list_any}
 use Rattle.psu_lex.specs.declared.scpi_error.ScpiError.TheVariants.{TooMuchData}
 use Rattle.psu_hislip.specs.Answer.{IsAnswerCutAnywhere, IsPart, answer_size}
@@ -103,13 +103,16 @@ text_in (Text bytes) = Some bytes ∷ []
 text_in (Fault TooMuchData) = None ∷ []
 text_in (Fault error) = []
 
--- In a session whose messages come in their order, the transmissions that are executed are those that the client sent,
--- in order and once each; one that a device clear cut off is not one of them.
-abbrev pub TransmissionsAreTheClients : Type 0
-TransmissionsAreTheClients = (session : ℕ) (sync async : List ℕ) (history : List ExchangeEvent) (turns : List Turn) → IsExchange session sync async history turns
-    → (stretches : List Stretch) (last : List Arrival) (whole : List SentTransmission) (rest : List (List ℕ)) → came history ≡ flat_map run_of stretches ++ last → All IsStretch stretches
-    → list_any begins_clear last ≡ false → flat_map piece_in last ≡ flat_map pieces_of whole ++ map More rest → (core_at session history).failed ≡ false
+-- Where the messages come in their order, and the core has not failed, the transmissions that are executed are those that
+-- the client sent, in order and once each; one that a device clear cut off is not one of them.
+abbrev pub AreTheClients : List ExchangeEvent → Bool → List Turn → Type 0
+AreTheClients history failed turns = (stretches : List Stretch) (last : List Arrival) (whole : List SentTransmission) (rest : List (List ℕ)) → came history ≡ flat_map run_of stretches ++ last → All IsStretch stretches
+    → list_any begins_clear last ≡ false → flat_map piece_in last ≡ flat_map pieces_of whole ++ map More rest → failed ≡ false
     → (waiting : List (Option (List ℕ))) × (map text_kept (flat_map (λ (s : Stretch). s.whole) stretches ++ whole) ≡ flat_map (λ turn. text_in turn.order.source) turns ++ waiting)
+
+-- So are those of each exchange.
+abbrev pub TransmissionsAreTheClients : Type 0
+TransmissionsAreTheClients = (session : ℕ) (sync async : List ℕ) (history : List ExchangeEvent) (turns : List Turn) → IsExchange session sync async history turns → AreTheClients history (core_at session history).failed turns
 
 -- ---- the client's bytes
 

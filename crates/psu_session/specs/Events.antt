@@ -15,7 +15,7 @@ use Rattle.psu_hislip.specs.declared.action.Origin.{Origin}
 use Rattle.psu_hislip.specs.declared.side.Side.{Side}
 use Rattle.psu_hislip.specs.declared.side.Side.TheVariants.{Sync, Async}
 use Rattle.psu_tree.specs.declared.command.Request.{Request}
-use Rattle.psu_exec.specs.Device.{Reply}
+use Rattle.psu_replies.specs.Reply.{Reply}
 use Rattle.psu_messages.specs.Effects as messages
 use Rattle.psu_messages.specs.Effects.{Effect}
 use Rattle.psu_session.specs.Exchanged as exchange

@@ -3,7 +3,7 @@ use Rattle.std.specs.Prelude.{◌≡◌, ◌⊎◌, ◌-◌, ◌≤◌, ℕ, Boo
 use Rattle.psu_locks.specs.declared.results.Freed.{Freed}
 use Rattle.psu_locks.specs.declared.results.LockRefusal.{LockRefusal}
 use Rattle.psu_tree.specs.declared.command.Request.{Request}
-use Rattle.psu_exec.specs.Device.{Reply}
+use Rattle.psu_replies.specs.Reply.{Reply}
 use Rattle.psu_messages.specs.Executions.{Progress}
 use Rattle.psu_messages.specs.Effects.{Effect, IsTry, needs}
 use Rattle.psu_messages.specs.declared.need.Need.{Need}

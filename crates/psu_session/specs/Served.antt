@@ -1,15 +1,12 @@
 -- The laws of an exchange, of a session whose history leads to a state.
-use Rattle.std.specs.Prelude.{◌≡◌, ℕ, ◌^◌, ◌<◌, true, false, Option, ◌++◌, All, List, [], ◌∷◌, flat_map, map, length}
-use Rattle.std.specs.List.{list_any}
+use Rattle.std.specs.Prelude.{◌≡◌, ℕ, ◌^◌, ◌<◌, true, ◌++◌, All, List, [], ◌∷◌, length}
 use Rattle.psu_hislip.specs.Channel.{Fed}
-use Rattle.psu_hislip.specs.Runs.{Arrival, begins_clear, origins}
+use Rattle.psu_hislip.specs.Runs.{begins_clear, origins}
 use Rattle.psu_hislip.specs.Stream.{Received}
-use Rattle.psu_hislip.specs.Transmitted.{IsStretch, Stretch, SentTransmission, piece_in, pieces_of, run_of, text_kept}
-use Rattle.psu_hislip.specs.Transmitted.Piece.{More}
 use Rattle.psu_hislip.specs.declared.action.Origin.{Origin}
 use Rattle.psu_hislip.specs.declared.side.Side.TheVariants.{Sync, Async}
 use Rattle.psu_messages.specs.Effects.{Effect}
-use Rattle.psu_session.specs.Answered.{AreTheStreams, EachIsWholeOrEnded, IsAnswered, TakesAtMost, Weaves, pieces, text_in}
+use Rattle.psu_session.specs.Answered.{AreTheClients, AreTheStreams, EachIsWholeOrEnded, IsAnswered, TakesAtMost, Weaves, pieces}
 use Rattle.psu_session.specs.Exchange.{Turn, acts_requested}
 use Rattle.psu_session.specs.Exchanged.{came, replied}
 use Rattle.psu_session.specs.Events.{Event, Came, Did, bytes_received, exchange_history, taken}
@@ -22,9 +19,7 @@ pub record AnswersInOrder (start : Start) (opening : List ℕ) (history : List E
   pub streams : AreTheStreams (opening ++ bytes_received Sync history) (bytes_received Async history) (exchange_history history)
   -- where the messages come in their order, the transmissions that are executed are those that the client sent, in
   -- order and once each, and none that a device clear cut off
-  pub transmissions : (stretches : List Stretch) (last : List Arrival) (whole : List SentTransmission) (rest : List (List ℕ)) → came (exchange_history history) ≡ flat_map run_of stretches ++ last → All IsStretch stretches
-      → list_any begins_clear last ≡ false → flat_map piece_in last ≡ flat_map pieces_of whole ++ map More rest → s.core.failed ≡ false
-      → (waiting : List (Option (List ℕ))) × (map text_kept (flat_map (λ (stretch : Stretch). stretch.whole) stretches ++ whole) ≡ flat_map (λ turn. text_in turn.order.source) turns ++ waiting)
+  pub transmissions : AreTheClients (exchange_history history) s.core.failed turns
   -- each transmission that is over is answered, message by message, under its MessageID; of another, a prefix of this
   -- was sent
   pub answered : (greatest : ℕ) → TakesAtMost greatest start.session (exchange_history history) → All (IsAnswered greatest) turns × EachIsWholeOrEnded greatest start.session (exchange_history history) turns

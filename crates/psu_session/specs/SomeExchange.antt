@@ -10,7 +10,7 @@ use Rattle.psu_hislip.specs.declared.message_type.MessageType.{MessageType}
 use Rattle.psu_hislip.specs.declared.message_type.MessageType.TheVariants.{AsyncInitialize, DataEnd, Initialize, Trigger}
 use Rattle.psu_hislip.specs.declared.action.Origin.{Origin}
 use Rattle.psu_hislip.specs.declared.side.Side.TheVariants.{Sync, Async}
-use Rattle.psu_exec.specs.Device.{Reply, Answer}
+use Rattle.psu_replies.specs.Reply.{Reply, Answer}
 use Rattle.psu_messages.specs.Executions.{beginning, ended, tried}
 use Rattle.psu_messages.specs.Effects.{Executed, Sent}
 use Rattle.psu_messages.specs.Units.{Fault, faulty}

@@ -12,7 +12,7 @@ use Rattle.psu_session.specs.State.{Start, SessionState}
 abbrev pub TheWaitIsKnown : Type 0
 TheWaitIsKnown = (start : Start) (history : List Event) (s : SessionState) → IsHistory start history s → s.lock_waits ≡ waits_after false history
 
--- A result is passed on only while a lock request waits, which then waits no longer: the request is answered once.
+-- A result is passed on only while a lock request waits, which then waits no longer: it is answered at most once.
 abbrev pub EachWaitIsAnsweredOnce : Type 0
 EachWaitIsAnsweredOnce = (start : Start) (history : List Event) (s : SessionState) → IsHistory start history s → (before after : List Event) (grant : Grant) → history ≡ before ++ LockGranted grant ∷ after → waits_after false before ≡ true
 

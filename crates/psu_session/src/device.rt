@@ -1,9 +1,10 @@
 //! The device of a session.
-ghost use Rattle.psu_exec.specs.Shown.{outcome_of};
+ghost use Rattle.psu_replies.specs.Reply.{outcome_of};
 ghost use Rattle.psu_session.specs.Events.{Call, Executed, Settled, Sent, Delivered, Queried, Fetched, Locked, Released, Informed, Cleared};
 
-use psu_exec::{Outcome, Request};
 use psu_locks::{Freed, Grant, Info, Kind, LockRefusal};
+use psu_replies::Outcome;
+use psu_tree::Request;
 use std::alloc::Global;
 
 /// The device of a session. It is known only by how a call (`Call`) leads from one of its states to another.

@@ -13,9 +13,9 @@ ghost use Rattle.psu_session.specs.declared.phase.EndCause.TheVariants.{Memory};
 use crate::limits::{OUTPUT_ROOM, UNITS_AT_ONCE};
 use crate::queue::Accepted;
 use crate::{Device, EndCause, Running};
-use psu_exec::Request;
 use psu_hislip::{Origin, SessionCore};
 use psu_messages::{Executor, MemoryRefused, Need, Transmission, Tried};
+use psu_tree::Request;
 use std::alloc::Global;
 
 /// The executor of a transmission: the device, and the output for its responses.

@@ -78,7 +78,7 @@ pub fn each_release_is_done()
     ensures in_place { EachReleaseIsInPlace }
 {}
 
-/// A lock request that waits is answered once: its result is passed on only while it waits, and then it waits no
+/// A lock request that waits is answered at most once: its result is passed on only while it waits, and then it waits no
 /// longer. At most one request waits at a time, since no other one is made of the device meanwhile.
 pub fn each_wait_is_answered()
     ensures known { TheWaitIsKnown }

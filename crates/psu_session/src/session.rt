@@ -203,6 +203,17 @@ impl HislipSession {
         self.phase = self.phase.disconnected();
     }
 
+    /// Closes the session: nothing more is done for it.
+    pub fn close(&mut self)
+        ensures over { phase_ended self.new.phase ≡ true }
+        ensures same { self.new.state ≡ self.old.state }
+    {
+        match self.phase {
+            Phase::Over(_) => {}
+            _ => self.phase = Phase::Over(EndCause::Disconnected),
+        }
+    }
+
     /// Returns when the wait of the first release is over at the latest, in milliseconds, if a release waits. `tick` is
     /// due then.
     pub fn next_due(&self) -> Option<u64>

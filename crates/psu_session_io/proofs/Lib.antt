@@ -1,3 +1,4 @@
 pub mod Discarding
 pub mod Stopped
 pub mod Reading
+pub mod Extending

@@ -3,3 +3,4 @@ pub mod Sharing
 pub mod Leaving
 pub mod Ending
 pub mod Reading
+pub mod Extending

@@ -42,6 +42,7 @@ has_joined was s = not was && s.state.core.joined && not (phase_ended s.phase)
 
 -- The bytes are received. Where they join the asynchronous connection, a service request of before is sent after them.
 pub record ReceivesAll {X : Type 0} (does : X → Call → X → Type 0) (now : ℕ) (side : Side) (bytes : List ℕ) (s : Shared) (x : X) (t : Shared) (y : X) : Type 0 where
+  pub was : phase_ended s.phase ≡ false
   pub room : IsFull side s.state → ⊥
   pub mid : Shared
   pub at : X
@@ -62,7 +63,7 @@ Receives does now side bytes (Again returned) s x t y = IsFull side s.state × (
 abbrev pub EndsReceiving : {X : Type 0} → (X → Call → X → Type 0) → ℕ → Side → List ℕ → Shared → X → Shared → X → Type 0
 EndsReceiving does now side bytes s x t y =
     ((phase_ended s.phase ≡ true) × (t ≡ s) × (y ≡ x))
-    ⊎ ((IsFull side s.state → ⊥) × (cause : EndCause) × StopsReceiving does now side bytes cause s.state x y × (t ≡ with_value s (Over cause) t.state))
+    ⊎ ((phase_ended s.phase ≡ false) × (IsFull side s.state → ⊥) × (cause : EndCause) × StopsReceiving does now side bytes cause s.state x y × (t ≡ with_value s (Over cause) t.state))
     ⊎ (IsFull side s.state × IsEnding s.phase × (side ≡ Async) × (t ≡ s) × (y ≡ x))
     ⊎ (IsFull side s.state × IsEnding s.phase × (side ≡ Sync) × Drains does AllDone s x t y)
 

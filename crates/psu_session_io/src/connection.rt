@@ -6,7 +6,7 @@ ghost use Rattle.psu_session_io.specs.declared.link.ReadResult.TheVariants.{Byte
 use crate::Token;
 use crate::linear::{BytesRead, Disconnected, Outgoing, Written};
 use crate::link::{Link, ReadResult};
-use psu_exec::CannotDrop;
+use psu_replies::CannotDrop;
 use std::marker::{Model, PhantomData};
 use std::sync::Arc;
 

@@ -32,7 +32,7 @@ pub use linear::{
     Remainder, Written,
 };
 pub use link::{Link, ReadResult};
-pub use lock::SessionLock;
+pub use lock::{Locked, SessionLock};
 pub use mailbox::Mailbox;
 pub use notice::Notice;
 pub use served::{NotAwaited, ServedSession};
@@ -40,3 +40,4 @@ pub use shared::SharedSession;
 pub use side::{Asynchronous, ConnectionSide, Synchronous};
 pub use step_device::StepDevice;
 pub use thread::{Body, Token, run};
+pub use writes::Writes;

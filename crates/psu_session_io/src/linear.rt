@@ -1,6 +1,6 @@
 //! What must not be forgotten. These types have no `Drop`, but for `Closed`; `AfterWrite` is only a part of some of them.
 use crate::Notice;
-use psu_exec::CannotDrop;
+use psu_replies::CannotDrop;
 use std::marker::PhantomData;
 
 /// Bytes that were read from a connection. The session must receive them.

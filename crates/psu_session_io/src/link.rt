@@ -1,6 +1,6 @@
 //! A connection as a stream of bytes.
-ghost use Rattle.std.specs.Prelude.{◌≡◌, ◌≤◌, ℕ, Ok, length};
-ghost use Rattle.psu_session_io.specs.declared.link.ReadResult.TheVariants.{Bytes};
+ghost use Rattle.std.specs.Prelude.{◌≡◌, ◌≤◌, ℕ, suc, Ok, length};
+ghost use Rattle.psu_session_io.specs.declared.link.ReadResult.TheVariants.{Bytes, End};
 
 use crate::FirstReply;
 use std::io::{self, ErrorKind, Read, Write};
@@ -22,6 +22,8 @@ impl ReadResult {
     /// Returns the result of a read. Reads of a process that is stopped and continues, or is debugged, are interrupted.
     pub fn of(read: &io::Result<usize>) -> ReadResult
         ensures bytes { (count : ℕ) → result ≡ Bytes count → read.now ≡ Ok count }
+        ensures some { (count : ℕ) → read.now ≡ Ok (suc count) → result ≡ Bytes (suc count) }
+        ensures end { read.now ≡ Ok 0 → result ≡ End }
     {
         match read {
             Ok(0) => ReadResult::End,

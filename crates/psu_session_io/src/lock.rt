@@ -1,43 +1,78 @@
 //! The lock of a session.
+ghost use Rattle.std.specs.Prelude.{◌≡◌, ℕ, IfErr};
 ghost use Rattle.psu_session_io.specs.Leaving.{IsAfter, IsAfterWrite};
 
 use crate::linear::{AfterWrite, Closing, Disconnected, NextTask, Pending, Written};
 use crate::writes::Writes;
-use crate::{ConnectionSide, SharedSession, Token};
-use psu_exec::CannotDrop;
+use crate::{ConnectionSide, Token};
 use psu_hislip::Side;
-use psu_session::HislipSession;
-use std::alloc::{AllocError, Global};
+use psu_locks::Session;
+use psu_replies::CannotDrop;
+use std::alloc::AllocError;
 use std::sync::{Arc, Mutex, MutexGuard, Wait};
+
+/// What lies under the lock of a session: the session, and what its threads call the device by.
+pub trait Locked {
+    ghost use Rattle.psu_session.specs.Phases.{disconnected};
+    ghost use Rattle.psu_session_io.specs.Leaving.{Notes};
+    ghost use Rattle.psu_session_io.specs.Shared.{Shared, with_phase};
+
+    /// The number of the session.
+    ghost number: { Self → ℕ };
+
+    /// The session.
+    ghost shared: { Self → Shared };
+
+    /// Returns the number of the session.
+    fn number(&self) -> Session
+        ensures { result ≡ number self.now };
+
+    /// Returns which writes are over, as the lock and the session share it.
+    fn writes(&self) -> Result<Arc<Writes>, AllocError>;
+
+    /// Notes which writes are over.
+    fn note_writes(&mut self)
+        ensures noted { Notes (shared self.old) (shared self.new) }
+        ensures number { number self.new ≡ number self.old };
+
+    /// Notes that a connection has ended.
+    fn disconnect(&mut self, connection: Disconnected) -> Closing
+        ensures disconnected { shared self.new ≡ with_phase (shared self.old) (disconnected (shared self.old).phase) }
+        ensures number { number self.new ≡ number self.old };
+}
 
 /// The lock of a session. Where another lock is taken too, this is the first.
 #[derive(Drop)]
-pub struct SessionLock {
-    session: Mutex<SharedSession>,
+pub struct SessionLock<V> {
+    session: Mutex<V>,
     writes: Arc<Writes>,
 }
 
-impl SessionLock {
-    /// Returns the lock of a session that no thread serves yet.
-    pub fn new(alloc: Global, session: HislipSession) -> Result<SessionLock, AllocError> {
-        let writes = Arc::new(alloc, Writes::new())?;
-        let shared = SharedSession::new(session, Arc::try_clone(&writes)?);
+impl<V: Locked + Drop> SessionLock<V> {
+    /// Returns the lock of a session that no thread serves yet; the session where memory is refused.
+    pub fn new(session: V) -> Result<SessionLock<V>, V>
+        ensures refused { IfErr result (λ refused. refused ≡ session) }
+    {
+        let Ok(writes) = session.writes() else {
+            return Err(session);
+        };
         Ok(SessionLock {
-            session: Mutex::new(shared),
+            session: Mutex::new(session),
             writes,
         })
     }
 
     /// Waits until no other thread holds the session, and holds it. It knows then which writes are over.
-    pub fn lock<'t, R: Wait, S>(
-        &'t self,
-        rt: &R,
-        token: &'t mut Token<S>,
-    ) -> MutexGuard<'t, SharedSession> {
+    pub fn lock<'t, R: Wait, S>(&'t self, rt: &R, token: &'t mut Token<S>) -> MutexGuard<'t, V> {
         let _ = token;
         let mut session = self.session.lock(rt);
         session.note_writes();
         session
+    }
+
+    /// Waits until no other thread holds the session, and holds it, to close it.
+    pub fn lock_to_close<R: Wait>(&self, rt: &R) -> MutexGuard<'_, V> {
+        self.session.lock(rt)
     }
 
     /// Notes the result of a write. Bytes that are written are reported to the session without its lock, and the thread

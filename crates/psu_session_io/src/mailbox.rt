@@ -4,13 +4,13 @@ ghost use Rattle.psu_session_io.specs.Leaving.{IsNext};
 use crate::line::Line;
 use crate::linear::{AfterWrite, Arrived, Closed, Closing, NextTask, Outgoing, Pending, Remainder};
 use crate::{ConnectionSide, Notice, Token};
-use psu_exec::CannotDrop;
 use psu_hislip::Side;
+use psu_replies::CannotDrop;
 use std::alloc::{AllocError, Global};
 use std::marker::PhantomData;
 use std::rt::Clock;
-use std::sync::Wait;
 use std::sync::atomic::{AtomicBool, Ordering};
+use std::sync::{Arc, Wait};
 use std::time::Duration;
 
 /// The notices to the threads of a session: its worker, its notifier and its two readers. Other sessions and the
@@ -26,15 +26,16 @@ pub struct Mailbox {
 }
 
 impl Mailbox {
-    /// Returns a mailbox without notices.
-    pub fn new(alloc: Global) -> Result<Mailbox, AllocError> {
-        Ok(Mailbox {
+    /// Returns a mailbox without notices, for the session and the registry to share.
+    pub fn new(alloc: Global) -> Result<Arc<Mailbox>, AllocError> {
+        let mailbox = Mailbox {
             worker: Line::new(alloc)?,
             notifier: Line::new(alloc)?,
             sync_reader: Line::new(alloc)?,
             async_reader: Line::new(alloc)?,
             late: AtomicBool::new(false),
-        })
+        };
+        Ok(Arc::new(alloc, mailbox)?)
     }
 
     // ---- by other sessions and the flusher

@@ -1,13 +1,12 @@
 //! A session that threads serve.
-ghost use Rattle.std.specs.Prelude.{◌≡◌, IfOk};
+ghost use Rattle.std.specs.Prelude.{◌≡◌, IfErr, IfOk};
 
 use crate::linear::{Closed, Closing};
 use crate::link::Link;
-use crate::{Mailbox, SessionLock};
+use crate::{Locked, Mailbox, SessionLock};
 use psu_hislip::Side;
 use psu_locks::Session;
-use psu_session::HislipSession;
-use std::alloc::{AllocError, Global};
+use std::alloc::AllocError;
 use std::io::{self, ErrorKind};
 use std::rt::Clock;
 use std::sync::{Arc, Condvar, Mutex, Wait};
@@ -32,32 +31,28 @@ enum Second {
 #[derive(Clone, Copy, Debug, PartialEq, Eq)]
 pub struct NotAwaited;
 
-/// A session that threads serve: its number, its value behind a mutex, the notices to its threads, and its connections.
+/// A session that threads serve: its number, its value behind a mutex with what its threads call the device by, the notices
+/// to its threads, and its connections.
 #[derive(Drop)]
-pub struct ServedSession {
+pub struct ServedSession<V> {
     pub number: Session,
-    pub session: SessionLock,
-    pub mailbox: Mailbox,
+    pub session: SessionLock<V>,
+    pub mailbox: Arc<Mailbox>,
     first: Arc<Link>,
     second: Mutex<Second>,
     ended: Condvar,
 }
 
-impl ServedSession {
-    /// Returns the session of a number, which waits for its second connection.
-    pub fn new(
-        alloc: Global,
-        number: Session,
-        session: HislipSession,
-        first: Arc<Link>,
-    ) -> Result<ServedSession, AllocError>
-        requires number { session.state.core.session ≡ number }
-        ensures number { IfOk result (λ served. served.number ≡ number) }
+impl<V: Locked + Drop> ServedSession<V> {
+    /// Returns a session that waits for its second connection; the value where memory is refused.
+    pub fn new(session: V, mailbox: Arc<Mailbox>, first: Arc<Link>) -> Result<ServedSession<V>, V>
+        ensures number { IfOk result (λ served. served.number ≡ V.number session) }
+        ensures refused { IfErr result (λ refused. refused ≡ session) }
     {
         Ok(ServedSession {
-            number,
-            session: SessionLock::new(alloc, session)?,
-            mailbox: Mailbox::new(alloc)?,
+            number: session.number(),
+            session: SessionLock::new(session)?,
+            mailbox,
             first,
             second: Mutex::new(Second::Awaited),
             ended: Condvar::new(),

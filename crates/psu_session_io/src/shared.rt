@@ -1,5 +1,5 @@
 //! The value of a session that threads share.
-ghost use Rattle.std.specs.Prelude.{◌≡◌, ◌≢◌, ◌⊎◌, ◌↔◌, ◌&&◌, not, false, None, [], IsTrue, IfOk, OnOk, OnErr, IfSome, IsNone};
+ghost use Rattle.std.specs.Prelude.{◌≡◌, ◌≢◌, ◌⊎◌, ◌↔◌, ◌&&◌, not, true, false, None, [], IsTrue, IfOk, OnOk, OnErr, IfSome, IsNone};
 ghost use Rattle.psu_hislip.specs.declared.side.Side.TheVariants.{Async};
 ghost use Rattle.psu_session.specs.Holding.{IsFull};
 ghost use Rattle.psu_session.specs.Phases.{disconnected, phase_ended};
@@ -13,11 +13,12 @@ use crate::linear::{Arrived, BytesRead, Closing, Disconnected, Pending, Received
 use crate::notice::Notice;
 use crate::writes::Writes;
 use crate::{Asynchronous, ConnectionSide, StepDevice, Synchronous};
-use psu_exec::CannotDrop;
 use psu_hislip::Side;
 use psu_locks::Grant;
 use psu_messages::Need;
+use psu_replies::CannotDrop;
 use psu_session::{Device, HislipSession, Phase, Proceeded};
+use std::alloc::{AllocError, Global};
 use std::marker::Model;
 use std::sync::Arc;
 
@@ -61,16 +62,21 @@ fn need_of(proceeded: Proceeded) -> Option<Need>
 
 impl SharedSession {
     /// Returns a session that no thread serves yet.
-    pub(crate) fn new(session: HislipSession, writes: Arc<Writes>) -> SharedSession
-        ensures { result ≡ record { phase = session.phase; state = session.state; waits = None; sync_waits = false; async_waits = false } }
+    pub fn new(alloc: Global, session: HislipSession) -> Result<SharedSession, AllocError>
+        ensures { IfOk result (λ shared. shared ≡ record { phase = session.phase; state = session.state; waits = None; sync_waits = false; async_waits = false }) }
     {
-        SharedSession {
+        Ok(SharedSession {
             session,
             waits: None,
             sync_reader_waits: false,
             async_reader_waits: false,
-            writes,
-        }
+            writes: Arc::new(alloc, Writes::new())?,
+        })
+    }
+
+    /// Returns which writes are over, as the session shares it with its lock.
+    pub fn writes(&self) -> Result<Arc<Writes>, AllocError> {
+        Arc::try_clone(&self.writes)
     }
 
     // Whether the session is received, executed and answered.
@@ -86,6 +92,14 @@ impl SharedSession {
     {
         self.session.disconnect();
         Closing { duty }
+    }
+
+    /// Closes the session: nothing more is done for it.
+    pub fn close(&mut self)
+        ensures over { phase_ended self.new.phase ≡ true }
+        ensures rest { self.new ≡ with_phase self.old self.new.phase }
+    {
+        self.session.close();
     }
 
     // Notes that the reader of a connection waits for room.

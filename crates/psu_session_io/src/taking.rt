@@ -6,9 +6,9 @@ ghost use Rattle.psu_session_io.specs.Shared.{with_value};
 
 use crate::linear::{Closing, Remainder};
 use crate::{ConnectionSide, SharedSession};
-use psu_exec::CannotDrop;
 use psu_hislip::Side;
 use psu_messages::Need;
+use psu_replies::CannotDrop;
 use std::marker::PhantomData;
 
 impl SharedSession {
@@ -34,7 +34,7 @@ impl SharedSession {
     }
 
     /// Notes which writes are over.
-    pub(crate) fn note_writes(&mut self)
+    pub fn note_writes(&mut self)
         ensures { Notes self.old self.new }
     {
         self.note_write(Side::Sync);

@@ -14,14 +14,14 @@ const AWAITED: u8 = 2;
 /// The two flags of a connection are in one word, and each call is one step on it. So a thread that waits for the end of
 /// a write either finds it complete, or the thread that writes finds that it is awaited.
 #[derive(Drop)]
-pub(crate) struct Writes {
+pub struct Writes {
     sync: AtomicU8,
     asynchronous: AtomicU8,
 }
 
 impl Writes {
     /// Returns that no thread writes.
-    pub fn new() -> Writes {
+    pub(crate) fn new() -> Writes {
         Writes {
             sync: AtomicU8::new(0),
             asynchronous: AtomicU8::new(0),
@@ -37,23 +37,23 @@ impl Writes {
     }
 
     /// Begins the write of bytes that were taken. The session is held, and no write is in progress.
-    pub fn begin(&self, side: Side) {
+    pub(crate) fn begin(&self, side: Side) {
         self.on(side).store(IN_PROGRESS, Ordering::SeqCst);
     }
 
     /// Ends a write. Returns whether another thread waits for that: then the one that wrote continues the session.
-    pub fn end(&self, side: Side) -> bool {
+    pub(crate) fn end(&self, side: Side) -> bool {
         self.on(side).swap(0, Ordering::SeqCst) & AWAITED != 0
     }
 
     /// Whether the last write on a connection is complete.
-    pub fn is_complete(&self, side: Side) -> bool {
+    pub(crate) fn is_complete(&self, side: Side) -> bool {
         self.on(side).load(Ordering::SeqCst) & IN_PROGRESS == 0
     }
 
     /// Leaves the session to the thread that writes on a connection. Returns whether that thread still writes; else the
     /// session is not left to it. The session is held.
-    pub fn leave(&self, side: Side) -> bool {
+    pub(crate) fn leave(&self, side: Side) -> bool {
         self.on(side).fetch_or(AWAITED, Ordering::SeqCst) & IN_PROGRESS != 0
     }
 }

@@ -4,7 +4,8 @@ use Rattle.std.proofs.lemmas.List.{append-nil}
 use Rattle.psu_turn.specs.declared.numbered.Numbered.{Numbered}
 use Rattle.psu_turn.specs.History.{numbered}
 use Rattle.psu_turn.specs.Seats.{SeatCalls, Sight}
-use Rattle.psu_threads.specs.Called.{Adds, HasHistory, AreCalls, AreEntries, IsCalled, MayNotify}
+use Rattle.psu_bench.specs.Opened.{HasHistory}
+use Rattle.psu_threads.specs.Called.{Adds, AreCalls, AreEntries, CallsUnder, IsCalled, MayNotify, SessionSeat}
 use Rattle.psu_exec.specs.Device.{State}
 use Rattle.psu_exec.specs.Calls.{Entry}
 use Rattle.psu_bench.specs.Calls.{AllowsOn}
@@ -66,20 +67,13 @@ module _ {honest : Type 0} where
   called session old new (Informed info) is = (Entry.Informed info ∷ [], refl, adds_one old new (Entry.Informed info) is)
   called session old new Cleared is = (Entry.Cleared session ∷ [], refl, adds_one old new (Entry.Cleared session) is)
 
-  pub all_called : (session : ℕ) (old new : Sight State Entry) (calls : List Call) → Runs (IsCalled honest session) old calls new → AreCalls honest session old calls new
-  all_called session old new [] now = record { entries = []; are = refl; adds = adds_none old new now }
-  all_called session old new (call ∷ calls) (mid, is, runs) =
-      let first = called session old mid call is in
-      let later = all_called session mid new calls runs in
+  pub all_called : (x y : SessionSeat) (calls : List Call) → Runs (CallsUnder honest) x calls y → AreCalls honest x.session x.seat calls y.seat
+  all_called x y [] now = record { entries = []; are = refl; adds = adds_none x.seat y.seat (ap (λ (z : SessionSeat). z.seat) now) }
+  all_called x y (call ∷ calls) (mid, (same, is), runs) =
+      let first = called x.session x.seat mid.seat call is in
+      let later = subst (λ (n : ℕ). AreCalls honest n mid.seat calls y.seat) same (all_called mid y calls runs) in
       record {
         entries = first.0 ++ later.entries;
         are = (first.0, later.entries, refl, first.1, later.are);
-        adds = adds_both old mid new first.0 later.entries first.2 later.adds;
+        adds = adds_both x.seat mid.seat y.seat first.0 later.entries first.2 later.adds;
       }
-
-module _ {X V : Type 0} {does : X → Call → X → Type 0} (session : X → ℕ) (seat : X → V) (made : ℕ → V → Call → V → Type 0) (makes : (x y : X) (call : Call) → does x call y → (session y ≡ session x) × made (session x) (seat x) call (seat y)) where
-  -- where each call of a device is one under its seat, all are
-  pub runs_on_seat : (x : X) (calls : List Call) (y : X) → Runs does x calls y → Runs (made (session x)) (seat x) calls (seat y)
-  runs_on_seat x [] y now = ap seat now
-  runs_on_seat x (call ∷ calls) y (mid, did, runs) = let step = makes x mid call did in
-      (seat mid, step.1, subst (λ (n : ℕ). Runs (made n) (seat mid) calls (seat y)) step.0 (runs_on_seat mid calls y runs))

@@ -1,3 +1,5 @@
 pub mod Calling
 pub mod Recording
 pub mod Responses
+pub mod Seating
+pub mod Keeping

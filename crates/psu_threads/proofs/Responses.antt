@@ -1,37 +1,34 @@
 -- A session's history beside that of its device: the responses to its transmissions are formed from the entries of their effects.
-use Rattle.std.proofs.Common.{◌≡◌, ◌⊎◌, ℕ, true, List, [], ◌∷◌, ◌++◌, flat_map, refl, sym, ap, ◌∙◌, subst, inl, inr, append-nil, map}
+use Rattle.std.proofs.Common.{◌≡◌, ◌⊎◌, ℕ, true, Some, List, [], ◌∷◌, ◌++◌, flat_map, refl, sym, ap, ◌∙◌, subst, inl, inr, append-nil, map}
 use Rattle.std.specs.List.{AllByRecursion}
 use Rattle.std.proofs.lemmas.List.{map-append}
 use Rattle.psu_hislip.specs.Answer.{IsAnswerCutAnywhere}
+use Rattle.psu_hislip.specs.Core.{Core}
 use Rattle.psu_hislip.specs.declared.action.Origin.{Origin}
 use Rattle.psu_messages.specs.Response.{are_some, response}
 use Rattle.psu_exec.specs.Calls.{Entry}
 use Rattle.psu_messages.specs.Answers.{answers}
 use Rattle.psu_messages.specs.Effects as messages
 use Rattle.psu_messages.specs.Effects.{Effect}
-use Rattle.psu_session.specs.Answered.{AreMessagesAnswered, IsMessageAnswered, EachIsAnswered, NothingElseIsSent, Weaves, pieces}
+use Rattle.psu_session.specs.Answered.{AreMessagesAnswered, AreTheClients, IsMessageAnswered, EachIsAnswered, MessagesAreTheStreams, NothingElseIsSent, TakesAtMost, TransmissionsAreTheClients, Weaves, pieces}
 use Rattle.psu_session.specs.Answered as replies
 use Rattle.psu_session.specs.Events.{Event, Did, call_of, Put, exchange_history, Call, bytes_received}
-use Rattle.psu_session.specs.Exchange.{Done, Order, effects, frames, Turn}
+use Rattle.psu_session.specs.Exchange.{Done, Order, effects, frames, orders, Turn}
 use Rattle.psu_session.specs.Step.{happened}
 use Rattle.psu_session.proofs.Mapped.{none_mapped, split}
-use Rattle.psu_threads.specs.Called.{AreAllEntries, AreEntries, MayNotify, Adds, IsCalled}
-use Rattle.psu_threads.specs.Recorded.{AreEffects, AreSent, IsSent, Recorded, responses, responses_in, IsAnswered, RecordedTurn, effects_of, HasOne, IsReplied, OneResponseIsSent, EachResponseIsOfTheHistory, Shows, entries_by}
+use Rattle.psu_threads.specs.Called.{AreAllEntries, AreEntries, MayNotify}
+use Rattle.psu_threads.specs.Recorded.{AreEffects, AreSent, IsSent, Recorded, responses, responses_in, IsAnswered, RecordedTurn, effects_of, HasOne, IsReplied, OneResponseIsSent, EachResponseIsOfTheHistory, HasEntries, IsRecorded, all_entries}
 use Rattle.psu_threads.specs.Recorded.AreSent.{NoMessage, OneMore}
-use Rattle.psu_threads.proofs.Recording.{HasEntries, made_history, of_all}
+use Rattle.psu_threads.proofs.Recording.{of_history}
 use Rattle.psu_hislip.specs.declared.side.Side.TheVariants.{Sync, Async}
 use Rattle.psu_session.specs.Exchange as exchange
 use Rattle.psu_session.specs.Exchanged as exchange_events
 use Rattle.psu_session.specs.Exchanged.{ExchangeEvent, executions, replied, written}
 use Rattle.std.proofs.lemmas.List.Elements.{All-from_recursion, recursion_from_All}
 use Rattle.std.proofs.lemmas.Simd.{map-map}
-use Rattle.psu_turn.specs.History.{calls_by}
-use Rattle.psu_turn.specs.Seats.{Joins, Sight}
-use Rattle.psu_bench.specs.Calls.{AllowsOn}
-use Rattle.psu_exec.specs.Device as device
 use Rattle.psu_session.specs.History.{HistoriesAreExchanges}
 use Rattle.psu_session.specs.State.{orders_in}
-use Rattle.psu_threads.specs.Made.{Made, history_of}
+use Rattle.psu_threads.specs.Seated.{IsSeated}
 
 -- what holds of each element of two lists holds of each of both
 pub both_of : {X : Type 0} (P : X → Type 0) (xs ys : List X) → AllByRecursion P (xs ++ ys) → AllByRecursion P xs × AllByRecursion P ys
@@ -54,16 +51,16 @@ reply_is : (session : ℕ) (effect : Effect) (entries : List Entry) → AreAllEn
 reply_is session effect entries (first, rest, are, is, none) later =
     subst (λ (z : List Entry). answers (effect ∷ later) ≡ flat_map responses_in z ++ answers later) (sym (are ∙ ap (λ (z : List Entry). first ++ z) none ∙ append-nil first)) (reply_in session effect first is later)
 
-module _ (number : ℕ → ℕ) where
+module _ (number : ℕ) where
   -- the responses of effects are those in the replies of their entries
   pub responses_are : (origin : Origin) (events : List Recorded) (done : List Done) → AreEffects origin events done → AllByRecursion (HasEntries number) events → answers (effects done) ≡ responses events
   responses_are origin [] [] e each = refl
   responses_are origin [] (d ∷ done) e each = absurd (cc (e))
   responses_are origin (r ∷ events) [] e each = absurd (cc (e))
   responses_are origin (r ∷ events) (d ∷ done) e (one, each) =
-      let here : r.made.event ≡ Did origin d.effect d.frames = cc (e) in
+      let here : r.event ≡ Did origin d.effect d.frames = cc (e) in
       let rest : AreEffects origin events done = cc (e) in
-      reply_is (number r.made.thread) d.effect r.entries (subst (λ (z : Event). HasEntries number (record { made = record { thread = r.made.thread; event = z }; entries = r.entries })) here one) (effects done)
+      reply_is number d.effect r.entries (subst (λ (z : Event). HasEntries number (record { event = z; entries = r.entries })) here one) (effects done)
       ∙ ap (λ (z : List (List ℕ)). flat_map responses_in r.entries ++ z) (responses_are origin events done rest each)
 
   -- ---- messages
@@ -74,42 +71,42 @@ module _ (number : ℕ → ℕ) where
 
   pub all_sent : (greatest : ℕ) (order : Order) {units : ℕ} {done : List Done} (events : List Recorded) → AreMessagesAnswered greatest order.origin.id order.source units done → AreEffects order.origin events done
       → AllByRecursion (HasEntries number) events → AreSent greatest order units events
-  all_sent greatest order events replies.AreMessagesAnswered.NoMessage e each = subst (λ (z : List Recorded). AreSent greatest order 0 z) (sym (none_mapped (λ (r : Recorded). r.made.event) events e)) NoMessage
+  all_sent greatest order events replies.AreMessagesAnswered.NoMessage e each = subst (λ (z : List Recorded). AreSent greatest order 0 z) (sym (none_mapped (λ (r : Recorded). r.event) events e)) NoMessage
   all_sent greatest order events (replies.AreMessagesAnswered.OneMore {done = before} earlier to message is answer) e each =
-      let s = split (λ (r : Recorded). r.made.event) events (happened order.origin before) (happened order.origin message) (e ∙ map-append (λ (d : Done). Did order.origin d.effect d.frames) before message) in
+      let s = split (λ (r : Recorded). r.event) events (happened order.origin before) (happened order.origin message) (e ∙ map-append (λ (d : Done). Did order.origin d.effect d.frames) before message) in
       let each_of = both_of (HasEntries number) s.front s.back (subst (λ (z : List Recorded). AllByRecursion (HasEntries number) z) s.is each) in
       subst (λ (z : List Recorded). AreSent greatest order to z) (sym s.is)
       (OneMore (all_sent greatest order s.front earlier s.of_left each_of.0) to s.back message s.of_right is (sent greatest order.origin.id order.origin s.back message s.of_right each_of.1 answer))
 
 -- the effects among events, as the laws of an exchange see them
 abbrev pub seen : List Recorded → List ExchangeEvent
-seen events = executions (exchange_history (map (λ r. r.made.event) events))
+seen events = executions (exchange_history (map (λ r. r.event) events))
 
 -- such an effect, as an event of the session
 abbrev as_event : ExchangeEvent → List Event
 as_event (exchange_events.Did origin effect frames) = Did origin effect frames ∷ []
 as_event _ = []
 
-abbrev recorded : ℕ → Event → List Entry → Recorded
-recorded thread event entries = record { made = record { thread = thread; event = event }; entries = entries }
+abbrev recorded : Event → List Entry → Recorded
+recorded event entries = record { event = event; entries = entries }
 
 happened_seen : (origin : Origin) (done : List Done) (more : List ExchangeEvent) → flat_map as_event (map (λ d. exchange_events.Did origin d.effect d.frames) done ++ more) ≡ happened origin done ++ flat_map as_event more
 happened_seen origin [] more = refl
 happened_seen origin (d ∷ done) more = ap (λ (z : List Event). Did origin d.effect d.frames ∷ z) (happened_seen origin done more)
 
-module _ (number : ℕ → ℕ) where
+module _ (number : ℕ) where
   -- the effects among events are those that the laws see, each with the entries of its calls
   abbrev AreSeen : List Recorded → Type 0
-  AreSeen events = (map (λ r. r.made.event) (effects_of events) ≡ flat_map as_event (seen events)) × AllByRecursion (HasEntries number) (effects_of events)
+  AreSeen events = (map (λ r. r.event) (effects_of events) ≡ flat_map as_event (seen events)) × AllByRecursion (HasEntries number) (effects_of events)
 
-  seen_at : (thread : ℕ) (event : Event) (entries : List Entry) (events : List Recorded) → HasEntries number (recorded thread event entries) → AreSeen events → AreSeen (recorded thread event entries ∷ events)
-  seen_at thread (Did origin effect frames) entries events one more = (ap (λ (z : List Event). Did origin effect frames ∷ z) more.0, (one, more.1))
-  seen_at thread (Put Sync frames) entries events one more = more
-  seen_at thread event entries events one more = more
+  seen_at : (event : Event) (entries : List Entry) (events : List Recorded) → HasEntries number (recorded event entries) → AreSeen events → AreSeen (recorded event entries ∷ events)
+  seen_at (Did origin effect frames) entries events one more = (ap (λ (z : List Event). Did origin effect frames ∷ z) more.0, (one, more.1))
+  seen_at (Put Sync frames) entries events one more = more
+  seen_at event entries events one more = more
 
   effects_seen : (events : List Recorded) → AllByRecursion (HasEntries number) events → AreSeen events
   effects_seen [] each = (refl, tt)
-  effects_seen (r ∷ events) (one, each) = seen_at r.made.thread r.made.event r.entries events one (effects_seen events each)
+  effects_seen (r ∷ events) (one, each) = seen_at r.event r.entries events one (effects_seen events each)
 
   -- effects by the transmissions of which they are
   pub record Turns (turns : List Turn) (effects : List Recorded) : Type 0 where
@@ -119,11 +116,11 @@ module _ (number : ℕ → ℕ) where
     pub each_effect : AllByRecursion (λ (r : RecordedTurn). AreEffects r.turn.order.origin r.events r.turn.done) recorded_turns
     pub each : AllByRecursion (λ (r : RecordedTurn). AllByRecursion (HasEntries number) r.events) recorded_turns
 
-  by_turns : (turns : List Turn) (effects : List Recorded) → map (λ r. r.made.event) effects ≡ flat_map as_event (flat_map exchange.happened turns) → AllByRecursion (HasEntries number) effects → Turns turns effects
-  by_turns [] effects e each = record { recorded_turns = []; are = refl; all_effects = none_mapped (λ (r : Recorded). r.made.event) effects e; each_effect = tt; each = tt }
+  by_turns : (turns : List Turn) (effects : List Recorded) → map (λ r. r.event) effects ≡ flat_map as_event (flat_map exchange.happened turns) → AllByRecursion (HasEntries number) effects → Turns turns effects
+  by_turns [] effects e each = record { recorded_turns = []; are = refl; all_effects = none_mapped (λ (r : Recorded). r.event) effects e; each_effect = tt; each = tt }
   by_turns (turn ∷ turns) effects e each =
       let later : List ExchangeEvent = flat_map exchange.happened turns in
-      let s = split (λ (r : Recorded). r.made.event) effects (happened turn.order.origin turn.done) (flat_map as_event later) (e ∙ happened_seen turn.order.origin turn.done later) in
+      let s = split (λ (r : Recorded). r.event) effects (happened turn.order.origin turn.done) (flat_map as_event later) (e ∙ happened_seen turn.order.origin turn.done later) in
       let each_of = both_of (HasEntries number) s.front s.back (subst (λ (z : List Recorded). AllByRecursion (HasEntries number) z) s.is each) in
       let more = by_turns turns s.back s.of_right each_of.1 in
       record {
@@ -173,47 +170,48 @@ one_response = λ greatest id message text frames e is. (one_replied message tex
 
 -- ---- the history
 
--- seats that are joined
-joined : (honest : Type 0) (old_one new_one old_other new_other both : Sight device.State Entry) (one other : List Entry) → Adds (AllowsOn honest) old_one one new_one → Adds (AllowsOn honest) old_other other new_other
-    → Joins (AllowsOn honest) new_one new_other both → Shows honest both new_one (old_one.mine ++ one) × Shows honest both new_other (old_other.mine ++ other)
-joined honest old_one new_one old_other new_other both one other adds_one adds_other j = (
-  record {
-    legal = j.sees.legal;
-    begins = j.sees.seen;
-    own = ap (λ (k : ℕ). calls_by k both.seen) (sym j.sees.same.number) ∙ j.sees.own ∙ j.sees.mine ∙ adds_one.mine;
-  },
-  record { legal = j.sees.legal; begins = j.seen; own = j.own ∙ adds_other.mine },
-)
-
-pub each_response : {X : Type 0} {does : X → Call → X → Type 0} (honest : Type 0) (session : X → ℕ) (seat : X → Sight device.State Entry)
-    → ((x y : X) (call : Call) → does x call y → (session y ≡ session x) × IsCalled honest (session x) (seat x) call (seat y)) → HistoriesAreExchanges → EachIsAnswered → NothingElseIsSent
-    → EachResponseIsOfTheHistory honest does session seat
-each_response honest session seat makes exchanges answers nothing_else = λ start first last made s opening is_made.
-    let history = history_of made in
-    let is_history = made_history is_made in
-    let all = of_all honest session seat makes is_made in
-    let h = exchanges start history s is_history in
-    let x = h.exchange opening.0.0 opening.0.1 opening.0.2 opening.1 in
-    let sync : List ℕ = opening.0.0 ++ bytes_received Sync history in
+pub each_response : (honest : Type 0) → HistoriesAreExchanges → MessagesAreTheStreams → TransmissionsAreTheClients → EachIsAnswered → NothingElseIsSent → EachResponseIsOfTheHistory honest
+each_response honest exchanges messages transmissions answers nothing_else = λ session closed s seat is.
+    let history = is.history in
+    let l = exchange_history history in
+    let all = of_history session history is.rest is.entries is.are in
+    let h = exchanges is.start history is.reached is.is in
+    let x = h.exchange is.opening.0.0 is.opening.0.1 is.opening.0.2 is.opening.1 in
+    let sync : List ℕ = is.opening.0.0 ++ bytes_received Sync history in
     let async : List ℕ = bytes_received Async history in
-    let number : ℕ → ℕ = λ k. start.session in
-    let are : map (λ (r : Recorded). r.made.event) all.events ≡ history = sym (map-map (λ (m : Made). m.event) (λ (r : Recorded). r.made) all.events) ∙ ap history_of all.are in
-    let turns = turns_of number h.turns all.events (ap (λ (z : List Event). executions (exchange_history z)) are ∙ x.turns_done) (recursion_from_All (HasEntries number) all.events all.each) in
+    let turns = turns_of session h.turns all.events (ap (λ (z : List Event). executions (exchange_history z)) all.are ∙ x.turns_done) (recursion_from_All (HasEntries session) all.events all.each) in
     record {
-      history = is_history;
+      start = is.start;
+      history = history;
+      reached = is.reached;
+      opening = is.opening;
+      number = is.number;
+      is = is.is;
+      now = λ alive. (is.now alive).0;
       events = all.events;
       are = all.are;
       each = all.each;
-      adds = all.adds;
-      joined = λ one other both j. joined honest (seat (first one)) (seat (last one)) (seat (first other)) (seat (last other)) both (entries_by one all.events) (entries_by other all.events) (all.adds one) (all.adds other) j;
+      rest = is.rest;
+      part = is.part;
+      rest_entries = all.rest_entries;
+      rest_are = all.rest_are;
+      stopped = λ alive. (is.now alive).1;
+      legal = is.device.legal;
+      closing = is.closing;
+      closes = is.closes;
+      own = is.device.own ∙ is.mine ∙ ap (λ (z : List Entry). Entry.Opened (Some session) ∷ (z ++ is.closing)) all.split;
+      streams = λ stream first fed. messages is.start.session (stream ++ bytes_received Sync history) async l h.turns (h.exchange stream first fed is.opening.1);
       turns = turns.recorded_turns;
-      in_order = h.waiting ∙ ap (λ (z : List Turn). map (λ turn. turn.order) z ++ orders_in s.waiting) (sym turns.are) ∙ ap (λ (z : List Order). z ++ orders_in s.waiting) (map-map (λ (turn : Turn). turn.order) (λ (r : RecordedTurn). r.turn) turns.recorded_turns);
+      in_order = subst (λ (n : ℕ). orders n (exchange_history history) ≡ map (λ r. r.turn.order) turns.recorded_turns ++ orders_in is.reached.waiting) is.number
+          (h.waiting ∙ ap (λ (z : List Turn). map (λ turn. turn.order) z ++ orders_in is.reached.waiting) (sym turns.are) ∙ ap (λ (z : List Order). z ++ orders_in is.reached.waiting) (map-map (λ (turn : Turn). turn.order) (λ (r : RecordedTurn). r.turn) turns.recorded_turns));
       all_effects = turns.all_effects;
       each_effect = All-from_recursion (λ (r : RecordedTurn). AreEffects r.turn.order.origin r.events r.turn.done) turns.recorded_turns turns.each_effect;
+      transmissions = subst (λ (z : List Turn). AreTheClients l is.reached.core.failed z) (sym turns.are)
+          (subst (λ (z : Core). AreTheClients l z.failed h.turns) (sym h.core) (transmissions is.start.session sync async l h.turns x));
       answered = λ greatest most. All-from_recursion (IsAnswered greatest) turns.recorded_turns
-          (all_answered number greatest turns.recorded_turns
+          (all_answered session greatest turns.recorded_turns
           (subst (λ (z : List Turn). AllByRecursion (replies.IsAnswered greatest) z) (sym turns.are)
-          (recursion_from_All (replies.IsAnswered greatest) h.turns (answers start.session greatest sync async (exchange_history history) h.turns x most).0)) turns.each_effect turns.each);
+          (recursion_from_All (replies.IsAnswered greatest) h.turns (answers is.start.session greatest sync async (exchange_history history) h.turns x (subst (λ (n : ℕ). TakesAtMost greatest n (exchange_history history)) (sym is.number) most)).0)) turns.each_effect turns.each);
       sent = subst (λ (z : List ℕ). Weaves (replied (exchange_history history)) (pieces (map (λ r. r.turn) turns.recorded_turns)) z) h.sent
-          (subst (λ (z : List Turn). Weaves (replied (exchange_history history)) (pieces z) (written (exchange_history history))) (sym turns.are) (nothing_else start.session sync async (exchange_history history) h.turns x));
+          (subst (λ (z : List Turn). Weaves (replied (exchange_history history)) (pieces z) (written (exchange_history history))) (sym turns.are) (nothing_else is.start.session sync async (exchange_history history) h.turns x));
     }

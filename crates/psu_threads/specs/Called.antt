@@ -1,23 +1,18 @@
--- The calls of a session, as calls of the device under the seat of the thread that makes them.
+-- The calls of a session, as calls of the device under the session's seat.
 use Rattle.std.specs.Prelude.{◌≡◌, ◌≢◌, ◌⊎◌, List, [], ◌++◌, ℕ, Bool, Option, ◌∷◌}
-use Rattle.psu_turn.specs.History.{StartsWith, calls_by}
-use Rattle.psu_turn.specs.Seats.{IsLegalFrom, IsSame, Sight, SeatCalls}
+use Rattle.psu_turn.specs.History.{StartsWith}
+use Rattle.psu_turn.specs.Seats.{IsSame, Sight, SeatCalls}
 use Rattle.psu_exec.specs.Device.{State}
 use Rattle.psu_exec.specs.Calls.{Entry}
 use Rattle.psu_bench.specs.Calls.{AllowsOn}
 use Rattle.psu_bench.specs.Callers.{Causes, freed_to}
+use Rattle.psu_bench.specs.Opened.{HasHistory}
 use Rattle.psu_bench.specs.declared.caused.Caused.{Caused}
 use Rattle.psu_session.specs.Events.{Call, Executed, Settled, Sent, Delivered, Queried, Fetched, Locked, Released, Informed, Cleared}
-use Rattle.psu_session.specs.Serving.{Runs}
 
 -- ---- what a seat has seen after several calls
 
 module _ {S E : Type 0} (allows : S → E → S → Type 0) where
-  -- The seat has seen one legal history, in which exactly its own calls have its number.
-  pub record HasHistory (v : Sight S E) : Type 0 where
-    pub legal : IsLegalFrom allows v.opening v.seen
-    pub own : calls_by v.number v.seen ≡ v.mine
-
   -- After calls with these entries the seat has seen a history that begins with all that it had seen, and its own calls
   -- are those that it had made and then these. This history is legal, and has exactly the seat's calls under its
   -- number, if it was such before or there is an entry.
@@ -25,7 +20,7 @@ module _ {S E : Type 0} (allows : S → E → S → Type 0) where
     pub same : IsSame v w
     pub seen : StartsWith w.seen v.seen
     pub mine : w.mine ≡ v.mine ++ entries
-    pub history : HasHistory v ⊎ (entries ≢ []) → HasHistory w
+    pub history : HasHistory allows v ⊎ (entries ≢ []) → HasHistory allows w
 
 -- ---- calls of a session
 
@@ -41,6 +36,15 @@ IsCalled honest session old (Locked kind timeout reply) new = (now : ℕ) × Sea
 IsCalled honest session old (Released reply) new = (granted : List ℕ) × SeatCalls (AllowsOn honest) old (Entry.Released session (freed_to granted reply)) new
 IsCalled honest session old (Informed info) new = SeatCalls (AllowsOn honest) old (Entry.Informed info) new
 IsCalled honest session old Cleared new = SeatCalls (AllowsOn honest) old (Entry.Cleared session) new
+
+-- A session's device, as the session calls it: the session's number, and the seat under which it is called.
+pub record SessionSeat : Type 0 where
+  pub session : ℕ
+  pub seat : Sight State Entry
+
+-- each call of the session is one under its seat
+abbrev pub CallsUnder : Type 0 → SessionSeat → Call → SessionSeat → Type 0
+CallsUnder honest x call y = (y.session ≡ x.session) × IsCalled honest x.session x.seat call y.seat
 
 -- ---- calls, one after another
 
@@ -71,7 +75,3 @@ pub record AreCalls (honest : Type 0) (session : ℕ) (old : Sight State Entry) 
   pub entries : List Entry
   pub are : AreAllEntries session calls entries
   pub adds : Adds (AllowsOn honest) old entries new
-
--- So are the calls that lead a device from one state to another, where each is a call under its seat.
-abbrev pub CallsAreInTheHistory : {X : Type 0} → Type 0 → (X → Call → X → Type 0) → (X → ℕ) → (X → Sight State Entry) → Type 0
-CallsAreInTheHistory {X} honest does session seat = (old new : X) (calls : List Call) → Runs does old calls new → AreCalls honest (session old) (seat old) calls (seat new)

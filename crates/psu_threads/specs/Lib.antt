@@ -1,4 +1,4 @@
 pub mod Called
-pub mod Made
+pub mod Seated
 pub mod Recorded
-pub mod Registered
+pub mod Kept

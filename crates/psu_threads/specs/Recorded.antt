@@ -2,36 +2,45 @@
 -- device's history says. Source: IVI-6.1 (a response is Data messages and a DataEnd, under the MessageID of the
 -- transmission) and IEEE 488.2, 8.4 (the responses of a message's units are one text, joined by `;` and ended by NL)
 -- and 12.5.3 (the response to `*OPC?` is sent once all operations before it are complete).
-use Rattle.std.specs.Prelude.{◌≡◌, ◌⊎◌, ℕ, ◌==◌, if◌then◌else◌, true, All, List, [], ◌∷◌, ◌++◌, flat_map, map}
+use Rattle.std.specs.Prelude.{◌≡◌, ◌⊎◌, ℕ, Bool, true, false, All, Some, List, [], ◌∷◌, ◌++◌, flat_map, map}
 use Rattle.psu_hislip.specs.Answer.{IsAnswerCutAnywhere}
+use Rattle.psu_hislip.specs.Channel.{Fed}
+use Rattle.psu_hislip.specs.Stream.{Received}
 use Rattle.psu_hislip.specs.declared.action.Origin.{Origin}
-use Rattle.psu_hislip.specs.declared.side.Side.TheVariants.{Sync}
+use Rattle.psu_hislip.specs.declared.side.Side.TheVariants.{Sync, Async}
 use Rattle.psu_messages.specs.Response.{are_some, response}
 use Rattle.psu_exec.specs.Calls.{Entry}
 use Rattle.psu_exec.specs.Device as device
 use Rattle.psu_messages.specs.Answers.{answer_in}
 use Rattle.psu_messages.specs.Executions.{IsOver}
 use Rattle.psu_messages.specs.Messages.{IsMessage}
-use Rattle.psu_turn.specs.History.{StartsWith, calls_by}
-use Rattle.psu_turn.specs.Seats.{IsLegalFrom, Joins, Sight}
+use Rattle.psu_turn.specs.History.{calls_by}
+use Rattle.psu_turn.specs.Seats.{IsLegalFrom, Sight}
 use Rattle.psu_bench.specs.Calls.{AllowsOn}
-use Rattle.psu_session.specs.Answered.{TakesAtMost, Weaves, pieces}
-use Rattle.psu_session.specs.Events.{Call, Event, Did, calls_in, exchange_history, taken}
+use Rattle.psu_session.specs.Answered.{AreTheClients, AreTheStreams, TakesAtMost, Weaves, pieces}
+use Rattle.psu_session.specs.Events.{Call, Event, Did, bytes_received, calls_in, exchange_history, taken}
 use Rattle.psu_session.specs.Exchange.{Done, Order, Turn, effects, frames, orders}
 use Rattle.psu_session.specs.Exchanged.{replied}
+use Rattle.psu_session.specs.Phases.{phase_ended}
 use Rattle.psu_session.specs.State.{Start, SessionState, orders_in}
 use Rattle.psu_session.specs.Step.{IsHistory, IsOpening, happened}
-use Rattle.psu_threads.specs.Called.{Adds, AreAllEntries}
-use Rattle.psu_threads.specs.Made.{IsMadeOn, Made, history_of}
+use Rattle.psu_session_io.specs.Extending.{ArePart}
+use Rattle.psu_session_io.specs.Shared.{Shared}
+use Rattle.psu_threads.specs.Called.{AreAllEntries}
+use Rattle.psu_threads.specs.Seated.{IsSeated, MayBeClosed}
 
 -- an event of the session's history, and the entries of its calls in the device's history
 pub record Recorded : Type 0 where
-  pub made : Made
+  pub event : Event
   pub entries : List Entry
 
--- the entries under the seat of a thread
-abbrev pub entries_by : ℕ → List Recorded → List Entry
-entries_by thread events = flat_map (λ r. if r.made.thread == thread then r.entries else []) events
+-- all entries, in their order
+abbrev pub all_entries : List Recorded → List Entry
+all_entries events = flat_map (λ r. r.entries) events
+
+-- the entries of an event are those of its calls
+abbrev pub HasEntries : ℕ → Recorded → Type 0
+HasEntries session r = AreAllEntries session (calls_in r.event) r.entries
 
 -- ---- responses
 
@@ -53,7 +62,7 @@ IsSent greatest id message frames =
 
 -- the events are these effects of a transmission, each with its frames
 abbrev pub AreEffects : Origin → List Recorded → List Done → Type 0
-AreEffects origin events done = map (λ r. r.made.event) events ≡ happened origin done
+AreEffects origin events done = map (λ r. r.event) events ≡ happened origin done
 
 -- messages, one after another, which have this number of units together, each executed and answered so
 pub data AreSent (greatest : ℕ) (order : Order) : ℕ → List Recorded → Type 0 where
@@ -78,43 +87,53 @@ if_effect (Did origin effect frames) r = r ∷ []
 if_effect _ r = []
 
 abbrev pub effects_of : List Recorded → List Recorded
-effects_of events = flat_map (λ r. if_effect r.made.event r) events
+effects_of events = flat_map (λ r. if_effect r.event r) events
 
--- a legal history begins with what the seat has seen, and has exactly these calls under its number
-pub record Shows (honest : Type 0) (history : Sight device.State Entry) (seat : Sight device.State Entry) (mine : List Entry) : Type 0 where
-  pub legal : IsLegalFrom (AllowsOn honest) history.opening history.seen
-  pub begins : StartsWith history.seen seat.seen
-  pub own : calls_by seat.number history.seen ≡ mine
-
--- The calls of a session's history are recorded in that of the device, as calls of this very session: they have the number
--- under which it was opened. The seats are those of the threads' devices, before the first call and after the last one.
-pub record IsRecorded (honest : Type 0) (old new : ℕ → Sight device.State Entry) (start : Start) (made : List Made) (s : SessionState) : Type 0 where
-  pub history : IsHistory start (history_of made) s
-  -- each call of the device has its entry there, with its reply
+-- A session of this number, and the seat under which it calls the device: what the client is sent, beside the one legal
+-- history of the device. Between two entries of the session stand only calls of others, never a later one of its own.
+pub record IsRecorded (honest : Type 0) (session : ℕ) (closed : Bool) (s : Shared) (seat : Sight device.State Entry) : Type 0 where
+  -- a history of the session, which leads to its state unless it is over
+  pub start : Start
+  pub opening : IsOpening start
+  pub number : start.session ≡ session
+  pub history : List Event
+  pub reached : SessionState
+  pub is : IsHistory start history reached
+  pub now : phase_ended s.phase ≡ false → reached ≡ s.state
+  -- each call of the device has its entries, with its reply
   pub events : List Recorded
-  pub are : map (λ r. r.made) events ≡ made
-  pub each : All (λ r. AreAllEntries start.session (calls_in r.made.event) r.entries) events
-  -- under the seat of each thread the one legal history that the seat has seen then has these, in their order, after
-  -- what the seat had called before, and no others
-  pub adds : (thread : ℕ) → Adds (AllowsOn honest) (old thread) (entries_by thread events) (new thread)
-  -- so has, for both, the one legal history that two seats have seen once they are joined
-  pub joined : (one other : ℕ) (both : Sight device.State Entry) → Joins (AllowsOn honest) (new one) (new other) both
-      → Shows honest both (new one) ((old one).mine ++ entries_by one events) × Shows honest both (new other) ((old other).mine ++ entries_by other events)
-  -- transmissions are executed in the order of their arrival, and each effect is one of them
+  pub are : map (λ r. r.event) events ≡ history
+  pub each : All (HasEntries session) events
+  -- the first calls of a step that was not completed: there are none before the session is over
+  pub rest : List Call
+  pub part : ArePart reached rest
+  pub rest_entries : List Entry
+  pub rest_are : AreAllEntries session rest rest_entries
+  pub stopped : phase_ended s.phase ≡ false → rest ≡ []
+  -- The device's history is legal. Under the seat's number it has the opening of the session, then these entries in the
+  -- session's order, once the device has closed it the closing, and nothing else.
+  pub legal : IsLegalFrom (AllowsOn honest) seat.opening seat.seen
+  pub closing : List Entry
+  pub closes : MayBeClosed session closed s.phase closing
+  pub own : calls_by seat.number seat.seen ≡ Entry.Opened (Some session) ∷ ((all_entries events ++ rest_entries) ++ closing)
+  -- the messages that the session received are those of the bytes of its two connections
+  pub streams : (stream : List ℕ) (first : Received) → Fed start.sync stream (first ∷ []) → AreTheStreams (stream ++ bytes_received Sync history) (bytes_received Async history) (exchange_history history)
+  -- its transmissions are executed in the order of their arrival, and each effect is one of them
   pub turns : List RecordedTurn
-  pub in_order : orders start.session (exchange_history (history_of made)) ≡ map (λ r. r.turn.order) turns ++ orders_in s.waiting
+  pub in_order : orders session (exchange_history history) ≡ map (λ r. r.turn.order) turns ++ orders_in reached.waiting
   pub all_effects : effects_of events ≡ flat_map (λ r. r.events) turns
   pub each_effect : All (λ r. AreEffects r.turn.order.origin r.events r.turn.done) turns
+  -- they are those that the client sent, in order and once each
+  pub transmissions : AreTheClients (exchange_history history) reached.core.failed (map (λ r. r.turn) turns)
   -- each that is over is answered by the replies of its entries
-  pub answered : (greatest : ℕ) → TakesAtMost greatest start.session (exchange_history (history_of made)) → All (IsAnswered greatest) turns
+  pub answered : (greatest : ℕ) → TakesAtMost greatest session (exchange_history history) → All (IsAnswered greatest) turns
   -- what was taken to be written on the synchronous connection, then its output, are the core's replies and these
   -- responses
-  pub sent : Weaves (replied (exchange_history (history_of made))) (pieces (map (λ r. r.turn) turns)) (taken Sync (history_of made) ++ s.sync)
+  pub sent : Weaves (replied (exchange_history history)) (pieces (map (λ r. r.turn) turns)) (taken Sync history ++ reached.sync)
 
--- So it is for each session whose threads have devices of its number.
-abbrev pub EachResponseIsOfTheHistory : {X : Type 0} → Type 0 → (X → Call → X → Type 0) → (X → ℕ) → (X → Sight device.State Entry) → Type 0
-EachResponseIsOfTheHistory {X} honest does session seat = (start : Start) (first last : ℕ → X) (made : List Made) (s : SessionState) → IsOpening start → IsMadeOn does session start first made s last
-    → IsRecorded honest (λ thread. seat (first thread)) (λ thread. seat (last thread)) start made s
+-- So it is for each session that is kept with its seat.
+abbrev pub EachResponseIsOfTheHistory : Type 0 → Type 0
+EachResponseIsOfTheHistory honest = (session : ℕ) (closed : Bool) (s : Shared) (seat : Sight device.State Entry) → IsSeated honest session closed s seat → IsRecorded honest session closed s seat
 
 -- ---- a message with one response, as `*OPC?`
 

@@ -1,7 +1,8 @@
 //! The threads of a session: the readers of its connections, its worker and its notifier.
 use crate::serving::{Continue, Serving};
+use psu_bench::ServedDisk;
 use psu_session_io::{
-    Asynchronous, Body, Closed, Closing, Drained, Incoming, StepDevice, Synchronous, Token, run,
+    Asynchronous, Body, Closed, Closing, Drained, Incoming, Synchronous, Token, run,
 };
 use std::rt::Clock;
 use std::sync::Wait;
@@ -28,7 +29,7 @@ enum Came {
 
 /// The reader of the synchronous connection.
 #[derive(Drop)]
-pub(crate) struct SyncReader<'s, 'v, D> {
+pub(crate) struct SyncReader<'s, 'v, D: ServedDisk> {
     pub serving: Serving<'s, 'v, Synchronous, D>,
     /// When the session began. It gets its second connection in time, or ends.
     pub opened: Instant,
@@ -37,7 +38,7 @@ pub(crate) struct SyncReader<'s, 'v, D> {
     pub space: Vec<u8>,
 }
 
-impl<'s, 'v, D: StepDevice> SyncReader<'s, 'v, D> {
+impl<'s, 'v, D: ServedDisk> SyncReader<'s, 'v, D> {
     /// Reads until the session is over.
     pub fn run<R: Wait + Clock>(&mut self, rt: &R) {
         run(rt, self);
@@ -99,10 +100,10 @@ impl<'s, 'v, D: StepDevice> SyncReader<'s, 'v, D> {
 
     // Executes what the session was sent before a connection ended, as far as nothing of it has to wait. The session counts
     // the units that are tried: it is over once they are as many as may be.
-    fn drain<R: Wait>(&mut self, rt: &R, token: &mut Token<Synchronous>) {
+    fn drain<R: Wait + Clock>(&mut self, rt: &R, token: &mut Token<Synchronous>) {
         for _ in rt.forever() {
             let mut session = self.serving.served.session.lock(rt, token);
-            match session.drain(&mut self.serving.device) {
+            match session.drain(rt, self.serving.server) {
                 Drained::More => {}
                 Drained::AllDone => return,
             }
@@ -111,7 +112,7 @@ impl<'s, 'v, D: StepDevice> SyncReader<'s, 'v, D> {
     }
 }
 
-impl<'s, 'v, D: StepDevice> Body<Synchronous> for SyncReader<'s, 'v, D> {
+impl<'s, 'v, D: ServedDisk> Body<Synchronous> for SyncReader<'s, 'v, D> {
     fn serve<R: Wait + Clock>(&mut self, rt: &R, token: &mut Token<Synchronous>) -> Closed {
         for _ in rt.forever() {
             if let Err(closing) = self.read_once(rt, token) {
@@ -127,19 +128,19 @@ impl<'s, 'v, D: StepDevice> Body<Synchronous> for SyncReader<'s, 'v, D> {
 
 /// The reader of the asynchronous connection.
 #[derive(Drop)]
-pub(crate) struct AsyncReader<'s, 'v, D> {
+pub(crate) struct AsyncReader<'s, 'v, D: ServedDisk> {
     pub serving: Serving<'s, 'v, Asynchronous, D>,
     pub space: Vec<u8>,
 }
 
-impl<'s, 'v, D: StepDevice> AsyncReader<'s, 'v, D> {
+impl<'s, 'v, D: ServedDisk> AsyncReader<'s, 'v, D> {
     /// Reads until the session is over.
     pub fn run<R: Wait + Clock>(&mut self, rt: &R) {
         run(rt, self);
     }
 }
 
-impl<'s, 'v, D: StepDevice> Body<Asynchronous> for AsyncReader<'s, 'v, D> {
+impl<'s, 'v, D: ServedDisk> Body<Asynchronous> for AsyncReader<'s, 'v, D> {
     fn serve<R: Wait + Clock>(&mut self, rt: &R, token: &mut Token<Asynchronous>) -> Closed {
         for _ in rt.forever() {
             let space = self.space.as_mut_slice();
@@ -154,11 +155,11 @@ impl<'s, 'v, D: StepDevice> Body<Asynchronous> for AsyncReader<'s, 'v, D> {
 /// The worker, on the synchronous connection: it continues the execution once what a unit waits for may have come, and
 /// while the reader waits. On the asynchronous connection the notifier: it sends what other sessions cause.
 #[derive(Drop)]
-pub(crate) struct Worker<'s, 'v, S, D> {
+pub(crate) struct Worker<'s, 'v, S, D: ServedDisk> {
     pub serving: Serving<'s, 'v, S, D>,
 }
 
-impl<'s, 'v, S: Continue, D: StepDevice> Worker<'s, 'v, S, D> {
+impl<'s, 'v, S: Continue, D: ServedDisk> Worker<'s, 'v, S, D> {
     /// Works until the session is over.
     pub fn run<R: Wait + Clock>(&mut self, rt: &R) {
         run(rt, self);
@@ -183,7 +184,7 @@ impl<'s, 'v, S: Continue, D: StepDevice> Worker<'s, 'v, S, D> {
     }
 }
 
-impl<'s, 'v, S: Continue, D: StepDevice> Body<S> for Worker<'s, 'v, S, D> {
+impl<'s, 'v, S: Continue, D: ServedDisk> Body<S> for Worker<'s, 'v, S, D> {
     fn serve<R: Wait + Clock>(&mut self, rt: &R, token: &mut Token<S>) -> Closed {
         let mut due = None;
         for _ in rt.forever() {

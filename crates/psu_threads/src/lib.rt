@@ -10,6 +10,7 @@ mod laws;
 mod operator;
 mod registry;
 mod reporter;
+mod seated_session;
 mod server;
 mod serving;
 mod session_thread;
@@ -18,10 +19,14 @@ mod shared_device;
 pub use executing::SILENCE_SECONDS;
 pub use flusher_signal::FlusherSignal;
 pub use flushing::Flusher;
-pub use laws::{calls_are_in_the_history, each_response_is_of_the_history};
+pub use laws::{each_opc_is_kept, each_response_is_of_the_history};
 pub use operator::{Operator, write_lines};
 pub use registry::Registry;
 pub use reporter::{HeldRegistry, Reporter};
+pub use seated_session::{MustClose, SeatedSession};
 pub use server::Server;
 pub use session_thread::{Role, serve_session, space};
 pub use shared_device::SharedDevice;
+
+/// A session that threads serve, which is kept with its seat.
+pub type SessionOf<D> = psu_session_io::ServedSession<SeatedSession<D>>;

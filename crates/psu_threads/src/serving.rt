@@ -1,9 +1,10 @@
 //! What a thread of a session does on its connection.
 use crate::server::Server;
+use crate::{SeatedSession, SessionOf};
+use psu_bench::ServedDisk;
 use psu_session_io::{
     Arrived, Asynchronous, BytesRead, Closing, Connection, ConnectionSide, Disconnected, Incoming,
-    NextTask, Pending, Received, Remainder, ServedSession, SharedSession, StepDevice, Synchronous,
-    Token,
+    Locked, NextTask, Pending, Received, Remainder, Synchronous, Token,
 };
 use std::rt::Clock;
 use std::sync::Wait;
@@ -11,46 +12,49 @@ use std::sync::Wait;
 /// How a thread that writes on a connection continues a session.
 pub(crate) trait Continue: ConnectionSide + Sized {
     /// Continues a session, and takes what is to be written on the connection.
-    fn proceed<D: StepDevice>(
-        session: &mut SharedSession,
+    fn proceed<R: Wait + Clock, D: ServedDisk>(
+        rt: &R,
+        server: &Server,
+        session: &mut SeatedSession<D>,
         pending: Pending<Self>,
-        device: &mut D,
     ) -> Result<Remainder<Self>, Closing>;
 }
 
 impl Continue for Synchronous {
     #[inline(always)]
-    fn proceed<D: StepDevice>(
-        session: &mut SharedSession,
+    fn proceed<R: Wait + Clock, D: ServedDisk>(
+        rt: &R,
+        server: &Server,
+        session: &mut SeatedSession<D>,
         pending: Pending<Synchronous>,
-        device: &mut D,
     ) -> Result<Remainder<Synchronous>, Closing> {
-        session.execute(pending, device)
+        session.execute(rt, server, pending)
     }
 }
 
 impl Continue for Asynchronous {
     // The execution is left to the worker.
-    fn proceed<D: StepDevice>(
-        session: &mut SharedSession,
+    fn proceed<R: Wait + Clock, D: ServedDisk>(
+        rt: &R,
+        server: &Server,
+        session: &mut SeatedSession<D>,
         pending: Pending<Asynchronous>,
-        device: &mut D,
     ) -> Result<Remainder<Asynchronous>, Closing> {
-        let _ = device;
+        let _ = rt;
+        let _ = server;
         session.respond(pending)
     }
 }
 
 /// What a thread of a session works with.
 #[derive(Drop)]
-pub(crate) struct Serving<'s, 'v, S, D> {
+pub(crate) struct Serving<'s, 'v, S, D: ServedDisk> {
     pub server: &'s Server,
-    pub served: &'v ServedSession,
+    pub served: &'v SessionOf<D>,
     pub connection: Connection<S>,
-    pub device: D,
 }
 
-impl<'s, 'v, S: Continue, D: StepDevice> Serving<'s, 'v, S, D> {
+impl<'s, 'v, S: Continue, D: ServedDisk> Serving<'s, 'v, S, D> {
     // Receives bytes, once there is room for them, and continues the session.
     fn receive<R: Wait + Clock>(
         &mut self,
@@ -67,12 +71,10 @@ impl<'s, 'v, S: Continue, D: StepDevice> Serving<'s, 'v, S, D> {
             } else {
                 0
             };
-            match session.receive(now, bytes, &mut self.device)? {
-                Received::All(pending) => return S::proceed(
-                    &mut session,
-                    pending,
-                    &mut self.device,
-                ),
+            match session.receive(rt, self.server, now, bytes)? {
+                Received::All(pending) => {
+                    return S::proceed(rt, self.server, &mut session, pending);
+                }
                 Received::Full(returned) => {
                     drop(session);
                     bytes = returned;
@@ -87,7 +89,7 @@ impl<'s, 'v, S: Continue, D: StepDevice> Serving<'s, 'v, S, D> {
     // Notifies the other threads, writes what was taken, and continues the session until it waits. Returns when the
     // first release that waits is due.
     #[inline(always)]
-    fn finish<R: Wait>(
+    fn finish<R: Wait + Clock>(
         &mut self,
         rt: &R,
         token: &mut Token<S>,
@@ -102,7 +104,7 @@ impl<'s, 'v, S: Continue, D: StepDevice> Serving<'s, 'v, S, D> {
                 }
                 NextTask::Continue(pending) => {
                     let mut session = self.served.session.lock(rt, token);
-                    let remainder = S::proceed(&mut session, pending, &mut self.device)?;
+                    let remainder = S::proceed(rt, self.server, &mut session, pending)?;
                     drop(session);
                     self.served.mailbox.notify_others(rt, remainder)
                 }
@@ -147,8 +149,8 @@ impl<'s, 'v, S: Continue, D: StepDevice> Serving<'s, 'v, S, D> {
     ) -> Result<Option<u64>, Closing> {
         let now = self.server.now(rt);
         let mut session = self.served.session.lock(rt, token);
-        let pending = session.notify(now, arrived, &mut self.device)?;
-        let remainder = S::proceed(&mut session, pending, &mut self.device)?;
+        let pending = session.notify(rt, self.server, now, arrived)?;
+        let remainder = S::proceed(rt, self.server, &mut session, pending)?;
         drop(session);
         self.finish(rt, token, remainder)
     }

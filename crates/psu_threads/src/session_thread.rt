@@ -1,13 +1,13 @@
 //! What each thread of a session runs, until the session is over.
 ghost use Rattle.std.specs.Prelude.{◌≡◌, IfOk, length};
 
+use crate::SessionOf;
 use crate::executing::{AsyncReader, SyncReader, Worker};
 use crate::server::Server;
 use crate::serving::Serving;
-use crate::shared_device::SharedDevice;
-use psu_bench::{Access, Caller, ServedDisk};
+use psu_bench::ServedDisk;
 use psu_messages::READ_SIZE;
-use psu_session_io::{Asynchronous, Connection, Link, ServedSession, Synchronous};
+use psu_session_io::{Asynchronous, Connection, Link, Synchronous};
 use std::alloc::Global;
 use std::io;
 use std::rt::Clock;
@@ -37,32 +37,27 @@ pub enum Role {
     Notify(Arc<Link>),
 }
 
-// What a thread of a session works with: the device is that of the session's number.
+// What a thread of a session works with.
 #[derive(Drop)]
-struct SessionThread<'s, 'v, 'b, 'r, R: Wait, D: ServedDisk> {
-    served: &'v ServedSession,
-    device: SharedDevice<'s, 'b, 'r, R, D>,
-    ghost own: { device.session ≡ served.now.number },
+struct SessionThread<'s, 'v, D: ServedDisk> {
+    server: &'s Server,
+    served: &'v SessionOf<D>,
 }
 
-impl<'s, 'v, 'b, 'r, R: Wait + Clock, D: ServedDisk> SessionThread<'s, 'v, 'b, 'r, R, D> {
+impl<'s, 'v, D: ServedDisk> SessionThread<'s, 'v, D> {
     // Returns what the thread works with on a connection.
-    fn on<S>(self, connection: Connection<S>) -> Serving<'s, 'v, S, SharedDevice<'s, 'b, 'r, R, D>>
-        ensures { result.device.session ≡ result.served.now.number }
-    {
-        let SessionThread { served, device } = self;
+    fn on<S>(self, connection: Connection<S>) -> Serving<'s, 'v, S, D> {
+        let SessionThread { server, served } = self;
         Serving {
-            server: device.server,
+            server,
             served,
             connection,
-            device,
         }
     }
 
     // Does what its role is, until the session is over.
-    fn run_as(self, role: Role) -> io::Result<()> {
-        let rt = self.device.rt;
-        let alloc = self.device.server.alloc;
+    fn run_as<R: Wait + Clock>(self, rt: &R, role: Role) -> io::Result<()> {
+        let alloc = self.server.alloc;
         match role {
             Role::Read(connection, opened) => {
                 let space = space(alloc, READ_SIZE)?;
@@ -97,16 +92,8 @@ impl<'s, 'v, 'b, 'r, R: Wait + Clock, D: ServedDisk> SessionThread<'s, 'v, 'b, '
 pub fn serve_session<R: Wait + Clock, D: ServedDisk>(
     rt: &R,
     server: &Server,
-    served: &ServedSession,
-    access: Access<D>,
+    served: &SessionOf<D>,
     role: Role,
 ) -> io::Result<()> {
-    let Access { bench, seat, gate } = access;
-    let device = SharedDevice {
-        rt,
-        server,
-        session: served.number,
-        caller: Caller::new(&bench, seat, gate),
-    };
-    SessionThread { served, device }.run_as(role)
+    SessionThread { server, served }.run_as(rt, role)
 }

@@ -4,4 +4,4 @@ import sys
 
 sys.path.insert(0, os.path.dirname(os.path.dirname(os.path.dirname(os.path.abspath(__file__)))))
 
-from psu.pytest_plugin import connect, server, supply  # noqa: E402, F401
+from psu.pytest_plugin import *  # noqa: E402, F401, F403

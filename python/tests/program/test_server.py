@@ -109,5 +109,5 @@ def test_messages_of_standard_error(server):
         with pytest.raises(psu.InstrumentError, match="-320"):
             supply.query("*SAV 1;*OPC?", timeout=1)
     server.wait_for_message("psu: store broken\n")
-    with pytest.raises(psu.Timeout, match="did not say 'psu: store reopened' in time"):
+    with pytest.raises(psu.Timeout, match="did not say 'psu: store reopened' in 0.1 s"):
         server.wait_for_message("psu: store reopened", timeout=0.1)

@@ -1,9 +1,10 @@
 """Tests of one session that several threads use, against the program."""
+import contextlib
 import threading
 import time
 
 import pytest
-from psu import LockError, LockRefusal, SessionClosed, Timeout
+from psu import Cleared, InstrumentError, LockError, LockRefusal, SessionClosed, Timeout
 
 WAITS = 10  # seconds, the longest wait of a test
 
@@ -139,11 +140,46 @@ def test_a_close_wakes_what_waits(connect):
     assert faults == ["this client closed the session: close() was called"] * 3
 
 
-def test_a_clear_waits_for_a_query_of_another_thread(supply):
-    def ask():
-        for _ in range(30):
-            assert supply.query("*OPC?") == "1"
+def test_a_clear_ends_a_query_of_another_thread(supply, connect):
+    with connect().locked():
+        faults, began = [], time.monotonic()
 
-    in_threads(ask, ask, lambda: [supply.clear() for _ in range(10)])
+        def ask():
+            with pytest.raises(Cleared) as fault:
+                supply.query("VOLT?", timeout=3 * WAITS)
+            faults.append(fault)
+
+        asking = threading.Thread(target=ask)
+        asking.start()
+        time.sleep(0.2)
+        supply.clear()
+        asking.join(WAITS)
+        assert len(faults) == 1 and time.monotonic() - began < WAITS
+    assert supply.query("VOLT?;:SYST:ERR?") == '0.000;0,"No error"'
+
+
+def test_clears_beside_queries(supply):
+    def ask():
+        for number in range(30):
+            with contextlib.suppress(Cleared):
+                assert supply.query(f"*SRE {number};*SRE?") == f"{number}"
+
+    in_threads(ask, lambda: [(supply.clear(), time.sleep(0.001)) for _ in range(20)])
     with pytest.raises(Timeout):
         supply.read(timeout=0.1)
+
+
+def test_errors_are_raised_at_once(supply):
+    supply.check_errors = True
+    began = time.monotonic()
+    with pytest.raises(InstrumentError, match=r'^FOO\?: -113,"Undefined header"$'):
+        supply.query("FOO?")
+    with pytest.raises(InstrumentError, match='^VOLT 99: -222,"Data out of range"$') as fault:
+        supply.write("VOLT 99")
+    assert fault.value.response is None
+    with pytest.raises(InstrumentError, match="-222") as fault:
+        supply.query("VOLT 99;VOLT?")
+    assert fault.value.response == b"0.000"
+    supply.write_block('MMEM:DATA "a",', b"abc")
+    assert supply.query_block('MMEM:DATA? "a"') == b"abc"
+    assert time.monotonic() - began < supply.timeout

@@ -65,7 +65,7 @@ impl<D: Disk, A: Allocator + Copy> Exec<D, A> {
             Some(IdleStore::Failed(broken)) => Reopening {
                 alloc: self.alloc,
                 broken,
-                duty: CannotDrop(()),
+                duty: CannotDrop::begin(),
             },
             Some(IdleStore::Whole(_)) => unreachable!(),
             None => unreachable!(),

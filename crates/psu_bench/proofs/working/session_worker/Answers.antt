@@ -4,8 +4,8 @@ use Rattle.psu_turn.specs.Seats.{SeatCalls}
 use Rattle.psu_exec.specs.Calls.{Entry}
 use Rattle.psu_exec.specs.Device.{Reply}
 use Rattle.psu_exec.specs.Shown.{outcome_of}
-use Rattle.psu_exec.specs.declared.outcome.Outcome.{Outcome}
-use Rattle.psu_exec.specs.declared.outcome.Outcome.TheVariants.{Parked}
+use Rattle.psu_replies.specs.declared.outcome.Outcome.{Outcome}
+use Rattle.psu_replies.specs.declared.outcome.Outcome.TheVariants.{Parked}
 use Rattle.psu_bench.specs.Calls.{AllowsOn}
 use Rattle.psu_bench.specs.Tries.{tried, try_after}
 use Rattle.psu_bench.specs.Tries.AreTries.{First, Next}

@@ -1,6 +1,6 @@
 use Rattle.std.proofs.Common.{None, is_some, refl}
 use Rattle.std.proofs.lemmas.Result.{IfErr-weaker, IfOk-weaker}
-use Rattle.psu_exec.specs.Shown.{outcome_of}
+use Rattle.psu_replies.specs.Reply.{outcome_of}
 use Rattle.psu_messages.proofs.Going.{behind, broken_off, passed_on, replaced, stops_on, added_plain, not_buffered, waits}
 use Rattle.psu_messages.proofs.Outside.{adds_plain, to_plain}
 use Rattle.psu_messages.proofs.messages.begin.Goals as goal

@@ -1,5 +1,5 @@
 use Rattle.std.proofs.Common.{Some, is_some, refl}
-use Rattle.psu_exec.specs.Shown.{outcome_of}
+use Rattle.psu_replies.specs.Reply.{outcome_of}
 use Rattle.psu_messages.proofs.Going.{broken_off, next_within, passed_on, added_within, not_buffered, waits}
 use Rattle.psu_messages.proofs.steps.take_step.Goals as goal
 

@@ -1,0 +1,13 @@
+use Rattle.std.specs.Arc.{arc_value}
+use Rattle.psu_session_io.proofs.Extending.{disconnects}
+use Rattle.psu_threads.specs.Seated.{under}
+use Rattle.psu_threads.proofs.Seating.{uncalled}
+use Rattle.psu_threads.proofs.seated_session.SeatedSessionLocked.disconnect.Goals as goal
+
+pub invariant_of-self : goal.invariant_of-self
+invariant_of-self g c =
+    let was = c.self.invariant in
+    let s = c.self.inside in
+    let t = c.disconnect.new.self in
+    let next = uncalled g.D.Disk.honest (arc_value s.bench) s.number s.closed s.session t was.0 was.2 (disconnects s.session t (under s.number was.0) c.disconnect.ensures) was.3 in
+    (was.0, was.1, next.0, next.1)

@@ -1,0 +1,56 @@
+"""Tests of psu-relay as a program: its command line, its exit statuses, and how it ends."""
+import socket
+import subprocess
+import sys
+import tempfile
+import unittest
+
+from fake_server import FakeServer, run_main
+from psu.client import Instrument
+from psu.relay import main
+
+
+class ProgramTest(unittest.TestCase):
+    def assert_ends(self, words, status, text):
+        """The program ends with this status, and with a line that has this text."""
+        ended, written = run_main(main, words)
+        self.assertEqual(ended, status)
+        self.assertIn(text, written)
+
+    def test_another_address_needs_its_option(self):
+        self.assert_ends(["--listen", "0.0.0.0:4881"], 2, "add --yes-i-know-it-has-no-protection")
+
+    def test_wrong_rules_and_addresses(self):
+        with tempfile.NamedTemporaryFile("w") as file:
+            file.write("hold response\nhold it\n")
+            file.flush()
+            self.assert_ends(["--rules", file.name], 2, "line 2: 'it' is not command")
+        self.assert_ends(["--rule", "slow"], 2, "--rule 'slow': the first word is one of")
+        self.assert_ends(["--listen", "localhost:4881"], 2, "is not ADDRESS:PORT")
+        self.assert_ends(["--to", "0"], 2, "is not a port")
+
+    def test_a_port_that_is_taken(self):
+        with socket.create_server(("127.0.0.1", 0)) as taken:
+            listen = f"127.0.0.1:{taken.getsockname()[1]}"
+            self.assert_ends(["--listen", listen, "--quiet"], 1, "psu-relay: ")
+
+    def test_a_run_with_a_log_file(self):
+        with tempfile.TemporaryDirectory() as folder, FakeServer() as server:
+            log = f"{folder}/traffic.log"
+            command = [sys.executable, "-m", "psu.relay", "--listen", "127.0.0.1:0", "--to", str(server.port),
+                       "--log", log, "--json", "--rule", "delay 0 response"]
+            process = subprocess.Popen(command, stdout=subprocess.PIPE, universal_newlines=True)
+            self.addCleanup(process.stdout.close)
+            port = int(process.stdout.readline().rpartition(":")[2])
+            with Instrument(port=port) as client:
+                client.query("VOLT?")
+            process.terminate()
+            self.assertEqual(process.wait(30), 0)
+            with open(log) as file:
+                text = file.read()
+            self.assertIn('"payload": "VOLT?\\\\n"', text)
+            self.assertIn('"event": "ended"', text)
+
+
+if __name__ == "__main__":
+    unittest.main()
