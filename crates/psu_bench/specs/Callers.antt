@@ -9,14 +9,14 @@ use Rattle.psu_exec.specs.Device.{State}
 use Rattle.psu_exec.specs.Quiet.{IsQuiet}
 use Rattle.psu_exec.specs.Calls.{Entry, Job}
 use Rattle.psu_exec.specs.Calls.Entry.{Took, GaveBack, Notified}
-use Rattle.psu_exec.specs.Jobs.{RunsTo, finished_of, job_data}
+use Rattle.psu_exec.specs.Jobs.{EndStands, RunsTo, finished_of, job_data}
 use Rattle.psu_exec.specs.Shown.{none_of}
 use Rattle.psu_exec.specs.declared.job.End.{End}
 use Rattle.psu_exec.specs.declared.job.End.TheVariants as finished
 use Rattle.psu_items.specs.declared.commit.UnstartedCause.TheVariants as unstarted
-use Rattle.psu_exec.specs.declared.job.Job.{Job as AnyJob}
 use Rattle.psu_exec.specs.declared.job.NoJob.{NoJob}
 use Rattle.psu_bench.specs.Calls.{AllowsOn}
+use Rattle.psu_bench.specs.JobRun.{JobRun}
 use Rattle.psu_bench.specs.declared.caused.Caused.{Caused}
 use Rattle.psu_bench.specs.declared.caused.CausedByJob.{CausedByJob}
 use Rattle.psu_bench.specs.declared.caused.Granted.{Granted}
@@ -37,16 +37,17 @@ over_sessions (Some over) = over
 over_sessions None = []
 
 -- The seat made a round of the flusher: it took a job, that very job was run, and its result was given back. Nothing else
--- was called. The job ended so, and the waits of these sessions are over.
+-- was called. The job ended so, and the waits of these sessions are over. On an honest disk that is true of the result
+-- which `Job::run` states of each.
 pub record HasRun {D : Type 0} (A : Type 0) (G : Ghosts D) (ending : JobEnding) (over : List ℕ) (old new : Sight State Entry) : Type 0 where
-  pub job : AnyJob D A G
-  pub finished : End D A G
-  pub ran : RunsTo job finished
+  pub run : JobRun D A G
+  pub ran : RunsTo run.job run.finished
+  pub stands : Ghosts.honest G → EndStands run.finished
   pub given : Option (List ℕ)
   pub mid : Sight State Entry
-  pub took : SeatCalls (AllowsOn (Ghosts.honest G)) old (Took (Job (job_data job))) mid
-  pub gave : SeatCalls (AllowsOn (Ghosts.honest G)) mid (GaveBack (finished_of finished) given) new
-  pub ended : ending ≡ ending_of finished
+  pub took : SeatCalls (AllowsOn (Ghosts.honest G)) old (Took (Job (job_data run.job))) mid
+  pub gave : SeatCalls (AllowsOn (Ghosts.honest G)) mid (GaveBack (finished_of run.finished) given) new
+  pub ended : ending ≡ ending_of run.finished
   pub are_over : over ≡ over_sessions given
 
 -- the seat made a round of the flusher; where it gave no job, this is a take alone

@@ -1,4 +1,5 @@
 pub mod Calls
+pub mod JobRun
 pub mod Callers
 pub mod Opened
 pub mod Reopenings

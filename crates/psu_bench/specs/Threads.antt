@@ -1,8 +1,8 @@
 -- What threads do with a disk: the calls of a history, the runs of its jobs, and the disks that these leave.
-use Rattle.std.specs.Prelude.{◌≡◌, ℕ, ◌≤◌, false, Option, Some, None, List, [], ◌∷◌}
-use Rattle.psu_disk.specs.Disk.{DiskState, IsCrashImage, LeavesOnly}
+use Rattle.std.specs.Prelude.{◌≡◌, ◌⊎◌, ℕ, ◌≤◌, false, Option, Some, None, List, [], ◌∷◌, ⊤}
+use Rattle.psu_disk.specs.Disk.{DiskState, IsCrashImage}
 use Rattle.psu_disk.specs.declared.disk.Disk.{Ghosts}
-use Rattle.psu_items.specs.Image.{Represents, IsEither}
+use Rattle.psu_items.specs.Image.{Represents}
 use Rattle.psu_items.specs.Standing.{IsOnDisk, MapOn}
 use Rattle.psu_nv.specs.Contents.{items_of}
 use Rattle.psu_exec.specs.Consistent.{IsConsistent, MayBeKept}
@@ -12,22 +12,17 @@ use Rattle.psu_exec.specs.Calls.Entry.{Took, GaveBack}
 use Rattle.psu_exec.specs.Headline.{IsPrefix}
 use Rattle.psu_exec.specs.Jobs.{EndStands, finished_disk, finished_of, job_data, job_disk}
 use Rattle.psu_exec.specs.World.{World, Running, Moves, IsStart, IsTrueOf, accepted_end, after}
-use Rattle.psu_exec.specs.declared.job.Job.{Job}
 use Rattle.psu_exec.specs.declared.job.End.{End as EndOf}
 use Rattle.psu_turn.specs.History.{HistoryLeads, numbered}
+use Rattle.psu_turn.specs.Seats.{Sight}
 use Rattle.psu_turn.specs.declared.numbered.Numbered.{Numbered}
 use Rattle.psu_bench.specs.Calls.{AllowsOn}
+use Rattle.psu_bench.specs.Callers.{HasRun}
+use Rattle.psu_bench.specs.JobRun.{JobRun}
+use Rattle.psu_bench.specs.declared.flushing.JobEnding.{JobEnding}
 use Rattle.psu_bench.specs.Lives.{Happening, Called, Moved, Lives, calls_in}
 
 -- ---- the steps of threads
-
--- A job that was taken, and the result that its run has, or will have: what `Job::run` states of the moments since it
--- began.
-pub record JobRun (D A : Type 0) (G : Ghosts D) : Type 0 where
-  pub job : Job D A G
-  pub finished : EndOf D A G
-  pub time : Ghosts.honest G → Ghosts.records G
-      → LeavesOnly (Ghosts.moment G) (Ghosts.left_since G) (job_disk job) (finished_disk finished) (IsEither (job_data job).limit (job_data job).before (job_data job).target)
 
 -- A step of a thread.
 pub data ThreadStep (D A : Type 0) (G : Ghosts D) : Type 0 where
@@ -60,9 +55,11 @@ taken_job _ = None
 abbrev pub IsPlain : Entry → Type 0
 IsPlain entry = (taken_job entry ≡ None) × (accepted_end entry ≡ None)
 
--- A disk call of the run that succeeds or fails: it changes the disk as a disk call may, and each crash image that is
--- possible since the run began, up to the disk after it, is possible since then at the run's end.
+-- A disk call of the run that succeeds or fails, on a disk that records its moments: it changes the disk as a disk call
+-- may, and each crash image that is possible since the run began, up to the disk after it, is possible since then at the
+-- run's end.
 pub record IsDiskCall {D A : Type 0} {G : Ghosts D} (run : JobRun D A G) (old new : D) : Type 0 where
+  pub recorded : Ghosts.records G
   pub moves : Moves (Ghosts.state G old) (Ghosts.state G new)
   pub later : Ghosts.moment G (job_disk run.job) ≤ Ghosts.moment G new
   pub within : (image : List ℕ) → Ghosts.left_since G new (Ghosts.moment G (job_disk run.job)) image → Ghosts.left_since G (finished_disk run.finished) (Ghosts.moment G (job_disk run.job)) image
@@ -82,6 +79,24 @@ HaveDisks D A G run disk (Takes seat begun ∷ more) last = HaveDisks D A G (Som
 HaveDisks D A G run disk (Reaches next ∷ more) last = IsDiskCallOf run disk next × HaveDisks D A G run next more last
 HaveDisks D A G run disk (Gives seat finished over ∷ more) last = (Ghosts.honest G → EndStands finished) × HaveDisks D A G None (finished_disk finished) more last
 
+-- the run that is under way after the steps, if one is, where this one was before them
+abbrev pub under_way : {D A : Type 0} {G : Ghosts D} → Option (JobRun D A G) → List (ThreadStep D A G) → Option (JobRun D A G)
+under_way run [] = run
+under_way run (CallMade call ∷ more) = under_way run more
+under_way run (Takes seat begun ∷ more) = under_way (Some begun) more
+under_way run (Reaches next ∷ more) = under_way run more
+under_way run (Gives seat finished over ∷ more) = under_way None more
+
+-- the image is possible at a moment of the run that is under way, on a disk that records its moments
+abbrev pub IsOfMoment : {D A : Type 0} {G : Ghosts D} → Option (JobRun D A G) → List ℕ → Type 0
+IsOfMoment None image = ⊥
+IsOfMoment {D} {A} {G} (Some run) image = Ghosts.records G × Ghosts.left_since G (finished_disk run.finished) (Ghosts.moment G (job_disk run.job)) image
+
+-- A power loss after the steps may leave this image: it is possible on the threads' disk, or at a moment of the run that
+-- is under way.
+abbrev pub IsPossibleAfter : {D A : Type 0} {G : Ghosts D} → List (ThreadStep D A G) → D → List ℕ → Type 0
+IsPossibleAfter {D} {A} {G} steps disk image = IsCrashImage (Ghosts.state G disk) image ⊎ IsOfMoment (under_way None steps) image
+
 -- ---- the laws
 
 -- An end that is accepted is true of the disk that it carries.
@@ -93,6 +108,7 @@ EndsAreTrue D A G = (s new : State) (finished : EndOf D A G) (over : List ℕ)
 pub record Occurs (w : World) (happenings : List Happening) (state : State) (disk : DiskState) : Type 0 where
   pub new : World
   pub lives : Lives w happenings new
+  pub running : new.mode ≡ Running
   pub state_is : new.state ≡ state
   pub disk_is : new.disk ≡ disk
 
@@ -103,12 +119,41 @@ ThreadsAreEvents D A G = (w : World) (first last : D) (steps : List (ThreadStep 
     → w.mode ≡ Running → IsConsistent w.state.flush → w.disk ≡ Ghosts.state G first → HaveDisks D A G None first steps last → HistoryLeads (AllowsOn (Ghosts.honest G)) w.state (calls_in (shown w.disk steps)) state
     → Occurs w (shown w.disk steps) state (Ghosts.state G last)
 
--- Therefore each possible crash image of the threads' disk, after any of their steps since a power-on, represents the
--- contents after a prefix of the executed units that includes every unit before an answered `*OPC?`.
+-- Therefore each image that a power loss may leave after any steps of threads since a power-on, also midway through a job,
+-- represents the contents after a prefix of the executed units that includes every unit before an answered `*OPC?`.
 abbrev pub DisksLeavePrefix : (D A : Type 0) → Ghosts D → Type 0
 DisksLeavePrefix D A G = (w : World) (first last : D) (steps : List (ThreadStep D A G)) (state : State) (image : List ℕ)
-    → IsStart w → w.disk ≡ Ghosts.state G first → HaveDisks D A G None first steps last → HistoryLeads (AllowsOn (Ghosts.honest G)) w.state (calls_in (shown w.disk steps)) state → IsCrashImage (Ghosts.state G last) image
+    → IsStart w → w.disk ≡ Ghosts.state G first → HaveDisks D A G None first steps last → HistoryLeads (AllowsOn (Ghosts.honest G)) w.state (calls_in (shown w.disk steps)) state → IsPossibleAfter steps last image
     → (now : World) × (k : ℕ) × Lives w (shown w.disk steps) now × IsPrefix now k × MayBeKept now.limit (after now k) × Represents image now.limit (items_of (after now k))
+
+-- ---- the rounds of seats
+
+-- a call that takes no job and whose end, if it gives one back, is not accepted; or the take of a run; or an accepted
+-- give-back of its result
+abbrev pub IsOfRounds : (D A : Type 0) → Ghosts D → Numbered Entry → Type 0
+IsOfRounds D A G call = IsPlain call.entry
+    ⊎ (((run : JobRun D A G) × (call.entry ≡ Took (Taken.Job (job_data run.job))))
+    ⊎ ((run : JobRun D A G) × (over : List ℕ) × (Ghosts.honest G → EndStands run.finished) × (call.entry ≡ GaveBack (finished_of run.finished) (Some over))))
+
+abbrev pub AreOfRounds : (D A : Type 0) → Ghosts D → List (Numbered Entry) → Type 0
+AreOfRounds D A G [] = ⊤
+AreOfRounds D A G (call ∷ more) = IsOfRounds D A G call × AreOfRounds D A G more
+
+-- The calls of a round that a seat makes are such.
+abbrev pub RoundsAreRuns : (D A : Type 0) → Ghosts D → Type 0
+RoundsAreRuns D A G = (ending : JobEnding) (over : List ℕ) (old new : Sight State Entry) → (round : HasRun A G ending over old new) → (seat : ℕ)
+    → IsOfRounds D A G (numbered seat (Took (Taken.Job (job_data round.run.job)))) × IsOfRounds D A G (numbered seat (GaveBack (finished_of round.run.finished) round.given))
+
+-- Steps whose calls are this history, with the disks that they have.
+pub record HasSteps (D A : Type 0) (G : Ghosts D) (disk : DiskState) (first : D) (history : List (Numbered Entry)) : Type 0 where
+  pub steps : List (ThreadStep D A G)
+  pub last : D
+  pub have : HaveDisks D A G None first steps last
+  pub calls : calls_in (shown disk steps) ≡ history
+
+-- A history whose takes and accepted ends are those of rounds has such steps, so the laws hold of it.
+abbrev pub RoundsHaveSteps : (D A : Type 0) → Ghosts D → Type 0
+RoundsHaveSteps D A G = (disk : DiskState) (first : D) (history : List (Numbered Entry)) → AreOfRounds D A G history → HasSteps D A G disk first history
 
 -- ---- such steps exist
 

@@ -1,6 +1,6 @@
 //! Laws of the histories.
 ghost use Rattle.psu_bench.specs.Lives.{HistoriesHappen, LivesAreEvents, SeenHistoriesHappen, SomeHistoryHappens, ThreadsLeavePrefix};
-ghost use Rattle.psu_bench.specs.Threads.{DisksLeavePrefix, EndsAreTrue, SomeStepsExist, ThreadsAreEvents};
+ghost use Rattle.psu_bench.specs.Threads.{DisksLeavePrefix, EndsAreTrue, RoundsAreRuns, RoundsHaveSteps, SomeStepsExist, ThreadsAreEvents};
 
 use psu_disk::Disk;
 use std::alloc::Allocator;
@@ -23,10 +23,13 @@ pub fn seen_histories_happen<D: Disk>()
 /// The power-loss theorem holds of the disk that the threads have. An end that is accepted is true of the disk that it
 /// carries. The calls of a legal history, with the disk calls of each run of a job between its take and its give-back,
 /// are events of the theorem, each with the threads' disk: that of the end that was accepted last, and during a run
-/// the one that its last disk call left.
+/// the one that its last disk call left. A disk need record its moments only where steps name disk calls, or a moment of
+/// the run that is under way. A history whose accepted ends are those of rounds that seats make has such steps.
 pub fn threads_are_events<D: Disk, A: Allocator + Copy>()
     ensures ends { D.honest → EndsAreTrue D A D.Disk }
-    ensures events { D.honest → D.records → ThreadsAreEvents D A D.Disk }
-    ensures prefix { D.honest → D.records → DisksLeavePrefix D A D.Disk }
+    ensures events { D.honest → ThreadsAreEvents D A D.Disk }
+    ensures prefix { D.honest → DisksLeavePrefix D A D.Disk }
+    ensures runs { RoundsAreRuns D A D.Disk }
+    ensures rounds { RoundsHaveSteps D A D.Disk }
     ensures some { SomeStepsExist D A D.Disk }
 {}

@@ -1,1 +1,3 @@
-pub mod Left
+pub mod Premise
+pub mod Found
+pub mod Served

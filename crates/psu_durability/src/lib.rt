@@ -3,7 +3,11 @@
 #![tactic(auto)]
 
 mod disk;
+mod runs;
+mod served;
 mod stores;
 
 pub use disk::{has_a_model, may_move, read, sync, write};
+pub use runs::run_and_open;
+pub use served::power_on_again;
 pub use stores::{commit_and_open, open_again};

@@ -4,7 +4,7 @@ ghost use Rattle.psu_disk.specs.Disk.{IsCrashImage};
 ghost use Rattle.psu_items.specs.Outcome.{IfStored, disk_of};
 ghost use Rattle.psu_map.specs.Batch.{changed};
 ghost use Rattle.psu_map.specs.Capacity.{CanHold};
-ghost use Rattle.psu_durability.specs.Left.{IsLeft};
+ghost use Rattle.psu_durability.specs.Premise.{KeepsModel};
 
 use psu_disk::{Disk, FileDisk};
 use psu_items::{Batch, Commit, ImageError, Store};
@@ -17,7 +17,7 @@ pub fn open_again(
     before: &Store<FileDisk, Global>,
     disk: FileDisk,
 ) -> Result<Store<FileDisk, Global>, ImageError<FileDisk>>
-    requires left { IsLeft (IsCrashImage (⟦<FileDisk as Disk>⟧.state before.now.disk)) (⟦<FileDisk as Disk>⟧.state disk) }
+    requires kept { KeepsModel (IsCrashImage (⟦<FileDisk as Disk>⟧.state before.now.disk)) (⟦<FileDisk as Disk>⟧.state disk) }
     ensures { IfOk result (λ store. (store.limit ≡ before.now.limit) × (store.items ≡ before.now.items)) }
 {
     before.items();
@@ -37,9 +37,9 @@ pub fn commit_and_open(
     Result<Store<FileDisk, Global>, ImageError<FileDisk>>,
 )
     requires { CanHold store.limit (changed store.items batch) }
-    ensures either { IsLeft (⟦<FileDisk as Disk>⟧.left_since (disk_of result.0) (⟦<FileDisk as Disk>⟧.moment store.disk)) (⟦<FileDisk as Disk>⟧.state disk)
+    ensures either { KeepsModel (⟦<FileDisk as Disk>⟧.left_since (disk_of result.0) (⟦<FileDisk as Disk>⟧.moment store.disk)) (⟦<FileDisk as Disk>⟧.state disk)
         → IfOk result.1 (λ again. (again.limit ≡ store.limit) × ((again.items ≡ store.items) ⊎ (again.items ≡ changed store.items batch))) }
-    ensures stored { IfStored result.0 (λ after. IsLeft (IsCrashImage (⟦<FileDisk as Disk>⟧.state after.disk)) (⟦<FileDisk as Disk>⟧.state disk)
+    ensures stored { IfStored result.0 (λ after. KeepsModel (IsCrashImage (⟦<FileDisk as Disk>⟧.state after.disk)) (⟦<FileDisk as Disk>⟧.state disk)
         → IfOk result.1 (λ again. (again.limit ≡ store.limit) × (again.items ≡ changed store.items batch))) }
 {
     let ended = store.commit(alloc, batch);

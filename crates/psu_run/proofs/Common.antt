@@ -30,7 +30,7 @@ pub use Rattle.psu_messages.specs.ResponseBuffer.{Text, nothing}
 pub use Rattle.psu_messages.specs.Units.{Fault, IsRequest, Source, faulty, path_at}
 pub use Rattle.psu_nv.specs.Contents.{Contents, IsContents, items_of}
 pub use Rattle.psu_run.specs.Lines.{AreAsked, AreRequests, AskedBy, Brings, HasRead, Message, first_onto, has, message_of, messages, parts_of, source_of}
-pub use Rattle.psu_run.specs.Runs.{Acts, Answers, Begins, Calls, DeviceStops, Does, Ends, EndsEarly, EndsJob, EventsLead, FaultOf, OneCall, IsAlong, IsAt, IsByFailure, IsDone, IsFlush, IsJob, IsLeftBy, IsOfRun, IsTied, IsUnit, IsWornAtLast, IsWornOut, Jobs, Leads, LeadsTo, MemoryRefused, NextBegins, NoNumber, NotStarted, OutputState, PowersOn, Ran, RunPoint, RunTo, Runs, RunsUpTo, Says, SaysUntil, ScriptAlone, StandsForPrefix, NoCall, Steps, StopsFor, StoreBroken, WritesShort, WritesTo, at_power_on, cause_of, disk_from, disk_in, executed_by, failures_of, fault_of, held, is_calm}
+pub use Rattle.psu_run.specs.Runs.{Acts, Answers, Begins, Calls, DeviceStops, Does, Ends, EndsEarly, EndsJob, EventsLead, FaultOf, OneCall, IsAlong, IsAsBefore, IsAt, IsByFailure, IsDone, IsFlush, IsJob, IsLeftBy, IsOfRun, IsTied, IsUnit, IsWornAtLast, IsWornOut, Jobs, Leads, LeadsTo, MemoryRefused, NextBegins, NoNumber, NotStarted, OutputState, PowersOn, Ran, RunPoint, RunTo, Runs, RunsUpTo, Says, SaysUntil, ScriptAlone, StandsForPrefix, NoCall, Steps, StopsFor, StoreBroken, WritesShort, WritesTo, at_power_on, cause_of, disk_from, disk_in, executed_by, failures_of, fault_of, held, is_calm}
 pub use Rattle.psu_run.specs.Script.{Executes, ExecutesInside, ExecutesReply, HasOutcome, IsScript, Point, Replies, Scripted, at_start, finished, flushed, replied, waited}
 pub use Rattle.psu_run.specs.declared.run_cause.RunCause.TheVariants.{Device, Memory, Open, Read, TooLong, Write}
 pub use Rattle.psu_run.specs.declared.run_cause.RunCause.{RunCause}

@@ -249,8 +249,8 @@ module _ {D A : Type 0} {G : Ghosts D} (s : Exec D A G) (given : D) (on : Powere
 
     -- each moment
     pub run_moments : Ghosts.records G → ((d : D) (image : List ℕ) → Ghosts.left_since G d (Ghosts.moment G d) image → IsCrashImage (Ghosts.state G d) image) → ForSome (disk_in s) (λ d. LeavesOnly (Ghosts.moment G) (Ghosts.left_since G) given d (IsOldOrSame (Ghosts.state G given)))
-        → LeavesOnly (Ghosts.moment G) (Ghosts.left_since G) given disk (IsOfRun (Ghosts.state G given) from (Ghosts.failures G given))
+        → LeavesOnly (Ghosts.moment G) (Ghosts.left_since G) given disk (IsOfRun (Ghosts.state G given) last)
     run_moments t now opens =
-        let moment = Ghosts.moment G in let left = Ghosts.left_since G in let P = IsOfRun (Ghosts.state G given) from (Ghosts.failures G given) in
+        let moment = Ghosts.moment G in let left = Ghosts.left_since G in let P = IsOfRun (Ghosts.state G given) last in
         and_then moment left given on.0 disk P (IsAlong last) (weaken moment left given on.0 (IsOldOrSame (Ghosts.state G given)) P (opens on.0 on.1) (λ x kept. inl (keeps_map (Ghosts.state G given) x kept)))
-        ((ran.leads h first at_first).3 t now (reached_power (Ghosts.state G given).bytes starts.0 starts.1)) (λ x along. inr (run_to, along))
+        ((ran.leads h first at_first).3 t now (reached_power (Ghosts.state G given).bytes starts.0 starts.1)) (λ x along. inr along)

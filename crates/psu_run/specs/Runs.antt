@@ -276,12 +276,18 @@ pub record WritesTo (end : Option RunCause) (image : List ℕ) (input : Option (
   pub all : end ≡ None → EachRepresents disk run.last.world.limit (items_of run.last.world.state.flush.contents)
   pub behind : (stopped : World) × EventsLead run.last.world stopped × (stopped.disk ≡ disk)
 
--- At any moment of a run: the image represents what some possible crash image of the disk did before, or a prefix of what
--- was executed up to some point of a run of the messages that the input brings.
-abbrev pub IsOfRun : DiskState → Option (List ℕ) → ℕ → List ℕ → Type 0
-IsOfRun disk input failures image =
-    ((before : List ℕ) × IsCrashImage disk before × ((limit : ℕ) (map : List Item) → Represents before limit map → Represents image limit map))
-    ⊎ ((run : RunTo disk.bytes input failures) × IsAlong run.last image)
+-- the image represents each map that some possible crash image of the disk represented
+abbrev pub IsAsBefore : DiskState → List ℕ → Type 0
+IsAsBefore disk image = (before : List ℕ) × IsCrashImage disk before × ((limit : ℕ) (map : List Item) → Represents before limit map → Represents image limit map)
+
+-- at a moment of a run up to this point: the image is as one of the disk before the run, or represents a prefix of what was
+-- executed up to some point of it
+abbrev pub IsOfRun : DiskState → RunPoint → List ℕ → Type 0
+IsOfRun disk last image = IsAsBefore disk image ⊎ IsAlong last image
+
+-- On a disk that records its moments, each possible crash image at any moment between has P.
+abbrev pub EachMoment : {D : Type 0} (G : Ghosts D) → D → D → (List ℕ → Type 0) → Type 0
+EachMoment G from to P = Ghosts.records G → LeavesOnly (Ghosts.moment G) (Ghosts.left_since G) from to P
 
 -- the disk that a run begins on
 abbrev pub disk_from : {D A : Type 0} → RunStart D A → D

@@ -1,9 +1,8 @@
 //! The run over a reader and a writer.
 ghost use Rattle.std.specs.Prelude.{◌≡◌, ◌≢◌, ◌⊎◌, ◌<◌, ◌≤◌, length, [], List, OnOk, IfOk, IfErr, IfSome, None, Some};
-ghost use Rattle.psu_disk.specs.Disk.{LeavesOnly};
 ghost use Rattle.psu_run.specs.Lines.{Brings, IsReadToEnd, IsTooLong, Message, ReadsNoFurther, messages};
 ghost use Rattle.psu_messages.specs.ResponseBuffer.{nothing};
-ghost use Rattle.psu_run.specs.Runs.{Answers, DoesNotStart, Ends, EndsEarly, IsByFailure, IsOfRun, WritesTo, disk_from, disk_of, held};
+ghost use Rattle.psu_run.specs.Runs.{Answers, DoesNotStart, EachMoment, Ends, EndsEarly, IsAsBefore, IsByFailure, IsOfRun, WritesTo, disk_from, disk_of, held};
 
 use crate::intake::Intake;
 use crate::jobs::flush;
@@ -105,8 +104,13 @@ pub fn run<R: Source, W: Write, D: Disk, A: Allocator + Copy>(
     writer: &mut W,
     start: RunStart<D, A>,
 ) -> Result<D, RunFault<D>>
-    ensures whole { D.honest → IfOk result (λ d. WritesTo None (D.state (disk_from start)).bytes (R.remaining reader.old) (D.failures (disk_from start)) (D.failures d)
-        (W.contents writer.old) (W.contents writer.new) (D.state d)) }
+    // At each moment since the call began, each possible crash image represents what one of the given disk does, or the
+    // contents after a prefix of the units executed up to some point of this very run; that prefix contains every unit
+    // before a `*OPC?` answered by that point. No clause can say which point belongs to a moment: a contract sees the
+    // reader, the writer and the disk only at the two ends of the run.
+    ensures whole { D.honest → IfOk result (λ d. (written : WritesTo None (D.state (disk_from start)).bytes (R.remaining reader.old) (D.failures (disk_from start)) (D.failures d)
+        (W.contents writer.old) (W.contents writer.new) (D.state d))
+        × EachMoment D.Disk (disk_from start) d (IsOfRun (D.state (disk_from start)) written.run.last)) }
     ensures short { OnOk result (IfSome (R.remaining reader.old) (λ input. length input ≤ 16777216)) }
 
     // It succeeds only at the end of an input that is not too long. Whether it succeeds or fails, it reads no further
@@ -118,17 +122,13 @@ pub fn run<R: Source, W: Write, D: Disk, A: Allocator + Copy>(
     ensures extent { D.extent (disk_of result) ≡ D.extent (disk_from start) }
     ensures later { D.failures (disk_from start) ≤ D.failures (disk_of result) }
 
-    // At each moment since the call began, each possible crash image represents what one of the given disk does, or the
-    // contents after a prefix of the units executed up to some point of the run; that prefix contains every unit before
-    // a `*OPC?` answered by that point. No clause can say which point belongs to a moment: a contract sees the reader,
-    // the writer and the disk only at the two ends of the run.
-    ensures time { D.honest → D.records → LeavesOnly D.moment D.left_since (disk_from start) (disk_of result) (IsOfRun (D.state (disk_from start)) (R.remaining reader.old) (D.failures (disk_from start))) }
-
     // After a fault: where the disk does not power on, nothing was read and nothing was written; otherwise the output
-    // of the lines before the fault was written.
+    // of the lines before the fault was written. Each image at a moment since the call began is as above.
     ensures early { D.honest → IfErr result (λ f.
-        DoesNotStart f.cause (D.failures (disk_from start)) (D.failures f.disk) (R.remaining reader.old) (R.remaining reader.new) (W.contents writer.old) (W.contents writer.new) (D.state (disk_from start)) (D.state f.disk)
-        ⊎ WritesTo (Some f.cause) (D.state (disk_from start)).bytes (R.remaining reader.old) (D.failures (disk_from start)) (D.failures f.disk) (W.contents writer.old) (W.contents writer.new) (D.state f.disk)) }
+        (DoesNotStart f.cause (D.failures (disk_from start)) (D.failures f.disk) (R.remaining reader.old) (R.remaining reader.new) (W.contents writer.old) (W.contents writer.new) (D.state (disk_from start)) (D.state f.disk)
+        × EachMoment D.Disk (disk_from start) f.disk (IsAsBefore (D.state (disk_from start))))
+        ⊎ ((written : WritesTo (Some f.cause) (D.state (disk_from start)).bytes (R.remaining reader.old) (D.failures (disk_from start)) (D.failures f.disk) (W.contents writer.old) (W.contents writer.new) (D.state f.disk))
+        × EachMoment D.Disk (disk_from start) f.disk (IsOfRun (D.state (disk_from start)) written.run.last))) }
 
     // It ends since the input is too long only where it is.
     ensures long { IfErr result (λ f. f.cause ≡ RunCause.TooLong → IsTooLong (R.remaining reader.old) (R.remaining reader.new) (R.reads reader.old) (R.reads reader.new)) }

@@ -206,3 +206,20 @@ fn needs_any_name<D: Disk + Drop>(rt: &(impl Abort + Files<File = File>), mut di
 fn a_file_that_was_renamed_is_confirmed(rt: HostRuntime) {
     needs_any_name(&rt, new_disk(&rt, rt.alloc(), BEFORE, 4_096));
 }
+
+const LARGE: &str = "a_large_disk_for_a_test.image";
+
+// Checks that a file of 16 MiB is opened, and one that is longer by a byte is not.
+fn has_16_mib_at_most(rt: &(impl Abort + Files<File = File>), alloc: Global) {
+    drop(new_disk(rt, alloc, LARGE, 4_096));
+    set_length(rt, LARGE, 16_777_216);
+    holds(rt, unfound(rt, alloc, LARGE).is_none(), &"16 MiB");
+    set_length(rt, LARGE, 16_777_217);
+    is_for(rt, unfound(rt, alloc, LARGE), OpenFault::NotOpened);
+    remove(rt, LARGE);
+}
+
+#[test]
+fn a_file_of_more_than_16_mib_is_refused(rt: HostRuntime) {
+    has_16_mib_at_most(&rt, rt.alloc());
+}

@@ -9,6 +9,8 @@ mod bad_roots;
 #[cfg(test)]
 mod edits;
 #[cfg(test)]
+mod faulty_file;
+#[cfg(test)]
 mod files;
 mod forgetting_medium;
 #[cfg(test)]
@@ -31,6 +33,8 @@ mod migrations;
 #[cfg(test)]
 mod openings;
 #[cfg(test)]
+mod other_writer;
+#[cfg(test)]
 mod passing_disk;
 #[cfg(test)]
 mod pools;
@@ -43,11 +47,11 @@ mod spelled;
 #[cfg(test)]
 mod stores;
 #[cfg(test)]
-mod strange;
-#[cfg(test)]
 mod trials;
 #[cfg(test)]
 mod unfinished;
+#[cfg(test)]
+mod written_again;
 
 pub use forgetting_medium::ForgettingMedium;
 pub use medium_file::MediumFile;

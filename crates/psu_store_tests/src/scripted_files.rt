@@ -3,9 +3,10 @@ ghost use Rattle.std.specs.Prelude.{◌≡◌};
 
 use psu_disk::{DiskFault, FileCalls, FileFacts, FileSystem, LockAnswer, OpenFault};
 
-/// A call of those that make a new file.
+/// A call of those that open a file or make a new one.
 #[derive(Clone, Copy, Debug, PartialEq, Eq, Drop)]
 pub(crate) enum Step {
+    Read,
     Write,
     SyncAll,
     SyncFolder,
@@ -46,9 +47,13 @@ impl FileCalls for ScriptedFile {
 
     ghost keeps = { ⊥ };
 
+    ghost records = { ⊥ };
+
     ghost extent = { λ f. f.size };
 
     ghost state = { λ _. memory [] [] };
+
+    ghost past = { λ _. [] };
 
     ghost forgotten = { λ _ _. false };
 
@@ -60,6 +65,8 @@ impl FileCalls for ScriptedFile {
 
     ghost effect = { λ keeps. absurd keeps };
 
+    ghost passes = { λ records. absurd records };
+
     ghost working = { λ _ _ _ works. absurd works };
 
     fn size(&self) -> u64 {
@@ -67,7 +74,7 @@ impl FileCalls for ScriptedFile {
     }
 
     fn read_at(&mut self, _at: u64, _into: &mut [u8]) -> Result<(), DiskFault> {
-        Ok(())
+        self.script.answer(Step::Read)
     }
 
     fn write_at(&mut self, _at: u64, _bytes: &[u8]) -> Result<(), DiskFault> {

@@ -6,13 +6,12 @@ use std::alloc::Global;
 use std::process::Abort;
 
 // The result of opening or making a disk.
-type Outcome = Result<KeptDisk<SystemFile<ScriptedFile>, Global>, OpenFault>;
+type Outcome = Result<KeptDisk<SystemFile<ScriptedFile, Global>, Global>, OpenFault>;
 
 const NAME: &str = "a.image";
 
 // Checks why a file that is there is not opened, or that it is; it stays in any case.
-fn opens(rt: &impl Abort, alloc: Global, lock: LockAnswer, cause: Option<OpenFault>) {
-    let script = Script { lock, fails: None };
+fn opens(rt: &impl Abort, alloc: Global, script: Script, cause: Option<OpenFault>) {
     let mut files = ScriptedFiles {
         script,
         is_there: true,
@@ -38,8 +37,9 @@ fn makes(rt: &impl Abort, alloc: Global, script: Script, cause: Option<OpenFault
 
 // Checks both.
 fn is_locked(rt: &impl Abort, alloc: Global, lock: LockAnswer, cause: Option<OpenFault>) {
-    opens(rt, alloc, lock, cause);
-    makes(rt, alloc, Script { lock, fails: None }, cause);
+    let script = Script { lock, fails: None };
+    opens(rt, alloc, script, cause);
+    makes(rt, alloc, script, cause);
 }
 
 // Only a file system that has no locks is served without one.
@@ -61,13 +61,17 @@ fn a_file_that_is_not_locked_is_refused(rt: HostRuntime) {
     );
 }
 
-// Checks that no file is left where this call fails.
-fn leaves_nothing(rt: &impl Abort, alloc: Global, step: Step) {
-    let script = Script {
+// Returns the script in which this call fails.
+fn failing(step: Step) -> Script {
+    Script {
         lock: LockAnswer::Locked,
         fails: Some(step),
-    };
-    makes(rt, alloc, script, Some(OpenFault::NotOpened));
+    }
+}
+
+// Checks that no file is left where this call fails.
+fn leaves_nothing(rt: &impl Abort, alloc: Global, step: Step) {
+    makes(rt, alloc, failing(step), Some(OpenFault::NotOpened));
 }
 
 #[test]
@@ -75,6 +79,13 @@ fn a_file_that_is_not_finished_is_removed(rt: HostRuntime) {
     leaves_nothing(&rt, rt.alloc(), Step::Write);
     leaves_nothing(&rt, rt.alloc(), Step::SyncAll);
     leaves_nothing(&rt, rt.alloc(), Step::SyncFolder);
+    leaves_nothing(&rt, rt.alloc(), Step::Read);
+}
+
+#[test]
+fn a_file_that_is_not_read_is_refused(rt: HostRuntime) {
+    let refused = Some(OpenFault::NotOpened);
+    opens(&rt, rt.alloc(), failing(Step::Read), refused);
 }
 
 // Checks that a file that is there is not made, and stays.
