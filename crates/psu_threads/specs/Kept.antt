@@ -1,7 +1,6 @@
 -- What a client knows of the disk whose `*OPC?` was answered by `1`. Source: IEEE 488.2, 12.5.3 (the response to `*OPC?` is
 -- sent once all operations before it are complete).
 use Rattle.std.specs.Prelude.{◌≡◌, ℕ, ◌+◌, ◌≤◌, true, None, if◌then◌else◌, List, [], ◌∷◌, ◌++◌}
-use Rattle.psu_disk.specs.Disk.{IsCrashImage}
 use Rattle.psu_disk.specs.declared.disk.Disk.{Ghosts}
 use Rattle.psu_items.specs.Image.{Represents}
 use Rattle.psu_nv.specs.Contents.{items_of}
@@ -15,7 +14,7 @@ use Rattle.psu_turn.specs.Seats.{Sight}
 use Rattle.psu_turn.specs.declared.numbered.Numbered.{Numbered}
 use Rattle.psu_bench.specs.Calls.{AllowsOn}
 use Rattle.psu_bench.specs.Lives.{Lives, calls_in}
-use Rattle.psu_bench.specs.Threads.{HaveDisks, ThreadStep, shown}
+use Rattle.psu_bench.specs.Threads.{HaveDisks, IsPossibleAfter, ThreadStep, shown}
 
 -- how many units calls execute
 abbrev pub executes : Entry → ℕ
@@ -42,10 +41,10 @@ pub record KeepsBefore (now : World) (seat : ℕ) (mine : List Entry) (entry : E
   pub all : executed call.before ≤ k
   pub represents : Represents image now.limit (items_of (after now k))
 
--- A seat's `*OPC?` was answered. Then each crash image of the threads' disk that is possible after any of their steps from
--- then on represents contents with all that the seat had executed before it.
+-- A seat's `*OPC?` was answered. Then each image that a power loss may leave after any steps of threads from then on, also
+-- midway through a job, represents contents with all that the seat had executed before it.
 abbrev pub EachOpcIsKept : (D A : Type 0) → Ghosts D → Type 0
 EachOpcIsKept D A G = (w : World) (first last : D) (steps : List (ThreadStep D A G)) (state : State) (image : List ℕ) (seat : Sight State Entry) (mine later : List Entry) (session : ℕ) (request : Request) (text : List ℕ)
-    → IsStart w → w.disk ≡ Ghosts.state G first → HaveDisks D A G None first steps last → HistoryLeads (AllowsOn (Ghosts.honest G)) w.state (calls_in (shown w.disk steps)) state → IsCrashImage (Ghosts.state G last) image
+    → IsStart w → w.disk ≡ Ghosts.state G first → HaveDisks D A G None first steps last → HistoryLeads (AllowsOn (Ghosts.honest G)) w.state (calls_in (shown w.disk steps)) state → IsPossibleAfter steps last image
     → StartsWith (calls_in (shown w.disk steps)) seat.seen → calls_by seat.number seat.seen ≡ mine ++ Entry.Executed session request (Answer text) ∷ later → asks_opc request.reading ≡ true
     → (now : World) × Lives w (shown w.disk steps) now × KeepsBefore now seat.number mine (Entry.Executed session request (Answer text)) (calls_in (shown w.disk steps)) image

@@ -19,10 +19,10 @@ pub fn each_response_is_of_the_history<D: ServedDisk>()
     from_bytes_to_bytes();
 }
 
-/// Where a seat's `*OPC?` was answered at once, each crash image of the threads' disk that is possible from then on
-/// represents contents with all that the seat had executed before it.
+/// Where a seat's `*OPC?` was answered at once, each image that a power loss may leave from then on represents contents with
+/// all that the seat had executed before it.
 pub fn each_opc_is_kept<D: Disk, A: Allocator + Copy>()
-    ensures { D.honest → D.records → EachOpcIsKept D A D.Disk }
+    ensures { D.honest → EachOpcIsKept D A D.Disk }
 {
     threads_are_events::<D, A>();
 }
