@@ -1,7 +1,6 @@
 //! The sessions that a connection may join.
 ghost use Rattle.std.specs.Prelude.{◌≡◌, IfSome};
 ghost use Rattle.std.specs.Arc.{arc_value};
-ghost use Rattle.psu_server.specs.Directory.{AreAtTheirPlaces};
 
 use psu_bench::ServedDisk;
 use psu_exec::Session;
@@ -13,7 +12,6 @@ use std::sync::Arc;
 #[derive(Drop)]
 pub(crate) struct Directory<D: ServedDisk> {
     sessions: [Option<Arc<SessionOf<D>>>; 16],
-    ghost own: { AreAtTheirPlaces sessions },
 }
 
 impl<D: ServedDisk> Directory<D> {
@@ -28,17 +26,18 @@ impl<D: ServedDisk> Directory<D> {
     }
 
     /// Sets which session has a number; none where its session is about to be closed.
-    pub fn set(&mut self, number: Session, session: Option<Arc<SessionOf<D>>>)
-        requires { IfSome session (λ session. (arc_value session).number ≡ number) }
-    {
-        let place = usize::from(number.number()) - 1;
-        self.sessions[place] = session;
+    pub fn set(&mut self, number: Session, session: Option<Arc<SessionOf<D>>>) {
+        self.sessions[number.place()] = session;
     }
 
     /// Returns the session of a number.
     pub fn session(&self, number: Session) -> Option<Arc<SessionOf<D>>>
         ensures { IfSome result (λ session. (arc_value session).number ≡ number) }
     {
-        Some(Arc::try_clone(self.sessions[number.place()].as_ref()?).ok()?)
+        let session = self.sessions[number.place()].as_ref()?;
+        if session.number != number {
+            return None;
+        }
+        Arc::try_clone(session).ok()
     }
 }
