@@ -184,7 +184,7 @@ PoweredFrom {D} {A} {G} s given = (d : D) × (disk_in s ≡ Some d) × (Ghosts.f
 
 module _ {D A : Type 0} {G : Ghosts D} (s : Exec D A G) (given : D) (on : PoweredFrom s given) (from : Option (List ℕ)) (end : Option RunCause) (disk : D) (u v : Option (List ℕ)) (due : List Message) (brought : Brings from due)
     (ends : Ends s end disk due (held u []) (held v [])) where
-  ran : Ran s on.0 disk (RunsTo G end disk due ends.0)
+  pub ran : Ran s on.0 disk (RunsTo G end disk due ends.0)
   ran = ends.2 on.0 on.1
 
   pub keeps_size : Ghosts.extent G disk ≡ Ghosts.extent G given
@@ -198,7 +198,7 @@ module _ {D A : Type 0} {G : Ghosts D} (s : Exec D A G) (given : D) (on : Powere
     abbrev first : RunPoint
     first = at_power_on starts.0 (Ghosts.failures G given)
 
-    at_first : IsAt s on.0 first
+    pub at_first : IsAt s on.0 first
     at_first = let at = starts.2 on.0 on.1 in (at.0, at.1, at.2, sym on.2)
 
     abbrev last : RunPoint
