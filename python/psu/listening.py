@@ -227,12 +227,16 @@ def reset(writer: asyncio.StreamWriter) -> None:
     writer.transport.abort()
 
 
-def run_until_signal(server: LoopServer, ready: Callable[[], None]) -> None:
-    """Serves until SIGTERM, SIGINT or SIGHUP; raises OSError where the port can't be had."""
+def run_until_signal(
+    server: LoopServer, ready: Callable[[], None], hang_up: Optional[Callable[[], None]] = None
+) -> None:
+    """Serves until SIGTERM or SIGINT, and SIGHUP where that is not for `hang_up`; raises OSError without a port."""
     async def run() -> None:
         stopping = asyncio.Event()
-        for number in (signal.SIGTERM, signal.SIGINT, signal.SIGHUP):
-            asyncio.get_running_loop().add_signal_handler(number, stopping.set)
+        loop = asyncio.get_running_loop()
+        for number in (signal.SIGTERM, signal.SIGINT):
+            loop.add_signal_handler(number, stopping.set)
+        loop.add_signal_handler(signal.SIGHUP, hang_up or stopping.set)
         await server.run(ready, stopping)
 
     asyncio.run(run())

@@ -25,7 +25,7 @@ from .listening import (
 )
 from .relay_connection import Connection
 from .relay_log import Entry, Event, LogWriter, json_event, json_line, text_event, text_line
-from .relay_rules import Rule, RuleError, Rules, parse_rule, parse_rules
+from .relay_rules import Rule, RuleError, Rules, RuleText, parse_rule, parse_rules, parsed_rules
 from .relay_traffic import Traffic
 
 PROGRAM = "psu-relay"
@@ -42,7 +42,7 @@ class Relay(LoopServer):
     def __init__(
         self,
         to: int,
-        rules: Iterable[str] = (),
+        rules: Iterable[RuleText] = (),
         log: Optional[TextIO] = None,
         listen: Endpoint = Endpoint(SERVER_ADDRESS, 0),
         seed: int = 0,
@@ -54,7 +54,7 @@ class Relay(LoopServer):
         self._entry_line, self._event_line = (json_line, json_event) if is_json else (text_line, text_event)
         self._log = LogWriter(log, say) if log is not None else None
 
-    def set_rules(self, rules: Iterable[str], seed: int = 0) -> None:
+    def set_rules(self, rules: Iterable[RuleText], seed: int = 0) -> None:
         """Takes other rules, also while it runs: they are for the messages that come from now on, and count anew."""
         self._traffic.rules = parsed_rules(rules, seed)
 
@@ -113,10 +113,6 @@ class Relay(LoopServer):
             self._log.add(self._event_line(Event(time.time(), 0, "missing", f"{missing} lines had no place here")))
 
 
-def parsed_rules(lines: Iterable[str], seed: int) -> Rules:
-    return Rules([parse_rule(line, f"rule {number}") for number, line in enumerate(lines, 1)], seed)
-
-
 def make_parser() -> argparse.ArgumentParser:
     parser = argparse.ArgumentParser(prog=PROGRAM, description=__doc__,
                                      formatter_class=argparse.RawDescriptionHelpFormatter)
@@ -165,7 +161,8 @@ def main(words: Optional[List[str]] = None) -> int:
         log = open_log(arguments)
         relay = Relay(arguments.to, log=log, listen=arguments.listen, is_json=arguments.json)
         relay.take_rules(rules, seed)
-        run_until_signal(relay, lambda: announce(relay, log))
+        read_again = None if arguments.rules is None else lambda: set_again(relay, arguments, seed)
+        run_until_signal(relay, lambda: announce(relay, log), read_again)
     except RuleError as fault:
         say(str(fault))
         return 2
@@ -173,6 +170,15 @@ def main(words: Optional[List[str]] = None) -> int:
         say(str(fault))
         return 1
     return 0
+
+
+def set_again(relay: Relay, arguments: argparse.Namespace, seed: int) -> None:
+    """Reads the rules again; where one is wrong those before stay."""
+    try:
+        relay.take_rules(read_rules(arguments), seed)
+        say("the rules were read again")
+    except (RuleError, OSError) as fault:
+        say(f"the rules stay as they were: {fault}")
 
 
 def announce(relay: Relay, log: Optional[TextIO]) -> None:
