@@ -190,7 +190,7 @@ SUBJECTS: Dict[str, Subject] = {
     "server": Subject(Side.SERVER, None),
     **{name_of(kind).lower(): Subject(None, (int(kind),)) for kind in MessageType},
 }
-# These actions are for one type of message, so that their rules need no subject.
+# These actions are for one type of message, so that their rules need no subject. Another message may be repeated too.
 ONLY_KIND: Dict[Action, MessageType] = {
     Action.REFUSE: MessageType.INITIALIZE,
     Action.REPEAT: MessageType.ASYNC_SERVICE_REQUEST,
@@ -233,6 +233,9 @@ class Words:
 
     def next_is_number(self) -> bool:
         return bool(self._words) and re.fullmatch(r"[0-9.]+", self._words[0]) is not None
+
+    def next_is_one_of(self, known: Iterable[str]) -> bool:
+        return bool(self._words) and self._words[0].lower() in known
 
     def take(self, what: str) -> str:
         if not self._words:
@@ -301,7 +304,8 @@ def _read_value(rule: Rule, words: Words) -> None:
 
 def _read_subject(rule: Rule, words: Words) -> None:
     only = ONLY_KIND.get(rule.action)
-    if only is not None:
+    has_subject = rule.action is Action.REPEAT and words.next_is_one_of(SUBJECTS)
+    if only is not None and not has_subject:
         rule.kinds = (int(only),)
         return
     word = words.take("what the rule is about")
