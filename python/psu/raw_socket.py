@@ -27,10 +27,12 @@ from .listening import (
     Endpoint,
     LoopServer,
     SERVER_ADDRESS,
+    Target,
     add_listening_options,
     check_listening,
     close_soon,
     connect,
+    endpoint_of,
     read_frame,
     report,
     run_until_signal,
@@ -74,8 +76,8 @@ async def ask(stream: Stream, frame: Frame, response: MessageType) -> Frame:
 class Session:
     """A session with the server: both its connections."""
 
-    def __init__(self, port: int) -> None:
-        self._port = port
+    def __init__(self, to: Target) -> None:
+        self._to = to
         self._writers: List[asyncio.StreamWriter] = []
         self._next_id = FIRST_MESSAGE_ID
         # RMT-delivered: a response was passed on whole since the last message was sent.
@@ -124,7 +126,7 @@ class Session:
             pass
 
     async def _connect(self) -> Stream:
-        stream = await connect(self._port)
+        stream = await connect(self._to)
         self._writers.append(stream[1])
         return stream
 
@@ -204,7 +206,7 @@ class RawSocket(LoopServer):
     """The raw sockets of a server. In a test: `with RawSocket(to=server.port) as raw: .. raw.port`."""
 
     def __init__(
-        self, to: int, listen: Endpoint = Endpoint(SERVER_ADDRESS, 0), rules: Iterable[RuleText] = (), seed: int = 0
+        self, to: Target, listen: Endpoint = Endpoint(SERVER_ADDRESS, 0), rules: Iterable[RuleText] = (), seed: int = 0
     ) -> None:
         super().__init__(listen)
         self.to = to
@@ -220,7 +222,7 @@ class RawSocket(LoopServer):
             await session.begin()
             await Client(reader, writer, session, faults).run()
         except ConnectionRefusedError:
-            say(f"a client was disconnected: nothing listens on {SERVER_ADDRESS}:{self.to}")
+            say(f"a client was disconnected: nothing listens on {endpoint_of(self.to)}")
         except (Refused, FrameError, Disconnected) as fault:
             say(f"a client was disconnected: {fault}")
         except asyncio.TimeoutError:

@@ -27,6 +27,7 @@ import pytest
 from psu_pytest import TORTURE, started
 
 from .client import Instrument
+from .listening import endpoint_of
 from .raw_socket import RawSocket
 from .relay_rules import RuleText
 from .server import Server
@@ -77,7 +78,8 @@ class Bench:
 
     def connect_beside(self) -> None:
         """Opens the session beside the driver's, without the relay."""
-        self.beside = Instrument(port=self.relay.to, timeout=10.0)
+        where = endpoint_of(self.relay.to)
+        self.beside = Instrument(where.address, where.port, timeout=10.0)
 
     def next_voltage(self) -> float:
         """Sets another voltage, and returns it: a response to an earlier query has another one."""
