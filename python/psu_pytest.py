@@ -39,11 +39,16 @@ def pytest_addoption(parser: Any) -> None:
 
 
 def pytest_configure(config: Any) -> None:
-    config.addinivalue_line("markers", f"{MARKER}(rule, ..): rules of psu-relay for the server of the test")
+    register_marker(config)
     if config.getini("psu_short_names"):
         import psu_pytest_names
 
         config.pluginmanager.register(psu_pytest_names, "psu_pytest_names")
+
+
+def register_marker(config: Any) -> None:
+    """Has pytest know the marker, also in a conftest.py that only imports the fixtures."""
+    config.addinivalue_line("markers", f"{MARKER}(rule, ..): rules of psu-relay for the server of the test")
 
 
 def pytest_runtest_setup(item: Any) -> None:

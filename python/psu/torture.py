@@ -5,8 +5,8 @@
 
     @pytest.fixture
     def driver(psu_torture):
-        supply = MySupply(psu_torture.resource, timeout=0.5)
-        yield Driver(query=lambda: supply.voltage, save=supply.save, recover=supply.reconnect, timeout=0.5)
+        supply = MySupply(psu_torture.resource, timeout=1)
+        yield Driver(query=lambda: supply.voltage, save=supply.save, recover=supply.reconnect, timeout=1)
         supply.close()
 
 A driver survives a fault where its query raises or returns the right voltage, never another one, in time; where after
@@ -199,7 +199,7 @@ def in_a_query(name: str, rules: Callable[[float], Sequence[RuleText]], is_survi
             trial.recover(tries)
 
 
-in_a_query("a slow response, in time", lambda timeout: [f"delay {timeout * 0.4} response times 3"], is_survivable=True)
+in_a_query("a slow response, in time", lambda timeout: [f"delay {timeout * 0.15} response times 3"], is_survivable=True)
 in_a_query("a response in small pieces, in time", lambda timeout: ["trickle 3 0.005 response times 3"], is_survivable=True)
 in_a_query("two responses", lambda timeout: ["repeat 0 response times 1"], is_survivable=True)
 in_a_query("two responses, the second one late", lambda timeout: ["repeat 0.1 response times 1"], is_survivable=True)
