@@ -7,3 +7,8 @@ Where the package `psu` is installed, a driver's tests have these fixtures witho
 """
 import psu_path  # noqa: F401  (finds ../python)
 from psu.pytest_plugin import *  # noqa: F401, F403
+from psu_pytest import register_marker
+
+
+def pytest_configure(config):
+    register_marker(config)

@@ -49,6 +49,13 @@ def test_hislip(server):
     assert ended.stdout == '5.000;0.000\n0,"No error"\n'
 
 
+def test_hislip_of_a_message_that_is_refused(server):
+    for message, error in (("VOLT 99", '-222,"Data out of range"'), ("FOO?", '-113,"Undefined header"')):
+        ended = run("hislip.py", "--port", server.port, "VOLT?", message, "CURR?")
+        assert (ended.returncode, ended.stdout) == (1, "0.000\n")
+        assert ended.stderr == f"hislip.py: {message}: {error}\n"
+
+
 def test_session(server):
     lines = run("session.py", "--port", server.port).stdout.splitlines()
     assert lines[-1] == 'VOLT 99;:SYST:ERR? -> -222,"Data out of range"'

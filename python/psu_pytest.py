@@ -27,6 +27,7 @@ if TYPE_CHECKING:
 
 PACKAGE = os.path.join(os.path.dirname(os.path.abspath(__file__)), "psu", "__init__.py")
 MARKER = "psu_faults"
+TORTURE = "psu_torture"  # the property of a report of psu.torture: the name of the fault
 MOST_LINES = 5000  # of traffic in the report of a test: the last ones
 
 
@@ -38,11 +39,16 @@ def pytest_addoption(parser: Any) -> None:
 
 
 def pytest_configure(config: Any) -> None:
-    config.addinivalue_line("markers", f"{MARKER}(rule, ..): rules of psu-relay for the server of the test")
+    register_marker(config)
     if config.getini("psu_short_names"):
         import psu_pytest_names
 
         config.pluginmanager.register(psu_pytest_names, "psu_pytest_names")
+
+
+def register_marker(config: Any) -> None:
+    """Has pytest know the marker, also in a conftest.py that only imports the fixtures."""
+    config.addinivalue_line("markers", f"{MARKER}(rule, ..): rules of psu-relay for the server of the test")
 
 
 def pytest_runtest_setup(item: Any) -> None:
@@ -59,6 +65,28 @@ def pytest_runtest_makereport(item: Any) -> Iterator[None]:
     if report.failed:
         for it in WATCHED:
             report.sections += it.sections()
+
+
+def pytest_terminal_summary(terminalreporter: Any) -> None:
+    """Writes a table of the faults of psu.torture, where there were any."""
+    reports = [it for key in ("passed", "failed", "error") for it in terminalreporter.stats.get(key, [])]
+    results = {}
+    for report in reports:
+        name = dict(getattr(report, "user_properties", ())).get(TORTURE)
+        if name is not None and (report.when == "call" or report.failed):
+            results[name] = "survived" if report.passed else f"NOT SURVIVED: {first_line(report)}"
+    if results:
+        survived = sum(it == "survived" for it in results.values())
+        terminalreporter.section(f"psu torture: {survived} of {len(results)} faults survived")
+        for name in sorted(results):
+            terminalreporter.line(f"{name:50} {results[name]}")
+
+
+def first_line(report: Any) -> str:
+    """Returns why a test failed, in a line."""
+    crash = getattr(report.longrepr, "reprcrash", None)
+    message: str = crash.message if crash is not None else str(report.longrepr)
+    return message.split("\n")[0].rpartition("NotSurvived: ")[2]
 
 
 # What is watched

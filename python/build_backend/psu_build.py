@@ -30,6 +30,7 @@ SCRIPTS = {
     "psu-relay": "psu.relay:main",
     "psu-socket": "psu.raw_socket:main",
     "psu-backup": "psu.backup:main",
+    "psu-send": "psu.send:main",
 }
 PLUGINS = {"psu": "psu_pytest"}
 TOP_MODULES = ("psu_pytest.py", "psu_pytest_names.py")  # beside the package

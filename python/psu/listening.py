@@ -9,7 +9,7 @@ import socket
 import struct
 import sys
 import threading
-from typing import Callable, NamedTuple, Optional, Set, Tuple, TypeVar
+from typing import Callable, NamedTuple, Optional, Set, Tuple, TypeVar, Union
 
 from .build_note import Version
 from .frames import (
@@ -24,7 +24,8 @@ from .frames import (
 )
 
 SERVER_ADDRESS = "127.0.0.1"
-NO_PROTECTION = "--yes-i-know-it-has-no-protection"
+ALLOW_REMOTE = "--allow-remote"
+OLD_ALLOW_REMOTE = "--yes-i-know-it-has-no-protection"  # as it was called first
 LINGER_SECONDS = 2.0  # the longest wait for tasks at the end of the program
 SEND_SECONDS = 60.0  # the longest wait for the peer of a closed connection to take what was sent to it
 
@@ -56,11 +57,21 @@ def parse_port(text: str, least: int = 1) -> int:
     return port
 
 
-def parse_server_port(text: str) -> int:
+def parse_server(text: str) -> Endpoint:
+    """Reads where a server is: `PORT` on 127.0.0.1, or `HOST:PORT` with a name or an address."""
+    host, _, port = text.rpartition(":")
+    host = host[1:-1] if host.startswith("[") and host.endswith("]") else host
     try:
-        return parse_port(text)
+        return Endpoint(host or SERVER_ADDRESS, parse_port(port))
     except ValueError:
-        raise argparse.ArgumentTypeError(f"{text!r} is not a port") from None
+        raise argparse.ArgumentTypeError(f"{text!r} is not a port, or HOST:PORT") from None
+
+
+Target = Union[int, Endpoint]  # where a server is; a port alone is one of this machine
+
+
+def endpoint_of(target: Target) -> Endpoint:
+    return target if isinstance(target, Endpoint) else Endpoint(SERVER_ADDRESS, target)
 
 
 def add_listening_options(parser: argparse.ArgumentParser, port: int) -> None:
@@ -69,16 +80,16 @@ def add_listening_options(parser: argparse.ArgumentParser, port: int) -> None:
     default = Endpoint(SERVER_ADDRESS, port)
     parser.add_argument("--listen", type=parse_endpoint, default=default, metavar="ADDRESS:PORT",
                         help=f"where clients connect ({default}); port 0 takes a free one")
-    parser.add_argument("--to", type=parse_server_port, default=DEFAULT_PORT, metavar="PORT",
-                        help=f"the server's port on {SERVER_ADDRESS} ({DEFAULT_PORT})")
-    parser.add_argument(NO_PROTECTION, action="store_true", dest="is_open",
+    server = Endpoint(SERVER_ADDRESS, DEFAULT_PORT)
+    parser.add_argument("--to", type=parse_server, default=server, metavar="[HOST:]PORT", help=f"the server ({server})")
+    parser.add_argument(ALLOW_REMOTE, OLD_ALLOW_REMOTE, action="store_true", dest="is_open",
                         help="listen on an address that other machines reach, where anyone commands the instrument")
 
 
 def check_listening(parser: argparse.ArgumentParser, arguments: argparse.Namespace) -> None:
     """Ends the program where other machines reach the address and that is not allowed."""
     if not ipaddress.ip_address(arguments.listen.address).is_loopback and not arguments.is_open:
-        parser.error(f"anyone who reaches {arguments.listen} would command the instrument: add {NO_PROTECTION}")
+        parser.error(f"anyone who reaches {arguments.listen} would command the instrument: add {ALLOW_REMOTE}")
 
 
 Self = TypeVar("Self", bound="LoopServer")
@@ -202,9 +213,10 @@ async def read_frame(reader: asyncio.StreamReader, largest: int = LARGEST_PAYLOA
     return Frame(header.kind, header.control, header.parameter, payload)
 
 
-async def connect(port: int) -> Tuple[asyncio.StreamReader, asyncio.StreamWriter]:
+async def connect(target: Target) -> Tuple[asyncio.StreamReader, asyncio.StreamWriter]:
     """Connects to the server."""
-    return await asyncio.open_connection(SERVER_ADDRESS, port)
+    where = endpoint_of(target)
+    return await asyncio.open_connection(where.address, where.port)
 
 
 def keep_alive(writer: asyncio.StreamWriter) -> None:
@@ -227,12 +239,16 @@ def reset(writer: asyncio.StreamWriter) -> None:
     writer.transport.abort()
 
 
-def run_until_signal(server: LoopServer, ready: Callable[[], None]) -> None:
-    """Serves until SIGTERM, SIGINT or SIGHUP; raises OSError where the port can't be had."""
+def run_until_signal(
+    server: LoopServer, ready: Callable[[], None], hang_up: Optional[Callable[[], None]] = None
+) -> None:
+    """Serves until SIGTERM or SIGINT, and SIGHUP where that is not for `hang_up`; raises OSError without a port."""
     async def run() -> None:
         stopping = asyncio.Event()
-        for number in (signal.SIGTERM, signal.SIGINT, signal.SIGHUP):
-            asyncio.get_running_loop().add_signal_handler(number, stopping.set)
+        loop = asyncio.get_running_loop()
+        for number in (signal.SIGTERM, signal.SIGINT):
+            loop.add_signal_handler(number, stopping.set)
+        loop.add_signal_handler(signal.SIGHUP, hang_up or stopping.set)
         await server.run(ready, stopping)
 
     asyncio.run(run())

@@ -10,7 +10,7 @@ from __future__ import annotations
 import argparse
 import asyncio
 import sys
-from typing import List, Optional, Tuple
+from typing import Iterable, List, Optional, Tuple
 
 from .frames import (
     FATAL_ERRORS,
@@ -27,15 +27,19 @@ from .listening import (
     Endpoint,
     LoopServer,
     SERVER_ADDRESS,
+    Target,
     add_listening_options,
     check_listening,
     close_soon,
     connect,
+    endpoint_of,
     read_frame,
     report,
     run_until_signal,
 )
+from .raw_faults import Disconnected, RawFaults, check_rules
 from .raw_messages import LARGEST_PART, Divider
+from .relay_rules import RuleError, RuleText, parsed_rules
 
 PROGRAM = "psu-socket"
 DEFAULT_PORT = 5025
@@ -72,8 +76,8 @@ async def ask(stream: Stream, frame: Frame, response: MessageType) -> Frame:
 class Session:
     """A session with the server: both its connections."""
 
-    def __init__(self, port: int) -> None:
-        self._port = port
+    def __init__(self, to: Target) -> None:
+        self._to = to
         self._writers: List[asyncio.StreamWriter] = []
         self._next_id = FIRST_MESSAGE_ID
         # RMT-delivered: a response was passed on whole since the last message was sent.
@@ -122,7 +126,7 @@ class Session:
             pass
 
     async def _connect(self) -> Stream:
-        stream = await connect(self._port)
+        stream = await connect(self._to)
         self._writers.append(stream[1])
         return stream
 
@@ -130,10 +134,13 @@ class Session:
 class Client:
     """A client at a raw socket, with its session."""
 
-    def __init__(self, reader: asyncio.StreamReader, writer: asyncio.StreamWriter, session: Session) -> None:
+    def __init__(
+        self, reader: asyncio.StreamReader, writer: asyncio.StreamWriter, session: Session, faults: RawFaults
+    ) -> None:
         self._reader = reader
         self._writer = writer
         self._session = session
+        self._faults = faults
         self._last_id: Optional[int] = None  # of the message after the client's last one
         self._is_gone = False  # it takes no more responses
 
@@ -159,31 +166,38 @@ class Client:
             divider.feed(data)
             piece = divider.next_piece()
             while piece is not None:
-                await self._session.send(piece.data, piece.is_end)
+                await self._pass_message(piece.data, piece.is_end)
                 piece = divider.next_piece()
             if not data:
                 break
         rest = divider.rest()
         if rest:
-            await self._session.send(rest, True)
+            await self._pass_message(rest, True)
         self._last_id = await self._session.send(LAST_MESSAGE, True)
+
+    async def _pass_message(self, data: bytes, is_end: bool) -> None:
+        passed = await self._faults.take_command(data, is_end)
+        if passed is not None:
+            self._faults.note_text(await self._session.send(passed, is_end), passed)
+        if is_end:
+            self._faults.end_command()
 
     async def _pass_responses(self) -> None:
         while True:
             frame = await self._session.receive()
             if frame.parameter == self._last_id:
                 return
-            await self._pass_response(frame.payload)
+            await self._pass_response(frame)
             if frame.kind == MessageType.DATA_END:
                 self._session.note_delivered()
 
-    async def _pass_response(self, payload: bytes) -> None:
+    async def _pass_response(self, frame: Frame) -> None:
         # A client that has gone without reading its responses has its messages executed all the same.
         if self._is_gone:
             return
         try:
-            self._writer.write(payload)
-            await self._writer.drain()
+            is_end = frame.kind == MessageType.DATA_END
+            await self._faults.take_response(self._writer, frame.parameter, frame.payload, is_end)
         except ConnectionError:
             self._is_gone = True
 
@@ -191,18 +205,25 @@ class Client:
 class RawSocket(LoopServer):
     """The raw sockets of a server. In a test: `with RawSocket(to=server.port) as raw: .. raw.port`."""
 
-    def __init__(self, to: int, listen: Endpoint = Endpoint(SERVER_ADDRESS, 0)) -> None:
+    def __init__(
+        self, to: Target, listen: Endpoint = Endpoint(SERVER_ADDRESS, 0), rules: Iterable[RuleText] = (), seed: int = 0
+    ) -> None:
         super().__init__(listen)
         self.to = to
+        self._rules = parsed_rules(rules, seed)
+        check_rules(self._rules)
+        self._clients = 0
 
     async def serve(self, reader: asyncio.StreamReader, writer: asyncio.StreamWriter) -> None:
         session = Session(self.to)
+        self._clients += 1
+        faults = RawFaults(self._rules, self._clients)
         try:
             await session.begin()
-            await Client(reader, writer, session).run()
+            await Client(reader, writer, session, faults).run()
         except ConnectionRefusedError:
-            say(f"a client was disconnected: nothing listens on {SERVER_ADDRESS}:{self.to}")
-        except (Refused, FrameError) as fault:
+            say(f"a client was disconnected: nothing listens on {endpoint_of(self.to)}")
+        except (Refused, FrameError, Disconnected) as fault:
             say(f"a client was disconnected: {fault}")
         except asyncio.TimeoutError:
             say("a client was disconnected: the server did not respond")
@@ -217,15 +238,20 @@ class RawSocket(LoopServer):
 
 
 def main(words: Optional[List[str]] = None) -> int:
-    """Runs the program; returns its exit status: 1 for a fault, with a line on standard error."""
+    """Runs the program; returns its exit status: 1 for a fault, 2 for a wrong rule, with a line on standard error."""
     parser = argparse.ArgumentParser(prog=PROGRAM, description=__doc__,
                                      formatter_class=argparse.RawDescriptionHelpFormatter)
     add_listening_options(parser, DEFAULT_PORT)
+    parser.add_argument("--rule", action="append", default=[], metavar="RULE", help="a fault, as the rules of psu-relay")
+    parser.add_argument("--seed", type=int, default=0, help="the seed of what a rule leaves to chance (0)")
     arguments = parser.parse_args(words)
     check_listening(parser, arguments)
-    raw = RawSocket(arguments.to, arguments.listen)
     try:
+        raw = RawSocket(arguments.to, arguments.listen, arguments.rule, arguments.seed)
         run_until_signal(raw, lambda: print(f"listening on {Endpoint(raw.listen.address, raw.port)}", flush=True))
+    except RuleError as fault:
+        say(str(fault))
+        return 2
     except OSError as fault:
         say(str(fault))
         return 1

@@ -11,21 +11,25 @@ import asyncio
 import random
 import sys
 import time
-from typing import Iterable, List, Optional, TextIO
+from typing import BinaryIO, Iterable, List, Optional, TextIO
 
 from .listening import (
     SERVER_ADDRESS,
     Endpoint,
     LoopServer,
+    Target,
     add_listening_options,
     check_listening,
     connect,
+    endpoint_of,
     report,
     run_until_signal,
 )
 from .relay_connection import Connection
 from .relay_log import Entry, Event, LogWriter, json_event, json_line, text_event, text_line
-from .relay_rules import Rule, RuleError, Rules, parse_rule, parse_rules
+from .relay_pcap import FILE_HEADER, Packets
+from .relay_rules import Rule, RuleError, Rules, RuleText, parse_rule, parse_rules, parsed_rules
+from .relay_summary import Summary
 from .relay_traffic import Traffic
 
 PROGRAM = "psu-relay"
@@ -41,20 +45,26 @@ class Relay(LoopServer):
 
     def __init__(
         self,
-        to: int,
-        rules: Iterable[str] = (),
+        to: Target,
+        rules: Iterable[RuleText] = (),
         log: Optional[TextIO] = None,
         listen: Endpoint = Endpoint(SERVER_ADDRESS, 0),
         seed: int = 0,
         is_json: bool = False,
+        pcap: Optional[BinaryIO] = None,
     ) -> None:
         super().__init__(listen)
         self.to = to
+        self.summary = Summary()
+        self._packets = Packets()
+        self._pcap = LogWriter(pcap, say) if pcap is not None else None
+        if self._pcap is not None:
+            self._pcap.add(FILE_HEADER)
         self._traffic = Traffic(parsed_rules(rules, seed), self._write_entry, self._write_event)
         self._entry_line, self._event_line = (json_line, json_event) if is_json else (text_line, text_event)
         self._log = LogWriter(log, say) if log is not None else None
 
-    def set_rules(self, rules: Iterable[str], seed: int = 0) -> None:
+    def set_rules(self, rules: Iterable[RuleText], seed: int = 0) -> None:
         """Takes other rules, also while it runs: they are for the messages that come from now on, and count anew."""
         self._traffic.rules = parsed_rules(rules, seed)
 
@@ -75,21 +85,24 @@ class Relay(LoopServer):
         await super().start()
         listen = Endpoint(self.listen.address, self.port)
         rules = self._traffic.rules
-        self._traffic.event(None, "listening", f"{listen}, to {SERVER_ADDRESS}:{self.to}, seed {rules.seed}, "
+        self._traffic.event(None, "listening", f"{listen}, to {endpoint_of(self.to)}, seed {rules.seed}, "
                                                f"{time.strftime('%Y-%m-%d %H:%M:%S %z')}")
         for rule in rules.rules:
             self._traffic.event(None, rule.name, rule.line)
 
     async def stop(self) -> None:
         await super().stop()
-        if self._log is not None:
-            await asyncio.get_running_loop().run_in_executor(None, self._log.end, 2.0)
+        for line in self.summary.lines(self._traffic.unanswered, self.unused_rules()):
+            self._traffic.event(None, "summary", line)
+        for writer in (self._log, self._pcap):
+            if writer is not None:
+                await asyncio.get_running_loop().run_in_executor(None, writer.end, 2.0)
 
     async def serve(self, reader: asyncio.StreamReader, writer: asyncio.StreamWriter) -> None:
         try:
             from_server, to_server = await connect(self.to)
         except OSError as fault:
-            self._traffic.event(None, "no server", f"at {SERVER_ADDRESS}:{self.to}: {fault.strerror or fault}")
+            self._traffic.event(None, "no server", f"at {endpoint_of(self.to)}: {fault.strerror or fault}")
             return
         await Connection(self._traffic, writer, to_server).run(reader, from_server)
 
@@ -97,6 +110,9 @@ class Relay(LoopServer):
         self._traffic.event(None, "too many", f"more than {self.connections_at_once} connections: one was closed")
 
     def _write_entry(self, entry: Entry) -> None:
+        self.summary.add(entry)
+        if self._pcap is not None:
+            self._pcap.add(self._packets.of(entry))
         if self._log is not None:
             self._write_missing()
             self._log.add(self._entry_line(entry))
@@ -113,15 +129,12 @@ class Relay(LoopServer):
             self._log.add(self._event_line(Event(time.time(), 0, "missing", f"{missing} lines had no place here")))
 
 
-def parsed_rules(lines: Iterable[str], seed: int) -> Rules:
-    return Rules([parse_rule(line, f"rule {number}") for number, line in enumerate(lines, 1)], seed)
-
-
 def make_parser() -> argparse.ArgumentParser:
     parser = argparse.ArgumentParser(prog=PROGRAM, description=__doc__,
                                      formatter_class=argparse.RawDescriptionHelpFormatter)
     add_listening_options(parser, DEFAULT_PORT)
     parser.add_argument("--log", metavar="FILE", help="where the traffic is written (standard output)")
+    parser.add_argument("--pcap", metavar="FILE", help="a file of the traffic for Wireshark, which is written anew")
     parser.add_argument("--json", action="store_true", help="write each line of the log as a JSON object")
     parser.add_argument("--quiet", action="store_true", help="write no log")
     parser.add_argument("--rules", metavar="FILE", help="a file of rules, one a line")
@@ -163,9 +176,11 @@ def main(words: Optional[List[str]] = None) -> int:
     try:
         rules = read_rules(arguments)
         log = open_log(arguments)
-        relay = Relay(arguments.to, log=log, listen=arguments.listen, is_json=arguments.json)
+        pcap = open(arguments.pcap, "wb") if arguments.pcap is not None else None
+        relay = Relay(arguments.to, log=log, listen=arguments.listen, is_json=arguments.json, pcap=pcap)
         relay.take_rules(rules, seed)
-        run_until_signal(relay, lambda: announce(relay, log))
+        read_again = None if arguments.rules is None else lambda: set_again(relay, arguments, seed)
+        run_until_signal(relay, lambda: announce(relay, log), read_again)
     except RuleError as fault:
         say(str(fault))
         return 2
@@ -173,6 +188,15 @@ def main(words: Optional[List[str]] = None) -> int:
         say(str(fault))
         return 1
     return 0
+
+
+def set_again(relay: Relay, arguments: argparse.Namespace, seed: int) -> None:
+    """Reads the rules again; where one is wrong those before stay."""
+    try:
+        relay.take_rules(read_rules(arguments), seed)
+        say("the rules were read again")
+    except (RuleError, OSError) as fault:
+        say(f"the rules stay as they were: {fault}")
 
 
 def announce(relay: Relay, log: Optional[TextIO]) -> None:

@@ -8,6 +8,7 @@ from typing import Awaitable, Callable, Dict, List, Optional
 
 from .frames import HEADER_SIZE, Frame, FrameError, Header, MessageType, unpack_header
 from .listening import close_soon, reset
+from .relay_changes import CHANGES, changed, fault_text
 from .relay_log import Entry, payload_text
 from .relay_rules import Action, Rule, Seen, Side
 from .relay_session import Session, Transmissions
@@ -136,6 +137,7 @@ class Direction:
             Action.FATAL_ERROR: self._fatal_error,
             Action.ERROR: self._error,
             Action.REPEAT: self._repeat,
+            Action.TRICKLE: self._trickle,
         }
 
     async def run(self) -> None:
@@ -175,6 +177,9 @@ class Direction:
             self._write(header, payload)
             self._log(header, payload, seconds, "")
             await self._finish(header, payload)
+            return
+        if action in CHANGES:
+            await self._pass_changed(rule, header, payload, seconds)
             return
         self._log(header, payload, seconds, f"{fault_text(rule, action)}: {rule.name}")
         await self._acts[action](rule, header, payload)
@@ -235,10 +240,13 @@ class Direction:
 
     # Passing on
 
-    def _write(self, header: Header, payload: bytes) -> None:
+    def _note_delivered(self, header: Header) -> None:
         session = self._connection.session
         if session is not None and self._side is Side.SERVER:
             session.note_delivered(header)
+
+    def _write(self, header: Header, payload: bytes) -> None:
+        self._note_delivered(header)
         if header.length == len(payload):
             self._outlet.write(header.pack() + payload)
         else:
@@ -283,6 +291,21 @@ class Direction:
             piece = await self._reader.read(PIECE)
 
     # Faults
+
+    async def _pass_changed(self, rule: Rule, header: Header, payload: bytes, seconds: Optional[float]) -> None:
+        new = changed(rule, payload, self._traffic.rules.generator)
+        self._log(header, payload, seconds, f"passed on as {payload_text(new, len(new))}: {rule.name}")
+        await self._pass(header._replace(length=header.length - len(payload) + len(new)), new)
+
+    async def _trickle(self, rule: Rule, header: Header, payload: bytes) -> None:
+        frame = header.pack() + payload
+        self._outlet.begin()
+        for at in range(0, len(frame), rule.size):
+            self._outlet.write(frame[at : at + rule.size])
+            await self._outlet.writer.drain()
+            await self._connection.wait(rule.value)
+        self._note_delivered(header)
+        await self._finish(header, payload)
 
     async def _delay(self, rule: Rule, header: Header, payload: bytes) -> None:
         await self._connection.wait(rule.value or 0)
@@ -354,26 +377,3 @@ class Direction:
             session.close()
         self._connection.close()
         raise Dropped
-
-
-FAULT_TEXTS = {
-    Action.DELAY: "delayed {} s",
-    Action.HOLD: "held back",
-    Action.DROP_BEFORE: "connection dropped before it",
-    Action.DROP_AFTER: "connection dropped after it",
-    Action.CUT: "cut after {} bytes, connection dropped",
-    Action.REFUSE: "session refused",
-    Action.STOP_READING: "nothing more is read",
-    Action.FATAL_ERROR: "FatalError instead, connection dropped",
-    Action.ERROR: "Error instead",
-    Action.REPEAT: "repeated after {} s",
-}
-
-
-def fault_text(rule: Rule, action: Action) -> str:
-    """Returns what a rule does to a message, for its line in the log."""
-    if action is Action.CUT and rule.value is None:
-        return "cut in the middle, connection dropped"
-    if action is Action.STOP_READING and rule.value is not None:
-        return f"nothing more is read for {rule.value:g} s"
-    return FAULT_TEXTS[action].format(f"{rule.value or 0:g}")

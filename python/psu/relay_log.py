@@ -5,6 +5,7 @@
 """
 from __future__ import annotations
 
+import base64
 import collections
 import datetime
 import functools
@@ -12,7 +13,7 @@ import json
 import re
 import threading
 import time
-from typing import Callable, Deque, Dict, List, NamedTuple, Optional, TextIO
+from typing import IO, AnyStr, Callable, Deque, Dict, Generic, List, NamedTuple, Optional
 
 from .frames import WITH_MESSAGE_ID, MessageType, control_in_words, name_of
 
@@ -161,7 +162,7 @@ def _moment(moment: float) -> str:
 
 
 def json_line(entry: Entry) -> str:
-    """Returns a message as a JSON object. `payload` is the text of `text_line`, `length` the number of its bytes."""
+    """Returns a message as a JSON object: `payload` is the text of `text_line`, `data` all its bytes in base64."""
     item: Dict[str, object] = {
         "time": _moment(entry.time),
         "session": entry.session,
@@ -174,6 +175,8 @@ def json_line(entry: Entry) -> str:
         "length": entry.length,
         "payload": _shown_payload(entry),
     }
+    if entry.payload:
+        item["data"] = base64.b64encode(entry.payload).decode()
     if entry.seconds is not None:
         item["response_ms"] = round(entry.seconds * 1000, 3)
     if entry.fault:
@@ -189,14 +192,14 @@ def json_event(event: Event) -> str:
 # Writing
 
 
-class LogWriter:
-    """Writes lines by a thread of its own. Where the file takes none, lines wait, and beyond a limit are left out."""
+class LogWriter(Generic[AnyStr]):
+    """Writes lines, or other pieces, by a thread of its own. Where the file takes none, lines wait, and beyond a limit are left out."""
 
-    def __init__(self, file: TextIO, report: Callable[[str], None], limit: int = WAITING_LINES) -> None:
-        self._file = file
+    def __init__(self, file: IO[AnyStr], report: Callable[[str], None], limit: int = WAITING_LINES) -> None:
+        self._file: IO[AnyStr] = file
         self._report = report
         self._limit = limit
-        self._lines: Deque[str] = collections.deque()
+        self._lines: Deque[AnyStr] = collections.deque()
         self._missing = 0
         self._has_lines = threading.Event()
         self._is_ending = False
@@ -204,7 +207,7 @@ class LogWriter:
         self._thread = threading.Thread(target=self._run, daemon=True)
         self._thread.start()
 
-    def add(self, line: str) -> bool:
+    def add(self, line: AnyStr) -> bool:
         """Takes a line; returns whether it had place."""
         if len(self._lines) >= self._limit:
             self._missing += 1
@@ -249,6 +252,7 @@ class LogWriter:
         self._is_writing = True
         # Lines that come meanwhile wait for the next call, so that each call ends.
         batch = [self._lines.popleft() for _ in range(len(self._lines))]
-        self._file.write("".join(batch))
+        if batch:
+            self._file.write(type(batch[0])().join(batch))
         self._file.flush()
         self._is_writing = False

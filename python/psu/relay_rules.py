@@ -13,7 +13,7 @@ import enum
 import random
 import re
 import shlex
-from typing import Callable, Dict, Iterable, List, NamedTuple, Optional, Tuple
+from typing import Callable, Dict, Iterable, List, NamedTuple, Optional, Tuple, Union
 
 from .frames import MessageType, name_of
 
@@ -42,6 +42,10 @@ class Action(enum.Enum):
     FATAL_ERROR = "fatal-error"
     ERROR = "error"
     REPEAT = "repeat"
+    CORRUPT = "corrupt"
+    REPLACE = "replace"
+    NOISE = "noise"
+    TRICKLE = "trickle"
 
 
 class Seen(NamedTuple):
@@ -71,6 +75,9 @@ class Rule:
     name: str
     action: Action
     value: Optional[float] = None
+    old: bytes = b""  # what is replaced
+    new: bytes = b""
+    size: int = 0  # of the pieces in which a message trickles
     side: Optional[Side] = None
     kinds: Optional[Tuple[int, ...]] = None
     text: bytes = b""
@@ -111,24 +118,49 @@ class Rule:
         return f"{self.name} ({self.line})"
 
 
+class Decision(NamedTuple):
+    """A rule that a function of Python decides: it returns an action with its value, as "delay 2", or None."""
+
+    name: str
+    decide: Callable[[Seen], Optional[str]]
+
+    @property
+    def line(self) -> str:
+        return f"the function {getattr(self.decide, '__name__', 'without a name')}"
+
+    def rule_for(self, seen: Seen) -> Optional[Rule]:
+        text = self.decide(seen)
+        return None if text is None else parse_action(text, self.name)
+
+
 class Rules:
     """All rules, in order. The first that applies to a message decides; the later ones do not count it."""
 
-    def __init__(self, rules: Iterable[Rule], seed: int) -> None:
+    def __init__(self, rules: Iterable[Union[Rule, Decision]], seed: int) -> None:
         self.rules = list(rules)
         self.seed = seed
         self._counts: Dict[int, Counts] = {}
         self._unused = set(range(len(self.rules)))
+        self.generator = random.Random(f"{seed}/changes")  # of the changed bytes and numbers
 
     def choose(self, seen: Seen, of_session: Dict[int, Counts]) -> Optional[Rule]:
         """Returns the rule that applies to a message. `of_session` has the counts of its session."""
         for place, rule in enumerate(self.rules):
-            if rule.matches(seen) and rule.count(self._counts_of(place, rule, seen.session, of_session)):
+            chosen = self._applied(place, rule, seen, of_session)
+            if chosen is not None:
                 self._unused.discard(place)
-                return rule
+                return chosen
         return None
 
-    def unused(self) -> List[Rule]:
+    def _applied(
+        self, place: int, rule: Union[Rule, Decision], seen: Seen, of_session: Dict[int, Counts]
+    ) -> Optional[Rule]:
+        if isinstance(rule, Decision):
+            return rule.rule_for(seen)
+        is_counted = rule.matches(seen) and rule.count(self._counts_of(place, rule, seen.session, of_session))
+        return rule if is_counted else None
+
+    def unused(self) -> "List[Union[Rule, Decision]]":
         """Returns the rules that never applied, in order."""
         return [self.rules[place] for place in sorted(self._unused)]
 
@@ -158,7 +190,7 @@ SUBJECTS: Dict[str, Subject] = {
     "server": Subject(Side.SERVER, None),
     **{name_of(kind).lower(): Subject(None, (int(kind),)) for kind in MessageType},
 }
-# These actions are for one type of message, so that their rules need no subject.
+# These actions are for one type of message, so that their rules need no subject. Another message may be repeated too.
 ONLY_KIND: Dict[Action, MessageType] = {
     Action.REFUSE: MessageType.INITIALIZE,
     Action.REPEAT: MessageType.ASYNC_SERVICE_REQUEST,
@@ -182,6 +214,8 @@ VALUES: Dict[Action, Value] = {
     Action.CUT: Value("a number of bytes", 0, 1 << 32, True),
     Action.FATAL_ERROR: CODES,
     Action.ERROR: CODES,
+    Action.CORRUPT: Value("a number of bytes", 1, 65536, True),
+    Action.NOISE: Value("a standard deviation", 0, 1e9, False),
 }
 
 
@@ -199,6 +233,9 @@ class Words:
 
     def next_is_number(self) -> bool:
         return bool(self._words) and re.fullmatch(r"[0-9.]+", self._words[0]) is not None
+
+    def next_is_one_of(self, known: Iterable[str]) -> bool:
+        return bool(self._words) and self._words[0].lower() in known
 
     def take(self, what: str) -> str:
         if not self._words:
@@ -225,19 +262,41 @@ class Words:
 def parse_rule(line: str, name: str) -> Rule:
     """Reads a rule; raises RuleError where it is not one."""
     words = Words(line)
-    try:
-        action = Action(words.take("an action"))
-    except ValueError:
-        raise RuleError(f"the first word is one of {', '.join(action.value for action in Action)}") from None
-    rule = Rule(line.strip(), name, action)
-    _read_value(rule, words)
+    rule = _read_action(line, name, words)
     _read_subject(rule, words)
     while words:
         _read_condition(rule, words)
     return rule
 
 
+def parse_action(text: str, name: str) -> Rule:
+    """Reads an action and its value alone; raises RuleError where it is none."""
+    words = Words(text)
+    rule = _read_action(text, name, words)
+    if words:
+        raise RuleError(f"{text!r} has more than an action and its value")
+    return rule
+
+
+def _read_action(line: str, name: str, words: Words) -> Rule:
+    try:
+        action = Action(words.take("an action"))
+    except ValueError:
+        raise RuleError(f"the first word is one of {', '.join(action.value for action in Action)}") from None
+    rule = Rule(line.strip(), name, action)
+    _read_value(rule, words)
+    return rule
+
+
 def _read_value(rule: Rule, words: Words) -> None:
+    if rule.action is Action.REPLACE:
+        rule.old = words.take("the text to be replaced").encode("utf-8", "surrogateescape")
+        if not rule.old or words.take("'by'") != "by":
+            raise RuleError("a text is replaced 'by' another one: replace OLD by NEW")
+        rule.new = words.take("the new text").encode("utf-8", "surrogateescape")
+    elif rule.action is Action.TRICKLE:
+        rule.size = words.count("a number of bytes")
+        rule.value = words.number("seconds", 0, 86400)
     value = VALUES.get(rule.action)
     if value is not None and (words.next_is_number() or not value.is_optional):
         rule.value = words.number(value.what, value.least, value.most)
@@ -245,7 +304,8 @@ def _read_value(rule: Rule, words: Words) -> None:
 
 def _read_subject(rule: Rule, words: Words) -> None:
     only = ONLY_KIND.get(rule.action)
-    if only is not None:
+    has_subject = rule.action is Action.REPEAT and words.next_is_one_of(SUBJECTS)
+    if only is not None and not has_subject:
         rule.kinds = (int(only),)
         return
     word = words.take("what the rule is about")
@@ -310,6 +370,18 @@ CONDITIONS: Dict[str, Callable[[Rule, Words], None]] = {
     "probability": _read_probability,
     "per-session": _read_per_session,
 }
+
+
+RuleText = Union[str, Callable[[Seen], Optional[str]]]  # a line, or a function that decides
+
+
+def parsed_rules(rules: Iterable[RuleText], seed: int) -> Rules:
+    """Returns the rules of a test: lines, and functions."""
+    parsed: List[Union[Rule, Decision]] = []
+    for number, rule in enumerate(rules, 1):
+        name = f"rule {number}"
+        parsed.append(parse_rule(rule, name) if isinstance(rule, str) else Decision(name, rule))
+    return Rules(parsed, seed)
 
 
 def parse_rules(text: str) -> List[Rule]:

@@ -15,6 +15,8 @@ KEPT_QUERIES = 64  # of a session; beyond it the oldest are no longer known
 KEPT_TEXT = 200  # bytes of a query's text
 
 REQUESTS = frozenset(REQUEST_OF.values())
+# What a rule does to every frame of a message that is sent as several.
+ON_EACH_FRAME = (Action.DROP_AFTER, Action.REPLACE, Action.NOISE, Action.TRICKLE)
 
 
 class Query(NamedTuple):
@@ -160,7 +162,7 @@ class Transmissions:
         action = self.rule.action
         if action in (Action.HOLD, Action.ERROR):
             return Action.HOLD
-        return Action.DROP_AFTER if action is Action.DROP_AFTER else None
+        return action if action in ON_EACH_FRAME else None
 
 
 class Sessions:

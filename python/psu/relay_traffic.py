@@ -19,6 +19,7 @@ class Traffic:
     ) -> None:
         self.rules = rules
         self.sessions = Sessions()
+        self.unanswered = 0  # queries, of all sessions
         self.write_entry = write_entry
         self._write_event = write_event
 
@@ -28,6 +29,7 @@ class Traffic:
     def report_unanswered(self, session: Session) -> None:
         """Writes the queries of a session that have no response, at most three."""
         now, queries = time.monotonic(), session.unanswered()
+        self.unanswered += len(queries)
         for query in queries[:3]:
             text = payload_text(query.text, len(query.text))
             self.event(session, "unanswered", f"{query.message_id:08x} {text} after {now - query.moment:.3f} s")

@@ -23,6 +23,7 @@ from .errors import ServerNotStarted, Timeout
 
 if TYPE_CHECKING:
     from .relay import Relay
+    from .relay_rules import RuleText
 
 # In a clone of the repository the program is built there.
 BUILT = os.path.join(os.path.dirname(os.path.abspath(__file__)), "..", "..", "crates", "psu", "out", "psu")
@@ -147,7 +148,7 @@ class Server:
         else:
             self._start_at_a_free_port()
 
-    def put_relay(self, rules: Iterable[str] = (), log: Optional[TextIO] = None) -> Relay:
+    def put_relay(self, rules: "Iterable[RuleText]" = (), log: Optional[TextIO] = None) -> Relay:
         """Puts a relay with these rules before the server that runs, until `close`; `port` is the relay's from now on."""
         from .relay import Relay
 

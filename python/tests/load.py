@@ -14,6 +14,7 @@ import sys
 import time
 
 from psu.frames import FIRST_MESSAGE_ID, PROTOCOL_1_0, Frame, MessageType, after
+from psu.listening import read_frame
 
 MESSAGE = re.compile(r"^\S+ +(\d+) (-->|<--) DataEnd +([0-9a-f]{8}) .*\\n$")
 QUERY = b"MEAS:VOLT?\n"

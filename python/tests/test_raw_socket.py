@@ -128,7 +128,7 @@ class ProgramTest(unittest.TestCase):
     def test_another_address_needs_its_option(self):
         status, text = run_main(main, ["--listen", "[::]:5025"])
         self.assertEqual(status, 2)
-        self.assertIn("add --yes-i-know-it-has-no-protection", text)
+        self.assertIn("add --allow-remote", text)
 
     def test_a_run(self):
         with FakeServer() as server:

@@ -77,7 +77,7 @@ class LineTest(unittest.TestCase):
         self.assertEqual(item, {
             "time": "2027-01-15T08:00:00.250000+00:00", "session": 3, "from": "client", "connection": "synchronous",
             "type": "DataEnd", "control": 1, "control_words": "RMT-delivered", "message_id": 0xFFFFFF00,
-            "length": 6, "payload": "5.250\\n", "response_ms": 1.234, "fault": "held back: rule 1"})
+            "length": 6, "payload": "5.250\\n", "data": "NS4yNTAK", "response_ms": 1.234, "fault": "held back: rule 1"})
         self.assertEqual(json.loads(json_event(Event(MOMENT, 0, "listening", "x")))["event"], "listening")
 
 

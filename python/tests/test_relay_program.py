@@ -7,7 +7,8 @@ import unittest
 
 from fake_server import FakeServer, run_main
 from psu.client import Instrument
-from psu.relay import main
+from psu.listening import parse_server
+from psu.relay import Relay, main
 
 
 class ProgramTest(unittest.TestCase):
@@ -18,7 +19,7 @@ class ProgramTest(unittest.TestCase):
         self.assertIn(text, written)
 
     def test_another_address_needs_its_option(self):
-        self.assert_ends(["--listen", "0.0.0.0:4881"], 2, "add --yes-i-know-it-has-no-protection")
+        self.assert_ends(["--listen", "0.0.0.0:4881"], 2, "add --allow-remote")
 
     def test_wrong_rules_and_addresses(self):
         with tempfile.NamedTemporaryFile("w") as file:
@@ -27,12 +28,21 @@ class ProgramTest(unittest.TestCase):
             self.assert_ends(["--rules", file.name], 2, "line 2: 'it' is not command")
         self.assert_ends(["--rule", "slow"], 2, "--rule 'slow': the first word is one of")
         self.assert_ends(["--listen", "localhost:4881"], 2, "is not ADDRESS:PORT")
-        self.assert_ends(["--to", "0"], 2, "is not a port")
+        for server in ("0", "65536", "127.0.0.1:", "x"):
+            self.assert_ends(["--to", server], 2, "is not a port, or HOST:PORT")
 
     def test_a_port_that_is_taken(self):
         with socket.create_server(("127.0.0.1", 0)) as taken:
             listen = f"127.0.0.1:{taken.getsockname()[1]}"
             self.assert_ends(["--listen", listen, "--quiet"], 1, "psu-relay: ")
+
+    def test_where_a_server_is(self):
+        for text, expected in (("4880", ("127.0.0.1", 4880)), ("supply.lab:4881", ("supply.lab", 4881)),
+                               ("[::1]:1", ("::1", 1))):
+            self.assertEqual(parse_server(text), expected)
+        with FakeServer() as server, Relay(parse_server(f"localhost:{server.port}")) as relay:
+            with Instrument(port=relay.port) as client:
+                self.assertEqual(client.query("VOLT?"), "VOLT?")
 
     def test_a_run_with_a_log_file(self):
         with tempfile.TemporaryDirectory() as folder, FakeServer() as server:
