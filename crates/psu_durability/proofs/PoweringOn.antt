@@ -1,5 +1,5 @@
 -- A served device powers on with the contents after a prefix of the units that its threads executed.
-use Rattle.std.proofs.Common.{◌≡◌, ℕ, List, Some, None, sym, ap, ap₂, subst}
+use Rattle.std.proofs.Common.{List, sym, ap₂, subst}
 use Rattle.std.specs.declared.alloc.Global.{Global}
 use Rattle.psu_disk.specs.Disk.{DiskState}
 use Rattle.psu_disk.specs.Ranges.{reads_left}
@@ -9,7 +9,7 @@ use Rattle.psu_nv.proofs.Determining.{same_contents}
 use Rattle.psu_nv.specs.Contents.{items_of}
 use Rattle.psu_exec.specs.Calls.{Entry}
 use Rattle.psu_exec.specs.Device.{State, power_on}
-use Rattle.psu_exec.specs.World.{World, after}
+use Rattle.psu_exec.specs.World.{after}
 use Rattle.psu_turn.specs.History.{HistoryLeads}
 use Rattle.psu_turn.specs.Seats.{Sight, Begins}
 use Rattle.psu_turn.specs.declared.numbered.Numbered.{Numbered}

@@ -184,7 +184,7 @@ PoweredFrom {D} {A} {G} s given = (d : D) × (disk_in s ≡ Some d) × (Ghosts.f
 
 module _ {D A : Type 0} {G : Ghosts D} (s : Exec D A G) (given : D) (on : PoweredFrom s given) (from : Option (List ℕ)) (end : Option RunCause) (disk : D) (u v : Option (List ℕ)) (due : List Message) (brought : Brings from due)
     (ends : Ends s end disk due (held u []) (held v [])) where
-  pub ran : Ran s on.0 disk (RunsTo G end disk due ends.0)
+  ran : Ran s on.0 disk (RunsTo G end disk due ends.0)
   ran = ends.2 on.0 on.1
 
   pub keeps_size : Ghosts.extent G disk ≡ Ghosts.extent G given
@@ -198,7 +198,7 @@ module _ {D A : Type 0} {G : Ghosts D} (s : Exec D A G) (given : D) (on : Powere
     abbrev first : RunPoint
     first = at_power_on starts.0 (Ghosts.failures G given)
 
-    pub at_first : IsAt s on.0 first
+    at_first : IsAt s on.0 first
     at_first = let at = starts.2 on.0 on.1 in (at.0, at.1, at.2, sym on.2)
 
     abbrev last : RunPoint
@@ -230,7 +230,7 @@ module _ {D A : Type 0} {G : Ghosts D} (s : Exec D A G) (given : D) (on : Powere
         let runs : Runs (messages input) first r.at = subst (λ (m : List Message). Runs m first r.at) (sym all ∙ brings) r.runs in
         subst (IsScript starts.0.start starts.0.limit input) (sym (append-nil r.at.text) ∙ sym keeps.0) (alone (Ghosts.state G given).bytes input starts.0 (Ghosts.failures G given) r.at starts.1 runs (keeps.1 calm))
 
-    pub run_ends : ScriptAlone → WritesTo end (Ghosts.state G given).bytes from (Ghosts.failures G given) (Ghosts.failures G disk) u v (Ghosts.state G disk)
+    run_ends : ScriptAlone → WritesTo end (Ghosts.state G given).bytes from (Ghosts.failures G given) (Ghosts.failures G disk) u v (Ghosts.state G disk)
     run_ends alone =
         record {
           run = run_to;
@@ -247,10 +247,16 @@ module _ {D A : Type 0} {G : Ghosts D} (s : Exec D A G) (given : D) (on : Powere
           behind = left_leads last.world (Ghosts.state G disk) went.1.2;
         }
 
-    -- each moment
-    pub run_moments : Ghosts.records G → ((d : D) (image : List ℕ) → Ghosts.left_since G d (Ghosts.moment G d) image → IsCrashImage (Ghosts.state G d) image) → ForSome (disk_in s) (λ d. LeavesOnly (Ghosts.moment G) (Ghosts.left_since G) given d (IsOldOrSame (Ghosts.state G given)))
+    -- the images at each moment
+    moments : Ghosts.records G → ((d : D) (image : List ℕ) → Ghosts.left_since G d (Ghosts.moment G d) image → IsCrashImage (Ghosts.state G d) image) → ForSome (disk_in s) (λ d. LeavesOnly (Ghosts.moment G) (Ghosts.left_since G) given d (IsOldOrSame (Ghosts.state G given)))
         → LeavesOnly (Ghosts.moment G) (Ghosts.left_since G) given disk (IsOfRun (Ghosts.state G given) last)
-    run_moments t now opens =
+    moments t now opens =
         let moment = Ghosts.moment G in let left = Ghosts.left_since G in let P = IsOfRun (Ghosts.state G given) last in
         and_then moment left given on.0 disk P (IsAlong last) (weaken moment left given on.0 (IsOldOrSame (Ghosts.state G given)) P (opens on.0 on.1) (λ x kept. inl (keeps_map (Ghosts.state G given) x kept)))
         ((ran.leads h first at_first).3 t now (reached_power (Ghosts.state G given).bytes starts.0 starts.1)) (λ x along. inr along)
+
+    -- the run, and each moment of it
+    pub run_with_moments : ScriptAlone → (Ghosts.records G → ((d : D) (image : List ℕ) → Ghosts.left_since G d (Ghosts.moment G d) image → IsCrashImage (Ghosts.state G d) image) × ForSome (disk_in s) (λ d. LeavesOnly (Ghosts.moment G) (Ghosts.left_since G) given d (IsOldOrSame (Ghosts.state G given))))
+        → (written : WritesTo end (Ghosts.state G given).bytes from (Ghosts.failures G given) (Ghosts.failures G disk) u v (Ghosts.state G disk)) × (Ghosts.records G → LeavesOnly (Ghosts.moment G) (Ghosts.left_since G) given disk (IsOfRun (Ghosts.state G given) written.run.last))
+    unfolding run_ends ran
+    run_with_moments alone time = (run_ends alone, λ t. moments t (time t).0 (time t).1)

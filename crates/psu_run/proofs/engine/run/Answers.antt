@@ -3,7 +3,7 @@ use Rattle.psu_exec.proofs.Moments.{keeps_map}
 use Rattle.psu_run.proofs.Feeding.{fed_none}
 use Rattle.psu_run.proofs.Going.{failures_is}
 use Rattle.psu_run.proofs.Input.{no_reads}
-use Rattle.psu_run.proofs.Reading.{early_counted, keeps_count, keeps_size, passed_disk, read_front, run_ends, run_moments}
+use Rattle.psu_run.proofs.Reading.{early_counted, keeps_count, keeps_size, passed_disk, read_front, run_with_moments}
 use Rattle.psu_run.proofs.engine.run.Goals as goal
 
 -- ---- it does not power on
@@ -29,10 +29,7 @@ pub returns-in_default-clause-early : goal.returns-in_default-clause-early
 returns-in_default-clause-early g c = λ h.
     let on = c.in-Ok.ensures in let u = g.W.Write.contents c.args.writer.now in
     let early = read_front [] [] _ _ u u (Consumes-nil (g.R.Source.remaining c.args.reader.now)) (fed_none [] c.in-Ok.powered.exec (held u [])) Memory c.fault.result c.fault.ensures tt (λ e. cc) in
-    inr (
-      run_ends c.in-Ok.powered.exec (disk_from c.args.start) on.disk _ _ _ _ _ early.0 early.1 early.2.0 h (on.starts h) c.script_is_the_only_text.ensures,
-      λ t. run_moments c.in-Ok.powered.exec (disk_from c.args.start) on.disk _ _ _ _ _ early.0 early.1 early.2.0 h (on.starts h) t (g.met.D.Disk.only_now t) (on.time h t),
-    )
+    inr (run_with_moments c.in-Ok.powered.exec (disk_from c.args.start) on.disk _ _ _ _ _ early.0 early.1 early.2.0 h (on.starts h) c.script_is_the_only_text.ensures (λ t. (g.met.D.Disk.only_now t, on.time h t)))
 
 pub returns-in_default-clause-reads : goal.returns-in_default-clause-reads
 returns-in_default-clause-reads g c = no_reads 65536 (g.R.Source.remaining c.args.reader.now) (g.R.Source.reads c.args.reader.now)
@@ -43,10 +40,7 @@ pub returns-in_err-disk-clause-early : goal.returns-in_err-disk-clause-early
 returns-in_err-disk-clause-early g c = λ h.
     let on = c.in-Ok.ensures in let early = rw c.new.ensures.powered at c.in_err-disk.ensures.early in
     passed c.from_residual.result c.in_err-disk.field-0.0 _ c.from_residual.ensures.1
-    (inr (
-      run_ends c.in-Ok.powered.exec (disk_from c.args.start) on.disk _ _ _ _ _ early.0 early.1 early.2.0 h (on.starts h) c.script_is_the_only_text.ensures,
-      λ t. run_moments c.in-Ok.powered.exec (disk_from c.args.start) on.disk _ _ _ _ _ early.0 early.1 early.2.0 h (on.starts h) t (g.met.D.Disk.only_now t) (on.time h t),
-    ))
+    (inr (run_with_moments c.in-Ok.powered.exec (disk_from c.args.start) on.disk _ _ _ _ _ early.0 early.1 early.2.0 h (on.starts h) c.script_is_the_only_text.ensures (λ t. (g.met.D.Disk.only_now t, on.time h t))))
 
 pub returns-in_err-disk-clause-failed : goal.returns-in_err-disk-clause-failed
 returns-in_err-disk-clause-failed g c =
@@ -70,10 +64,8 @@ returns-in_err-disk-clause-later g c =
 
 pub returns-clause-whole : goal.returns-clause-whole
 returns-clause-whole g c = λ h.
-    let on = c.in-Ok.ensures in let whole = rw c.new.ensures.powered at c.in_ok-disk.ensures.whole in (
-      run_ends c.in-Ok.powered.exec (disk_from c.args.start) on.disk _ _ _ _ _ whole.0 whole.1 whole.2 h (on.starts h) c.script_is_the_only_text.ensures,
-      λ t. run_moments c.in-Ok.powered.exec (disk_from c.args.start) on.disk _ _ _ _ _ whole.0 whole.1 whole.2 h (on.starts h) t (g.met.D.Disk.only_now t) (on.time h t),
-    )
+    let on = c.in-Ok.ensures in let whole = rw c.new.ensures.powered at c.in_ok-disk.ensures.whole in
+    run_with_moments c.in-Ok.powered.exec (disk_from c.args.start) on.disk _ _ _ _ _ whole.0 whole.1 whole.2 h (on.starts h) c.script_is_the_only_text.ensures (λ t. (g.met.D.Disk.only_now t, on.time h t))
 
 pub returns-clause-extent : goal.returns-clause-extent
 returns-clause-extent g c = let whole = rw c.new.ensures.powered at c.in_ok-disk.ensures.whole in keeps_size c.in-Ok.powered.exec (disk_from c.args.start) c.in-Ok.ensures.disk _ _ _ _ _ whole.0 whole.1 whole.2
