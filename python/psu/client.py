@@ -291,7 +291,7 @@ class Instrument:
         size = self._ask(largest, MessageType.ASYNC_MAXIMUM_MESSAGE_SIZE_RESPONSE).payload
         room = int.from_bytes(size, "big") - HEADER_SIZE
         if len(size) != 8 or room < 1:
-            raise ProtocolError(f"the server takes messages of no size that is one, header and all: {size.hex() or 'none'}")
+            raise ProtocolError(f"the server's largest message has a size that is none: {size.hex() or 'no bytes'}")
         return room
 
     def _opened(self, interrupt: Optional[Interrupt] = None) -> Channel:

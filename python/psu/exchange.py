@@ -89,7 +89,7 @@ class Exchange:
         return errors
 
     def _raise_errors(self, first: bytes, wait: Wait, response: Optional[bytes], has_response: bool = True) -> None:
-        """Takes the response to the query for errors, and raises the error in it with those behind it in the queue."""
+        """Takes the response to the query for errors, and raises the error in it with those after it in the queue."""
         self._error_query = None
         error = error_of(first)
         if error.number == 0 and has_response:

@@ -1,7 +1,8 @@
 """Divides what a raw socket receives into messages, as the instrument's grammar divides them.
 
 A line feed ends a message, but not in a definite block (`#15a\\nbcd`), which may contain any byte. A string that is
-open at a line feed, a block whose length can't be read or is over 16 MiB, and `#0` all extend to the end of the message: here the line.
+open at a line feed, a block whose length can't be read or is over 16 MiB, and `#0` all extend to the end of the
+message: here the line.
 """
 from __future__ import annotations
 

@@ -34,7 +34,8 @@ class Summary:
         lines = []
         for is_from_client, side in ((True, "client"), (False, "server")):
             kinds = self._kinds[is_from_client].most_common()
-            lines.append(f"from the {side}: " + (", ".join(f"{count} {name_of(kind)}" for kind, count in kinds) or "nothing"))
+            listed = ", ".join(f"{count} {name_of(kind)}" for kind, count in kinds)
+            lines.append(f"from the {side}: {listed or 'nothing'}")
         lines += self._histogram()
         lines += [f"slow: {seconds * 1000:.1f} ms, session {session}, {text}" for seconds, session, text in self._slow]
         lines.append(f"unanswered queries: {unanswered}")

@@ -66,9 +66,11 @@ class Lifeline:
         import fcntl  # which Windows does not have, where there is no server either
 
         file = self.far.fileno()
-        fcntl.fcntl(file, fcntl.F_SETOWN, process)
-        fcntl.fcntl(file, fcntl.F_SETSIG, signal.SIGKILL)
-        fcntl.fcntl(file, fcntl.F_SETFL, fcntl.fcntl(file, fcntl.F_GETFL) | os.O_ASYNC)
+        # A kernel that lacks it (some sandboxes) is no reason not to start: then a server may outlive a killed process.
+        with contextlib.suppress(OSError):
+            fcntl.fcntl(file, fcntl.F_SETOWN, process)
+            fcntl.fcntl(file, fcntl.F_SETSIG, signal.SIGKILL)
+            fcntl.fcntl(file, fcntl.F_SETFL, fcntl.fcntl(file, fcntl.F_GETFL) | os.O_ASYNC)
         self.far.close()
 
     def close(self) -> None:

@@ -18,6 +18,7 @@ from .frames import (
     refusal_of,
 )
 
+
 class Response(NamedTuple):
     """A whole response, and the MessageID that its last frame has."""
 

@@ -183,7 +183,9 @@ def fault(name: str) -> Callable[[Fault], Fault]:
     return noted
 
 
-def in_a_query(name: str, rules: Callable[[float], Sequence[RuleText]], is_survivable: bool = False, tries: int = 1) -> None:
+def in_a_query(
+    name: str, rules: Callable[[float], Sequence[RuleText]], is_survivable: bool = False, tries: int = 1
+) -> None:
     """Adds a fault of rules, made for the driver's timeout. Where it is survivable the query has to return."""
 
     @fault(name)
