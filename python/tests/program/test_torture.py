@@ -84,7 +84,7 @@ class Planted(Supply):  # does not look whether a save was refused
     def save(self, register):
         self.session.check_errors = False
         self.session.write(f"*SAV {register}")
-""", "a disk that fails in a save", "it called a save confirmed that the instrument refused"),
+""", "a disk that fails in a save", ""),  # not there yet when it returns, or refused: either is seen
     ("""
 class Planted(Supply):  # calls each save confirmed
     def save(self, register):
