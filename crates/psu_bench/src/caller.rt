@@ -9,17 +9,17 @@ ghost use Rattle.psu_exec.specs.Quiet.{may_cause};
 ghost use Rattle.psu_exec.specs.Shown.{outcome_of};
 ghost use Rattle.psu_locks.specs.declared.results.Grant.TheVariants as grants;
 ghost use Rattle.psu_bench.specs.Calls.{AllowsOn};
-ghost use Rattle.psu_bench.specs.Callers.{Causes, CausesByRound, released_of};
+ghost use Rattle.psu_bench.specs.Callers.{Causes, CausesByRound, CausesNothing, released_of};
 ghost use Rattle.psu_bench.specs.Tries.{tried};
 
-use crate::machine::{CausesNothing, Operation};
+use crate::machine::{Operation, QuietOperation};
 use crate::operations::{
     CloseSession, Lock, MarkSent, Notify, OpenSession, Release, Tick, Try, TryUnit,
 };
 use crate::{Bench, Caused, CausedByJob, Gate, Granted, OpenedSession, Point, Seat, ServedDisk};
 use psu_exec::{
     CannotDrop, Crowded, Freed, Grant, Kind, LockRefusal, NoJob, Notifications, Outcome, Session,
-    Sessions, units_and_waits_are_quiet,
+    Sessions, queries_are_quiet, units_and_waits_are_quiet,
 };
 use std::alloc::{AllocError, Global};
 use std::marker::Model;
@@ -160,13 +160,11 @@ impl<'b, D: ServedDisk> Caller<'b, D> {
     }
 
     /// Performs an operation that causes nothing for other threads.
-    pub fn call<R: Wait, O: Operation<D, Global> + CausesNothing>(
-        &mut self,
-        rt: &R,
-        operation: O,
-    ) -> O::Reply
+    pub fn call<R: Wait, O: QuietOperation<D, Global>>(&mut self, rt: &R, operation: O) -> O::Reply
         ensures call { SeatCalls (AllowsOn D.honest) self.old (O.entry operation result) self.new }
+        ensures quiet { CausesNothing D.honest (O.entry operation result) }
     {
+        queries_are_quiet();
         self.perform(rt, operation)
     }
 

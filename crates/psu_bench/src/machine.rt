@@ -68,6 +68,13 @@ pub trait Operation<D: Disk, A: Allocator + Copy> {
         ensures { AllowsOn D.honest exec.old.device (entry self result) exec.new.device };
 }
 
-/// An operation that causes nothing for other threads. A thread performs it by `Caller::call`, and each other operation by
-/// a method of `Caller` that returns what it has caused. No clause says which operations these are.
-pub trait CausesNothing {}
+/// An operation that causes nothing for other threads, whatever the state of the device: no session has a new service
+/// request, and there is nothing new to flush. A thread performs it by `Caller::call`, and each other operation by a method
+/// that returns what it has caused; a session that opens finds its own service request once its connections are joined.
+pub trait QuietOperation<D: Disk, A: Allocator + Copy>: Operation<D, A> {
+    ghost use Rattle.std.specs.Prelude.{◌≡◌, true};
+    ghost use Rattle.psu_exec.specs.Quiet.{is_quiet};
+
+    /// Its entry is one that causes nothing, whatever the reply.
+    ghost quiet: { (operation : Self) (reply : Self.Reply) → is_quiet (Self.Operation.entry operation reply) ≡ true };
+}

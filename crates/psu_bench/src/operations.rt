@@ -1,11 +1,12 @@
 //! The operations of the device, each with what it does.
+ghost use Rattle.std.specs.Prelude.{refl};
 ghost use Rattle.std.specs.Result.{result_ok};
 ghost use Rattle.psu_exec.specs.Calls.Entry.{Took, GaveBack, Opened, Closed, Cleared, Sent, Delivered, Queried, Fetched, Notified, Locked, Released, Ticked, Informed, Due};
 ghost use Rattle.psu_exec.specs.Shown.{outcome_of, over_of};
 ghost use Rattle.psu_exec.specs.Jobs.{finished_of, taken_of};
 ghost use Rattle.psu_bench.specs.Tries.{tried};
 
-use crate::machine::{CausesNothing, Operation};
+use crate::machine::{Operation, QuietOperation};
 use psu_disk::Disk;
 use psu_exec::{
     Crowded, Exec, Finished, Freed, Grant, Info, Job, Kind, LockRefusal, NoJob, Notifications,
@@ -255,16 +256,26 @@ impl<D: Disk, A: Allocator + Copy> Operation<D, A> for NextDeadline {
     }
 }
 
-impl CausesNothing for OpenSession {}
+impl<D: Disk, A: Allocator + Copy> QuietOperation<D, A> for Clear {
+    ghost quiet = { λ operation reply. refl };
+}
 
-impl CausesNothing for Clear {}
+impl<D: Disk, A: Allocator + Copy> QuietOperation<D, A> for MarkDelivered {
+    ghost quiet = { λ operation reply. refl };
+}
 
-impl CausesNothing for MarkDelivered {}
+impl<D: Disk, A: Allocator + Copy> QuietOperation<D, A> for Query {
+    ghost quiet = { λ operation reply. refl };
+}
 
-impl CausesNothing for Query {}
+impl<D: Disk, A: Allocator + Copy> QuietOperation<D, A> for Fetch {
+    ghost quiet = { λ operation reply. refl };
+}
 
-impl CausesNothing for Fetch {}
+impl<D: Disk, A: Allocator + Copy> QuietOperation<D, A> for Inform {
+    ghost quiet = { λ operation reply. refl };
+}
 
-impl CausesNothing for Inform {}
-
-impl CausesNothing for NextDeadline {}
+impl<D: Disk, A: Allocator + Copy> QuietOperation<D, A> for NextDeadline {
+    ghost quiet = { λ operation reply. refl };
+}

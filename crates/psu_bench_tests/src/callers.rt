@@ -166,11 +166,15 @@ fn defined<R: Wait>(
 
 // Makes the calls of a thread, and notes its sets up to a step that fails.
 fn one_thread<R: Wait>(rt: &R, access: Access<Disk>, shared: &Shared, thread: u8) {
-    let Access { bench, seat, gate } = access;
-    let mut caller = Caller::new(&bench, seat, &gate);
-    let Ok(session) = caller.call(rt, OpenSession) else {
+    let Access {
+        bench,
+        mut seat,
+        gate,
+    } = access;
+    let Ok(session) = bench.call(rt, &mut seat, OpenSession) else {
         return;
     };
+    let mut caller = Caller::new(&bench, seat, &gate);
     for step in 0..EACH {
         shared.meet(step);
         match defined(rt, &mut caller, session, thread, step) {

@@ -1,5 +1,5 @@
 -- Units and ends of waits that cause nothing.
-use Rattle.std.proofs.Common.{◌≡◌, inl, inr, ℕ, suc, Bool, true, false, cond, not, ◌==◌, ◌&&◌, ◌||◌, Option, Some, None, Result, Ok, Err, List, [], ◌∷◌, ◌++◌, refl, ap, ap₂}
+use Rattle.std.proofs.Common.{◌≡◌, inl, inr, ℕ, suc, Bool, true, false, cond, not, ◌==◌, ◌&&◌, ◌||◌, Option, Some, None, Result, Ok, Err, List, [], ◌∷◌, ◌++◌, get_or, refl, ap, ap₂, sym, zero, ◌∙◌}
 use Rattle.psu_lex.specs.declared.scpi_error.ScpiError.{ScpiError}
 use Rattle.psu_lex.specs.declared.scpi_error.ScpiError.TheVariants.{StorageFault}
 use Rattle.psu_nv.specs.Commands as nv
@@ -13,13 +13,15 @@ use Rattle.psu_instrument.specs.Commands.{meaning}
 use Rattle.psu_instrument.specs.Meaning.{Meaning, Refuses, Does, Keeps, Completes}
 use Rattle.psu_instrument.specs.Speaking.{RaisesNone}
 use Rattle.psu_instrument.specs.declared.act.Completion.TheVariants as completion
-use Rattle.psu_instrument.proofs.Rising.{none_rises}
+use Rattle.psu_instrument.proofs.Rising.{mav_cleared, none_rises}
 use Rattle.psu_instrument.proofs.Speaking.{each_answer_is_quiet}
-use Rattle.psu_exec.specs.Calls.{Executed, Settled, Serves, has_work}
-use Rattle.psu_exec.specs.Device.{Reply, Done, Answer, Error, Expand, Parked, Held, Later, State, Flush, followed, MayAnswer, MayMean, Runs, Expands, Means, answer_call, answer_meant, change_in, counted, done_by, here, is_broken, is_whole, kept_unless, meant}
-use Rattle.psu_exec.specs.Quiet.{EachUnitIsQuiet, EachWaitIsQuiet, IsQuiet, may_cause}
+use Rattle.std.specs.Prelude.{slice_set}
+use Rattle.psu_exec.specs.Calls.{Cleared, Delivered, Due, Entry, Executed, Fetched, Informed, Queried, Settled, Serves, has_work, with_answer, with_service_state}
+use Rattle.psu_exec.specs.Device.{Reply, Done, Answer, Error, Expand, Parked, Held, Later, State, Flush, followed, MayAnswer, MayMean, Runs, Expands, Means, answer_call, answer_meant, change_in, counted, done_by, here, is_broken, is_whole, kept_unless, meant, place_of, service_state_of}
+use Rattle.psu_exec.specs.Quiet.{EachQuietCallIsQuiet, EachUnitIsQuiet, EachWaitIsQuiet, IsQuiet, is_quiet, may_cause}
 use Rattle.psu_exec.specs.declared.waits.Wait.{Wait}
-use Rattle.psu_exec.specs.ServiceStates.{each_rqs_updated, falls, named, released, requested, rises, rqs_updated, unreported_from}
+use Rattle.psu_exec.proofs.RqsUpdates.{changed, followed_at}
+use Rattle.psu_exec.specs.ServiceStates.{each_rqs_updated, falls, fetched, initial_service_state, named, released, requested, rises, rqs_updated, unreported_from, with_available}
 use Rattle.psu_exec.specs.declared.service_states.ServiceState.{ServiceState}
 
 -- ---- service requests
@@ -37,6 +39,13 @@ unreported_same : (old new : Reported) → RaisesNone old new → (n : ℕ) (os 
 unreported_same old new none n (o ∷ os) (m ∷ ms) =
     ap₂ (λ (b : Bool) (rest : List ℕ). named n (o && b) ++ rest) (unreported_one (enabled old m.available) (enabled new m.available) m (none m.available)) (unreported_same old new none (suc n) os ms)
 unreported_same old new none n other another = refl
+
+-- the service state of one session changes, and not whether its request is to be reported
+unreported_set : (n : ℕ) (os : List Bool) (ms : List ServiceState) (i : ℕ) (x : ServiceState) → x.unreported ≡ (get_or ms i initial_service_state).unreported → unreported_from n os (slice_set ms i x) ≡ unreported_from n os ms
+unreported_set n [] ms i x same = refl
+unreported_set n (o ∷ os) [] i x same = refl
+unreported_set n (o ∷ os) (m ∷ ms) zero x same = ap (λ (b : Bool). named n (o && b) ++ unreported_from (suc n) os ms) same
+unreported_set n (o ∷ os) (m ∷ ms) (suc i) x same = ap (λ (rest : List ℕ). named n (o && m.unreported) ++ rest) (unreported_set (suc n) os ms i x same)
 
 -- ---- what a unit that is answered leaves
 
@@ -121,3 +130,35 @@ each_unit_is_quiet s new session request reply quiet (inr none) = nothing_is_qui
 pub each_wait_is_quiet : EachWaitIsQuiet
 each_wait_is_quiet s new session reply quiet (inl a) = wait_is_quiet s new session reply quiet a
 each_wait_is_quiet s new session reply quiet (inr none) = nothing_is_quiet s new none.1
+
+-- ---- calls that cause nothing whatever the state is
+
+-- the service state of one session changes, with no request for service
+state_is_quiet : (s new : State) (session : ℕ) (x : ServiceState) → x.unreported ≡ (service_state_of s session).unreported → new ≡ with_service_state s session x → IsQuiet s new
+state_is_quiet s new session x same is = rw is (record {
+  bits = none_rises s.volatile.instrument.status;
+  requests = unreported_set 1 s.volatile.open_now s.volatile.service_states (place_of session) x same;
+  work = refl;
+})
+
+-- a response is delivered
+delivery_is_quiet : (s new : State) (session : ℕ) → new ≡ with_answer s session false → IsQuiet s new
+delivery_is_quiet s new session is =
+    let status = s.volatile.instrument.status in
+    let m = service_state_of s session in
+    state_is_quiet s new session (changed status false m)
+    (unreported_one (enabled status m.available) (enabled status false) (with_available m false) (mav_cleared status m.available))
+    (is ∙ sym (followed_at s session false))
+
+call_is_quiet : (s new : State) (entry : Entry) → is_quiet entry ≡ true → Serves s entry new → IsQuiet s new
+call_is_quiet s new (Cleared session) quiet a = rw a.1 (record { bits = none_rises s.volatile.instrument.status; requests = refl; work = refl })
+call_is_quiet s new (Delivered session) quiet a = delivery_is_quiet s new session a.1
+call_is_quiet s new (Queried session byte) quiet a = state_is_quiet s new session _ refl a.2
+call_is_quiet s new (Fetched session byte) quiet a = state_is_quiet s new session _ refl a.2
+call_is_quiet s new (Informed info) quiet a = nothing_is_quiet s new a.1
+call_is_quiet s new (Due deadline) quiet a = nothing_is_quiet s new a.1
+call_is_quiet s new other quiet a = cc
+
+pub each_quiet_call_is_quiet : EachQuietCallIsQuiet
+each_quiet_call_is_quiet s new entry quiet (inl a) = call_is_quiet s new entry quiet a
+each_quiet_call_is_quiet s new entry quiet (inr none) = nothing_is_quiet s new none.1

@@ -4,7 +4,7 @@ use Rattle.psu_instrument.specs.Speaking.{RaisesNone}
 use Rattle.psu_tree.specs.declared.command.Request.{Request}
 use Rattle.psu_exec.specs.ServiceStates.{unreported_from}
 use Rattle.psu_exec.specs.Device.{Reply, Done, Answer, Error, Expand, Parked, Held, Later, State}
-use Rattle.psu_exec.specs.Calls.{Executed, Settled, Allows, has_work}
+use Rattle.psu_exec.specs.Calls.{Allows, Cleared, Delivered, Due, Entry, Executed, Fetched, Informed, Queried, Settled, has_work}
 
 -- the open sessions with a service request that is not yet reported
 abbrev pub requesting : State → List ℕ
@@ -33,3 +33,17 @@ EachUnitIsQuiet = (s new : State) (session : ℕ) (request : Request) (reply : R
 
 abbrev pub EachWaitIsQuiet : Type 0
 EachWaitIsQuiet = (s new : State) (session : ℕ) (reply : Reply) → may_cause reply ≡ false → Allows s (Settled session reply) new → IsQuiet s new
+
+-- whether a call causes nothing for others, whatever the state is: it drops a wait, notes that a response is delivered, or
+-- only asks
+abbrev pub is_quiet : Entry → Bool
+is_quiet (Cleared session) = true
+is_quiet (Delivered session) = true
+is_quiet (Queried session byte) = true
+is_quiet (Fetched session byte) = true
+is_quiet (Informed info) = true
+is_quiet (Due deadline) = true
+is_quiet entry = false
+
+abbrev pub EachQuietCallIsQuiet : Type 0
+EachQuietCallIsQuiet = (s new : State) (entry : Entry) → is_quiet entry ≡ true → Allows s entry new → IsQuiet s new

@@ -48,6 +48,9 @@ always_at test (false ∷ bs) e = always_at (λ xs. test (false ∷ xs)) bs (sec
 
 -- ---- the status byte
 
+abbrev is_any : List ScpiError → Bool
+is_any errors = nat_lt 0 (length errors)
+
 -- its bits without MSS: errors, QUEStionable, MAV, the event status register and OPERation
 abbrev byte : Bool → Bool → Bool → Bool → Bool → ℕ
 byte errors questionable mav events operation = bit 2 errors + (bit 3 questionable + (bit 4 mav + (bit 5 events + bit 7 operation)))
@@ -63,19 +66,30 @@ within_byte _ = true
 bits_within : (a b c d e f g h i : Bool) → bit_and (byte a b c d e) (byte (f && a) (g && b) c (h && d) (i && e)) ≡ byte (f && a) (g && b) c (h && d) (i && e)
 bits_within a b c d e f g h i = eqb-true _ _ (always_at within_byte (a ∷ b ∷ c ∷ d ∷ e ∷ f ∷ g ∷ h ∷ i ∷ []) refl)
 
+abbrev within_without_mav : List Bool → Bool
+within_without_mav (a ∷ b ∷ d ∷ e ∷ []) = is_within (byte a b true d e) (byte a b false d e)
+within_without_mav _ = true
+
+-- where MAV is cleared, too
+within_cleared : (a b d e : Bool) → bit_and (byte a b true d e) (byte a b false d e) ≡ byte a b false d e
+within_cleared a b d e = eqb-true _ _ (always_at within_without_mav (a ∷ b ∷ d ∷ e ∷ []) refl)
+
 -- ---- what queries clear
 
 pub none_rises : (s : Reported) → RaisesNone s s
 none_rises s available = none_within (enabled s available) (enabled s available) (and_self (enabled s available))
+
+-- a response is delivered: MAV is cleared
+pub mav_cleared : (s : Reported) (available : Bool) → rising (enabled s available) (enabled s false) ≡ 0
+mav_cleared s false = none_rises s false
+mav_cleared s true =
+    none_within _ _ (within_enabled (summaries s true) (summaries s false) s.sre (within_cleared (is_any s.errors) (summary s.questionable) (not (bit_and s.esr s.ese == 0)) (summary s.operation)))
 
 -- a status with the same enables whose bits are among those before
 none_of : (old new : Reported) → new.sre ≡ old.sre → ((available : Bool) → bit_and (summaries old available) (summaries new available) ≡ summaries new available) → RaisesNone old new
 none_of old new same within available =
     ap (λ (mask : ℕ). rising (enabled old available) (bit_and (summaries new available) mask)) same
     ∙ none_within _ _ (within_enabled (summaries old available) (summaries new available) old.sre (within available))
-
-abbrev is_any : List ScpiError → Bool
-is_any errors = nat_lt 0 (length errors)
 
 -- `*ESR?`
 pub events_read : (s : Reported) → RaisesNone s (record s { esr = 0 })
