@@ -2,18 +2,18 @@
 use crate::connection::Accepted;
 use crate::directory::Directory;
 use crate::serve_fault::ServeFault;
+use crate::server_runtime::ServerRuntime;
 use crate::silent_connections::SilentConnections;
 use psu_bench::{Access, Caller, Gate, ServedDisk, power_on};
 use psu_disk::{Disk, FileDisk, OsFiles};
-use psu_session_io::Link;
+use psu_session_io::NewConnection;
 use psu_threads::{Flusher, Server, write_lines};
-use std::alloc::Global;
+use std::alloc::{AllocError, Global};
 use std::fs::File;
 use std::io::{Eprint, Print};
 use std::net::{Net, TcpListener, TcpStream};
 use std::rt::{Clock, Files};
 use std::sync::{Arc, Mutex, Wait};
-use std::thread::Threads;
 use std::time::{Duration, Instant};
 use std::{io, thread};
 
@@ -34,10 +34,7 @@ where
     D::Gate: Send + Sync + 'static,
 {
     // Accepts the next connection. Where none can be accepted, it sleeps for a moment.
-    fn accept_next<R>(&mut self, rt: R, listener: &TcpListener)
-    where
-        R: Threads + Wait + Clock + Copy + Send + 'static,
-    {
+    fn accept_next<R: ServerRuntime>(&mut self, rt: R, listener: &TcpListener) {
         let accepted = match listener.accept() {
             Ok((stream, _)) => self.accept(rt, stream),
             Err(error) => Err(error),
@@ -47,33 +44,35 @@ where
         }
     }
 
-    // Returns a connection over a stream, which counts as silent until its first message.
-    fn connection<R: Wait>(&mut self, rt: &R, stream: TcpStream) -> io::Result<Accepted<D>> {
-        stream.set_nodelay(true)?;
-        let link = Arc::new(self.server.alloc, Link::new(stream))?;
+    // Returns what serves a connection, which counts as silent until its first message.
+    fn accepted<R: Wait>(
+        &mut self,
+        rt: &R,
+        connection: &NewConnection,
+    ) -> Result<Accepted<D>, AllocError> {
         let server = Arc::try_clone(&self.server)?;
         let sessions = Arc::try_clone(&self.sessions)?;
         let silent = Arc::try_clone(&self.silent)?;
         let access = self.access.split()?;
-        let number = self.silent.lock(rt).add(Arc::try_clone(&link)?);
+        let end = connection.end()?;
+        let number = self.silent.lock(rt).add(connection.end()?);
         Ok(Accepted {
             server,
             sessions,
             silent,
             number,
-            link,
+            end,
             access,
         })
     }
 
     // Gives a connection a thread of its own.
-    fn accept<R>(&mut self, rt: R, stream: TcpStream) -> io::Result<()>
-    where
-        R: Threads + Wait + Clock + Copy + Send + 'static,
-    {
-        let mut connection = self.connection(&rt, stream)?;
-        let number = connection.number;
-        if let Err(error) = thread::spawn(&rt, move || connection.run(rt)) {
+    fn accept<R: ServerRuntime>(&mut self, rt: R, stream: TcpStream) -> io::Result<()> {
+        stream.set_nodelay(true)?;
+        let connection = NewConnection::new(self.server.alloc, stream)?;
+        let mut accepted = self.accepted(&rt, &connection)?;
+        let number = accepted.number;
+        if let Err(error) = thread::spawn(&rt, move || accepted.run(rt, connection)) {
             self.silent.lock(&rt).remove(number);
             return Err(io::Error::from(error));
         }
@@ -83,7 +82,7 @@ where
     // Starts the flusher, and what writes an operator's lines, in a thread each.
     fn start_flusher<R, E>(&mut self, rt: R, errors: E) -> io::Result<()>
     where
-        R: Threads + Wait + Clock + Copy + Send + 'static,
+        R: ServerRuntime,
         E: Eprint + Drop + Send + 'static,
     {
         let server = Arc::try_clone(&self.server)?;
@@ -106,14 +105,9 @@ pub fn serve<R, G>(rt: R, alloc: Global, image: &str, port: u16, gate: G) -> Ser
 where
     R: Net<Listener = TcpListener, Stream = TcpStream>
         + Files<File = File>
-        + Threads
-        + Wait
-        + Clock
+        + ServerRuntime
         + Print
-        + Eprint
-        + Copy
-        + Send
-        + 'static,
+        + Eprint,
     G: Gate + Drop + Send + Sync + 'static,
 {
     let listener = match TcpListener::bind(&rt, ("127.0.0.1", port)) {
@@ -137,7 +131,7 @@ pub fn serve_disk<R, D, G, E>(
     errors: E,
 ) -> ServeFault
 where
-    R: Threads + Wait + Clock + Print + Copy + Send + 'static,
+    R: ServerRuntime + Print,
     D: Disk + Drop + Send + 'static,
     G: Gate + Drop + Send + Sync + 'static,
     E: Eprint + Drop + Send + 'static,
@@ -178,7 +172,7 @@ fn accept_all<R, D, E>(
     errors: E,
 ) -> io::Result<()>
 where
-    R: Threads + Wait + Clock + Print + Copy + Send + 'static,
+    R: ServerRuntime + Print,
     D: ServedDisk + Send + 'static,
     D::Gate: Send + Sync + 'static,
     E: Eprint + Drop + Send + 'static,

@@ -3,16 +3,20 @@ ghost use Rattle.std.specs.Prelude.{◌≡◌, IfSome};
 ghost use Rattle.std.specs.Arc.{arc_value};
 
 use crate::directory::Directory;
-use crate::opening::{Opened, Opening, close, first_message, open};
+use crate::opening::{Opened, close, first_message, open};
+use crate::server_runtime::ServerRuntime;
 use crate::silent_connections::SilentConnections;
 use psu_bench::{Access, ServedDisk};
 use psu_exec::Session;
-use psu_hislip::{FatalCode, First};
-use psu_session_io::{Connection, FirstReply, Link};
-use psu_threads::{Role, Server, SessionOf, serve_session};
+use psu_hislip::FatalCode;
+use psu_session_io::{
+    Asynchronous, Closed, Connection, ConnectionEnd, FirstRead, NewConnection, Synchronous,
+    Unanswered,
+};
+use psu_threads::{Continue, Server, SessionOf, listen_session, read_session, work_beside};
 use std::rt::Clock;
 use std::sync::{Arc, Mutex, Wait};
-use std::thread::{JoinHandle, Threads};
+use std::thread::JoinHandle;
 use std::time::Instant;
 use std::{io, thread};
 
@@ -23,23 +27,22 @@ pub(crate) struct Accepted<D: ServedDisk> {
     pub sessions: Arc<Mutex<Directory<D>>>,
     pub silent: Arc<Mutex<SilentConnections>>,
     pub number: u64,
-    pub link: Arc<Link>,
+    pub end: ConnectionEnd,
     pub access: Access<D>,
 }
 
 impl<D: ServedDisk> Accepted<D> {
-    // Refuses what the connection has sent first.
-    fn refuse(&self, code: FatalCode) -> io::Result<()> {
-        self.link.answer(FirstReply::refused(code))
-    }
-
     // Serves a session over its synchronous connection, until it is over.
-    fn start<R: Wait + Clock>(&mut self, rt: &R, opening: Opening) -> io::Result<()> {
+    fn start<R: Wait + Clock>(
+        &mut self,
+        rt: &R,
+        connection: Unanswered<Synchronous>,
+    ) -> io::Result<()> {
         let began = Instant::now(rt)?;
         let access = self.access.split()?;
-        let message = opening.message.as_slice();
-        let Some(opened) = open(rt, &self.server, access, &self.link, message)? else {
-            return self.refuse(FatalCode::TooManyClients);
+        let Some(opened) = open(rt, &self.server, access, &connection)? else {
+            connection.refuse(FatalCode::TooManyClients);
+            return Ok(());
         };
         let Opened {
             response,
@@ -50,28 +53,14 @@ impl<D: ServedDisk> Accepted<D> {
         self.sessions
             .lock(rt)
             .set(number, Arc::try_clone(&served).ok());
-        let read = match self.link.answer(response) {
-            Ok(()) => self.read(rt, &served, began, opening.after),
-            Err(error) => Err(error),
+        let closed = match connection.answer(response) {
+            Ok(connection) => read_session(rt, &self.server, &served, connection, began),
+            Err(_) => served.abandon(rt),
         };
-        served.abandon(rt);
         served.wait_for_second(rt);
         self.sessions.lock(rt).set(number, None);
-        close(rt, &self.server, &served, must_close);
-        read
-    }
-
-    // Reads the synchronous connection of a session, until the session is over.
-    fn read<R: Wait + Clock>(
-        &mut self,
-        rt: &R,
-        served: &SessionOf<D>,
-        began: Instant,
-        after: Vec<u8>,
-    ) -> io::Result<()> {
-        let connection = Connection::new(Arc::try_clone(&self.link)?, after);
-        let role = Role::Read(connection, began);
-        serve_session(rt, &self.server, served, role)
+        close(rt, &self.server, &served, must_close, closed);
+        Ok(())
     }
 
     // Returns the session of a number.
@@ -81,127 +70,101 @@ impl<D: ServedDisk> Accepted<D> {
         let number = Session::new(u8::try_from(number).ok()?)?;
         self.sessions.lock(rt).session(number)
     }
-
-    // Reads the asynchronous connection of a session, until the session is over.
-    fn listen<R: Wait + Clock>(
-        &mut self,
-        rt: &R,
-        served: &SessionOf<D>,
-        opening: Opening,
-    ) -> io::Result<()> {
-        self.link.wait_at_most(None)?;
-        let connection = Connection::new(Arc::try_clone(&self.link)?, opening.whole()?);
-        let role = Role::Listen(connection);
-        serve_session(rt, &self.server, served, role)
-    }
 }
 
 impl<D: ServedDisk + Send + 'static> Accepted<D>
 where
     D::Gate: Send + Sync + 'static,
 {
-    // Starts a thread that serves a session beside its readers.
-    fn start_beside<R>(
+    // Starts a thread that serves a session beside the reader of this connection.
+    fn start_beside<S, R>(
         &mut self,
         rt: R,
         served: &Arc<SessionOf<D>>,
-        role: Role,
+        connection: Connection<S>,
     ) -> io::Result<JoinHandle<()>>
     where
-        R: Threads + Wait + Clock + Copy + Send + 'static,
+        S: Continue + Send + 'static,
+        R: ServerRuntime,
     {
         let server = Arc::try_clone(&self.server)?;
         let served = Arc::try_clone(served)?;
         let started = thread::spawn(&rt, move || {
-            // It needs no memory of its own.
-            let _ = serve_session(&rt, &server, &served, role);
+            let _closed = work_beside(&rt, &server, &served, connection);
         })?;
         Ok(started)
     }
 
     // Serves the asynchronous connection of a session beside its notifier, until the session is over.
-    fn listen_and_notify<R>(
+    fn listen_and_notify<R: ServerRuntime>(
         &mut self,
         rt: R,
         served: &Arc<SessionOf<D>>,
-        opening: Opening,
-    ) -> io::Result<()>
-    where
-        R: Threads + Wait + Clock + Copy + Send + 'static,
-    {
-        let role = Role::Notify(Arc::try_clone(&self.link)?);
-        let notifier = self.start_beside(rt, served, role)?;
-        let listened = self.listen(&rt, served, opening);
-        served.abandon(&rt);
+        connection: Connection<Asynchronous>,
+    ) -> io::Result<Closed> {
+        let beside = connection.beside(self.server.alloc)?;
+        let notifier = self.start_beside(rt, served, beside)?;
+        let closed = listen_session(&rt, &self.server, served, connection);
         notifier.join(&rt);
-        listened
+        Ok(closed)
     }
 
     // Serves a session over its second connection, beside its worker, until the session is over.
-    fn attend<R>(&mut self, rt: R, served: &Arc<SessionOf<D>>, opening: Opening) -> io::Result<()>
-    where
-        R: Threads + Wait + Clock + Copy + Send + 'static,
-    {
-        let role = Role::Work(served.first()?);
-        let worker = self.start_beside(rt, served, role)?;
-        let listened = self.listen_and_notify(rt, served, opening);
-        served.abandon(&rt);
+    fn attend<R: ServerRuntime>(
+        &mut self,
+        rt: R,
+        served: &Arc<SessionOf<D>>,
+        connection: Unanswered<Asynchronous>,
+    ) -> io::Result<()> {
+        let connection = connection.connect()?;
+        let beside = served.beside_reader(self.server.alloc)?;
+        let worker = self.start_beside(rt, served, beside)?;
+        let listened = self.listen_and_notify(rt, served, connection);
+        let _closed = match listened {
+            Ok(closed) => closed,
+            Err(_) => served.abandon(&rt),
+        };
         worker.join(&rt);
-        listened
+        Ok(())
     }
 
     // Joins this connection to a session that waits for its second connection.
-    fn join<R>(&mut self, rt: R, served: &Arc<SessionOf<D>>, opening: Opening) -> io::Result<()>
-    where
-        R: Threads + Wait + Clock + Copy + Send + 'static,
-    {
-        let link = Arc::try_clone(&self.link)?;
-        if served.join(&rt, link).is_err() {
-            return self.refuse(FatalCode::InvalidInitialization);
+    fn join<R: ServerRuntime>(
+        &mut self,
+        rt: R,
+        served: &Arc<SessionOf<D>>,
+        connection: Unanswered<Asynchronous>,
+    ) {
+        if served.join(&rt, &connection).is_err() {
+            connection.refuse(FatalCode::InvalidInitialization);
+            return;
         }
         // Where memory or a thread for it is refused, the session ends.
-        let attended = self.attend(rt, served, opening);
-        served.abandon(&rt);
+        let _attended = self.attend(rt, served, connection);
+        let _closed = served.abandon(&rt);
         served.second_has_ended(&rt);
         served.end_first(&rt);
-        attended
-    }
-
-    // Serves what a connection's first message requests, up to its end.
-    fn begin<R>(&mut self, rt: R, opening: Opening) -> io::Result<()>
-    where
-        R: Threads + Wait + Clock + Copy + Send + 'static,
-    {
-        match opening.first {
-            First::Refused(code) => self.refuse(code),
-            First::Start => self.start(&rt, opening),
-            First::Join(number) => match self.session(&rt, number) {
-                None => self.refuse(FatalCode::InvalidInitialization),
-                Some(served) => self.join(rt, &served, opening),
-            },
-        }
     }
 
     // Serves a connection up to its end.
-    fn serve<R>(&mut self, rt: R) -> io::Result<()>
-    where
-        R: Threads + Wait + Clock + Copy + Send + 'static,
-    {
-        let opening = first_message(&rt, self.server.alloc, &self.link);
+    fn serve<R: ServerRuntime>(&mut self, rt: R, connection: NewConnection) -> io::Result<()> {
+        let first = first_message(&rt, self.server.alloc, connection);
         self.silent.lock(&rt).remove(self.number);
-        match opening? {
-            Some(opening) => self.begin(rt, opening),
-            None => Ok(()),
+        match first? {
+            FirstRead::Start(connection) => return self.start(&rt, connection),
+            FirstRead::Join(number, connection) => match self.session(&rt, number) {
+                None => connection.refuse(FatalCode::InvalidInitialization),
+                Some(served) => self.join(rt, &served, connection),
+            },
+            FirstRead::Awaited(_) | FirstRead::Ended => {}
         }
+        Ok(())
     }
 
     /// Serves a connection up to its end.
-    pub fn run<R>(&mut self, rt: R)
-    where
-        R: Threads + Wait + Clock + Copy + Send + 'static,
-    {
-        let _ = self.serve(rt);
+    pub fn run<R: ServerRuntime>(&mut self, rt: R, connection: NewConnection) {
+        let _ = self.serve(rt, connection);
         self.silent.lock(&rt).remove(self.number);
-        self.link.shut();
+        self.end.shut();
     }
 }

@@ -1,8 +1,7 @@
 //! The connections that have not sent their first message.
-use psu_session_io::Link;
+use psu_session_io::ConnectionEnd;
 use std::alloc::Global;
 use std::collections::VecDeque;
-use std::sync::Arc;
 
 /// How many connections may be silent.
 const SILENT_MOST: usize = 64;
@@ -10,7 +9,7 @@ const SILENT_MOST: usize = 64;
 #[derive(Drop)]
 struct Connection {
     number: u64,
-    link: Arc<Link>,
+    end: ConnectionEnd,
 }
 
 /// The connections that have not sent their first message, oldest first. Where there are too many the oldest ends, so a
@@ -31,16 +30,16 @@ impl SilentConnections {
     }
 
     /// Adds a connection. Returns its number in the list.
-    pub fn add(&mut self, link: Arc<Link>) -> u64 {
+    pub fn add(&mut self, end: ConnectionEnd) -> u64 {
         let number = self.next;
         self.next = self.next.wrapping_add(1);
         if self.connections.len() >= SILENT_MOST {
             if let Some(oldest) = self.connections.pop_front() {
-                oldest.link.shut();
+                oldest.end.shut();
             }
         }
-        if let Err(refused) = self.connections.push_back(Connection { number, link }) {
-            refused.value.link.shut();
+        if let Err(refused) = self.connections.push_back(Connection { number, end }) {
+            refused.value.end.shut();
         }
         number
     }

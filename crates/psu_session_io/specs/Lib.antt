@@ -4,3 +4,6 @@ pub mod Leaving
 pub mod Ending
 pub mod Reading
 pub mod Extending
+pub mod Opening
+pub mod NewConnection
+pub mod Unanswered

@@ -1,17 +1,18 @@
 //! A connection of a session: what is read from it and written on it.
-ghost use Rattle.std.specs.Prelude.{◌≡◌, ◌≢◌, ◌≤◌, ◌↔◌, ◌++◌, ℕ, IfOk, IsTrue, [], length, take};
+ghost use Rattle.std.specs.Prelude.{◌≡◌, ◌≢◌, ◌≤◌, ◌↔◌, ◌++◌, IfOk, IsTrue, [], length, take};
 ghost use Rattle.psu_session_io.specs.Reading.{IsFirstOf};
-ghost use Rattle.psu_session_io.specs.declared.link.ReadResult.TheVariants.{Bytes};
 
 use crate::Token;
-use crate::linear::{BytesRead, Disconnected, Outgoing, Written};
-use crate::link::{Link, ReadResult};
+use crate::linear::{Disconnected, Outgoing, Written};
+use crate::link::{BytesRead, Link, LinkRead};
 use psu_replies::CannotDrop;
+use std::alloc::{AllocError, Global};
 use std::marker::{Model, PhantomData};
 use std::sync::Arc;
 
-/// A connection of a session: the synchronous or the asynchronous one. Contracts see the bytes that were read before it
-/// was known which connection it is, and that the session has not received.
+/// A connection of a session: the synchronous or the asynchronous one. It is made of an `Unanswered`, or of another one of
+/// the same side. Contracts see the bytes that were read before it was known which connection it is, and that the session
+/// has not received.
 #[derive(Drop)]
 pub struct Connection<S> {
     link: Arc<Link>,
@@ -43,7 +44,7 @@ pub enum Incoming<'a, S> {
 
 impl<S> Connection<S> {
     /// Returns a connection over a link, from which these bytes were read before.
-    pub fn new(link: Arc<Link>, before: Vec<u8>) -> Connection<S>
+    pub(crate) fn new(link: Arc<Link>, before: Vec<u8>) -> Connection<S>
         ensures { result ≡ before.items }
     {
         Connection {
@@ -52,6 +53,14 @@ impl<S> Connection<S> {
             received: 0,
             side: PhantomData,
         }
+    }
+
+    /// Returns the same connection, for a thread that writes on it beside the one that reads it.
+    pub fn beside(&self, alloc: Global) -> Result<Connection<S>, AllocError>
+        ensures { IfOk result (λ connection. connection ≡ []) }
+    {
+        let link = Arc::try_clone(&self.link)?;
+        Ok(Connection::new(link, Vec::new(alloc)))
     }
 
     // Copies bytes that were read before into a space, the first ones first. Returns how many.
@@ -74,33 +83,20 @@ impl<S> Connection<S> {
         self.before[self.received..].is_empty()
     }
 
-    // Reads what has come, or waits for it, unless bytes were read before.
-    fn read_next(&mut self, space: &mut [u8]) -> ReadResult
-        ensures most { (count : ℕ) → result ≡ Bytes count → count ≤ length space.old }
-        ensures same { length space.new ≡ length space.old }
-        ensures first { self.old ≢ [] → (count : ℕ) × (result ≡ Bytes count) × (take count space.new ++ self.new ≡ self.old) }
-        ensures then { self.old ≡ [] → self.new ≡ [] }
-    {
-        if self.has_received_all() {
-            return self.link.read(space);
-        }
-        ReadResult::Bytes(self.read_before(space))
-    }
-
     /// Reads what has come, or waits for it. Bytes that were read before come first.
     pub fn read<'a>(&mut self, token: &mut Token<S>, space: &'a mut [u8]) -> Incoming<'a, S>
         ensures first { self.old ≢ [] → IsFirstOf result self.old self.new }
         ensures then { self.old ≡ [] → self.new ≡ [] }
     {
         let _ = token;
-        match self.read_next(space) {
-            ReadResult::Bytes(count) => Incoming::Bytes(BytesRead {
-                bytes: &space[..count],
-                duty: CannotDrop::begin(),
-                side: PhantomData,
-            }),
-            ReadResult::Nothing => Incoming::Nothing,
-            ReadResult::End => Incoming::End(Disconnected {
+        if !self.has_received_all() {
+            let count = self.read_before(space);
+            return Incoming::Bytes(BytesRead::of_before(&space[..count]));
+        }
+        match self.link.read(space) {
+            LinkRead::Bytes(bytes) => Incoming::Bytes(bytes),
+            LinkRead::Nothing => Incoming::Nothing,
+            LinkRead::End => Incoming::End(Disconnected {
                 duty: CannotDrop::begin(),
             }),
         }
@@ -120,7 +116,8 @@ impl<S> Connection<S> {
         token: &mut Token<S>,
         outgoing: Outgoing<S>,
     ) -> Result<Written<S>, Disconnected>
-        ensures { IfOk result (λ written. written.after ≡ outgoing.after) }
+        ensures after { IfOk result (λ written. written.after ≡ outgoing.after) }
+        ensures sent { IfOk result (λ written. written.sent ≡ outgoing.bytes.items) }
     {
         let _ = token;
         let Outgoing {
@@ -129,8 +126,13 @@ impl<S> Connection<S> {
             duty,
             side,
         } = outgoing;
-        match self.link.write(bytes.as_slice()) {
-            Ok(()) => Ok(Written { after, duty, side }),
+        match self.link.write(bytes) {
+            Ok(sent) => Ok(Written {
+                sent,
+                after,
+                duty,
+                side,
+            }),
             Err(_) => Err(Disconnected { duty }),
         }
     }

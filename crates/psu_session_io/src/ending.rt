@@ -8,7 +8,8 @@ ghost use Rattle.psu_session.specs.State.{output, writes};
 ghost use Rattle.psu_session_io.specs.Ending.{Discards, Drains, IsDiscarded, IsEnding};
 ghost use Rattle.psu_session_io.specs.Sharing.{EndsReceiving, Receives};
 
-use crate::linear::{BytesRead, Closing, Received};
+use crate::linear::{Closing, Received};
+use crate::link::BytesRead;
 use crate::{ConnectionSide, SharedSession, StepDevice};
 use psu_hislip::Side;
 use psu_session::{Device, Phase, Proceeded};
@@ -98,11 +99,7 @@ impl SharedSession {
         if S::SIDE == Side::Sync && self.drain(device) == Drained::More {
             return Ok(Received::Again(bytes));
         }
-        let BytesRead {
-            bytes: _,
-            duty,
-            side: _,
-        } = bytes;
+        let (_, duty) = bytes.into_parts();
         Err(Closing { duty })
     }
 }

@@ -1,9 +1,10 @@
 //! The first message that is sent on a connection.
-ghost use Rattle.std.specs.Prelude.{◌≡◌, ◌+◌};
+ghost use Rattle.std.specs.Prelude.{◌≡◌};
 ghost use Rattle.psu_hislip.specs.Faults.{fatal_code};
 ghost use Rattle.psu_hislip.specs.Frame.{header_of};
 ghost use Rattle.psu_hislip.specs.Header.{header_bytes};
-ghost use Rattle.psu_hislip.specs.declared.message_type.MessageType.TheVariants.{FatalError, InitializeResponse};
+ghost use Rattle.psu_hislip.specs.declared.message_type.MessageType.TheVariants.{FatalError};
+ghost use Rattle.psu_session_io.specs.Opening.{initialize_response};
 
 use psu_hislip::{FatalCode, Header, MessageType};
 use psu_session::HislipSession;
@@ -18,7 +19,7 @@ pub struct FirstReply {
 impl FirstReply {
     /// Returns the response to the Initialize of a session.
     pub fn initialized(session: &HislipSession) -> FirstReply
-        ensures { result.bytes ≡ header_bytes (header_of InitializeResponse 0 (16777216 + session.now.state.core.session) 0) }
+        ensures { result.bytes ≡ initialize_response session.now.state.core.session }
     {
         FirstReply {
             bytes: session.response().bytes(),

@@ -9,12 +9,14 @@
 
 mod connection;
 mod ending;
+mod first_message;
 mod first_reply;
 mod line;
 mod linear;
 mod link;
 mod lock;
 mod mailbox;
+mod new_connection;
 mod notice;
 mod served;
 mod shared;
@@ -28,12 +30,13 @@ pub use connection::{Connection, Incoming};
 pub use ending::Drained;
 pub use first_reply::FirstReply;
 pub use linear::{
-    Arrived, BytesRead, Closed, Closing, Disconnected, NextTask, Outgoing, Pending, Received,
-    Remainder, Written,
+    Arrived, Closed, Closing, Disconnected, NextTask, Outgoing, Pending, Received, Remainder,
+    Written,
 };
-pub use link::{Link, ReadResult};
+pub use link::{BytesRead, ReadResult, Sent};
 pub use lock::{Locked, SessionLock};
 pub use mailbox::Mailbox;
+pub use new_connection::{ConnectionEnd, FirstRead, NewConnection, Unanswered};
 pub use notice::Notice;
 pub use served::{NotAwaited, ServedSession};
 pub use shared::SharedSession;

@@ -1,14 +1,8 @@
 //! What must not be forgotten. These types have no `Drop`, but for `Closed`; `AfterWrite` is only a part of some of them.
 use crate::Notice;
+use crate::link::{BytesRead, Sent};
 use psu_replies::CannotDrop;
 use std::marker::PhantomData;
-
-/// Bytes that were read from a connection. The session must receive them.
-pub struct BytesRead<'a, S> {
-    pub(crate) bytes: &'a [u8],
-    pub(crate) duty: CannotDrop,
-    pub(crate) side: PhantomData<S>,
-}
 
 /// The result of a session's receiving of bytes.
 pub enum Received<'a, S> {
@@ -79,8 +73,9 @@ pub struct Outgoing<S> {
     pub(crate) side: PhantomData<S>,
 }
 
-/// Bytes that are written. The session's lock must be notified.
+/// Bytes that are written, and are these. The session's lock must be notified.
 pub struct Written<S> {
+    pub(crate) sent: Sent,
     pub(crate) after: AfterWrite,
     pub(crate) duty: CannotDrop,
     pub(crate) side: PhantomData<S>,

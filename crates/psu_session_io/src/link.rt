@@ -1,9 +1,11 @@
 //! A connection as a stream of bytes.
-ghost use Rattle.std.specs.Prelude.{◌≡◌, ◌≤◌, ℕ, suc, Ok, length};
+ghost use Rattle.std.specs.Prelude.{◌≡◌, ℕ, suc, Ok, IfOk};
 ghost use Rattle.psu_session_io.specs.declared.link.ReadResult.TheVariants.{Bytes, End};
 
 use crate::FirstReply;
+use psu_replies::CannotDrop;
 use std::io::{self, ErrorKind, Read, Write};
+use std::marker::{Model, PhantomData};
 use std::net::{Shutdown, TcpStream};
 use std::time::Duration;
 
@@ -38,10 +40,67 @@ impl ReadResult {
     }
 }
 
-/// A connection as a stream of bytes. One thread reads it, and one thread at a time writes. It sends a `FirstReply`, and
-/// what was taken from a session for it (`Connection::write`), and nothing else.
+/// Bytes that one read of a connection has returned. Only `Link::read` makes them, of the side for which it reads. They have
+/// no `Drop`: the session must receive them, or the connection keeps them.
+pub struct BytesRead<'a, S> {
+    bytes: &'a [u8],
+    duty: CannotDrop,
+    side: PhantomData<S>,
+}
+
+impl<'a, S> BytesRead<'a, S> {
+    /// Returns bytes that were read before, when it was not known which connection this is.
+    pub(crate) fn of_before(bytes: &'a [u8]) -> BytesRead<'a, S>
+        ensures { result.bytes.now ≡ bytes.now }
+    {
+        BytesRead {
+            bytes,
+            duty: CannotDrop::begin(),
+            side: PhantomData,
+        }
+    }
+
+    /// Returns the bytes, with what must be done with them.
+    pub(crate) fn into_parts(self) -> (&'a [u8], CannotDrop)
+        ensures { result.0.now ≡ self.entry.bytes.now }
+    {
+        let BytesRead {
+            bytes,
+            duty,
+            side: _,
+        } = self;
+        (bytes, duty)
+    }
+}
+
+/// What a read of a connection gives.
+pub(crate) enum LinkRead<'a, S> {
+    /// Bytes have come, at least one.
+    Bytes(BytesRead<'a, S>),
+    /// Nothing has come. The read is tried again.
+    Nothing,
+    /// The connection has ended.
+    End,
+}
+
+/// Bytes that were written on a connection, all of them. Only `Link::write` makes it. Contracts see the bytes.
 #[derive(Drop)]
-pub struct Link {
+pub struct Sent {
+    bytes: Vec<u8>,
+}
+
+impl Model for Sent {
+    ghost use Rattle.std.specs.Prelude.{List, ℕ};
+
+    ghost Value = { List ℕ };
+
+    ghost view = { λ sent. sent.bytes.items };
+}
+
+/// A connection as a stream of bytes. One thread reads it, and one thread at a time writes. It sends a `FirstReply`, and
+/// what was taken from a session for it (`Connection::write`), and nothing else. No other crate reads or writes it.
+#[derive(Drop)]
+pub(crate) struct Link {
     stream: TcpStream,
 }
 
@@ -53,21 +112,29 @@ impl Link {
 
     /// Sends the first message on the connection.
     pub fn answer(&self, reply: FirstReply) -> io::Result<()> {
-        self.write(&reply.bytes)
+        (&self.stream).write_all(&reply.bytes)
     }
 
     /// Writes bytes.
-    pub(crate) fn write(&self, bytes: &[u8]) -> io::Result<()> {
-        (&self.stream).write_all(bytes)
+    pub fn write(&self, bytes: Vec<u8>) -> io::Result<Sent>
+        ensures { IfOk result (λ sent. sent ≡ bytes.items) }
+    {
+        (&self.stream).write_all(bytes.as_slice())?;
+        Ok(Sent { bytes })
     }
 
     /// Reads what has come, or waits for it.
-    pub fn read(&self, into: &mut [u8]) -> ReadResult
-        ensures most { (count : ℕ) → result ≡ Bytes count → count ≤ length into.old }
-        ensures same { length into.new ≡ length into.old }
-    {
+    pub fn read<'a, S>(&self, into: &'a mut [u8]) -> LinkRead<'a, S> {
         let read = (&self.stream).read(into);
-        ReadResult::of(&read)
+        match ReadResult::of(&read) {
+            ReadResult::Bytes(count) => LinkRead::Bytes(BytesRead {
+                bytes: &into[..count],
+                duty: CannotDrop::begin(),
+                side: PhantomData,
+            }),
+            ReadResult::Nothing => LinkRead::Nothing,
+            ReadResult::End => LinkRead::End,
+        }
     }
 
     /// Sets how long a read waits at most.
@@ -77,7 +144,7 @@ impl Link {
 
     /// Ends waits for what comes: reads that begin from now on return at once. What the client has sent and the system has
     /// not passed on yet still comes then; a connection that is shut refuses it.
-    pub(crate) fn end_waits(&self) {
+    pub fn end_waits(&self) {
         let _ = self.stream.set_nonblocking(true);
     }
 

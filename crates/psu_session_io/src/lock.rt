@@ -107,7 +107,12 @@ impl<V: Locked + Drop> SessionLock<V> {
     fn end_write<S: ConnectionSide>(&self, written: Written<S>) -> NextTask<S>
         ensures { IsAfterWrite written.after result }
     {
-        let Written { after, duty, side } = written;
+        let Written {
+            sent: _,
+            after,
+            duty,
+            side,
+        } = written;
         let AfterWrite { more, again, due } = after;
         let awaited = self.writes.end(S::SIDE);
         if more || awaited {

@@ -1,12 +1,12 @@
 //! A session that threads serve.
-ghost use Rattle.std.specs.Prelude.{◌≡◌, IfErr, IfOk};
+ghost use Rattle.std.specs.Prelude.{◌≡◌, [], IfErr, IfOk};
 
 use crate::linear::{Closed, Closing};
 use crate::link::Link;
-use crate::{Locked, Mailbox, SessionLock};
+use crate::{Asynchronous, Connection, Locked, Mailbox, SessionLock, Synchronous, Unanswered};
 use psu_hislip::Side;
 use psu_locks::Session;
-use std::alloc::AllocError;
+use std::alloc::{AllocError, Global};
 use std::io::{self, ErrorKind};
 use std::rt::Clock;
 use std::sync::{Arc, Condvar, Mutex, Wait};
@@ -45,10 +45,17 @@ pub struct ServedSession<V> {
 
 impl<V: Locked + Drop> ServedSession<V> {
     /// Returns a session that waits for its second connection; the value where memory is refused.
-    pub fn new(session: V, mailbox: Arc<Mailbox>, first: Arc<Link>) -> Result<ServedSession<V>, V>
+    pub fn new(
+        session: V,
+        mailbox: Arc<Mailbox>,
+        first: &Unanswered<Synchronous>,
+    ) -> Result<ServedSession<V>, V>
         ensures number { IfOk result (λ served. served.number ≡ V.number session) }
         ensures refused { IfErr result (λ refused. refused ≡ session) }
     {
+        let Ok(first) = Arc::try_clone(&first.link) else {
+            return Err(session);
+        };
         Ok(ServedSession {
             number: session.number(),
             session: SessionLock::new(session)?,
@@ -74,7 +81,14 @@ impl<V: Locked + Drop> ServedSession<V> {
     }
 
     /// Adds the second connection. From now on reads of the first one wait without a limit.
-    pub fn join<R: Wait>(&self, rt: &R, link: Arc<Link>) -> Result<(), NotAwaited> {
+    pub fn join<R: Wait>(
+        &self,
+        rt: &R,
+        connection: &Unanswered<Asynchronous>,
+    ) -> Result<(), NotAwaited> {
+        let Ok(link) = Arc::try_clone(&connection.link) else {
+            return Err(NotAwaited);
+        };
         let mut second = self.second.lock(rt);
         if !matches!(&*second, Second::Awaited) || self.first.wait_at_most(None).is_err() {
             return Err(NotAwaited);
@@ -109,15 +123,18 @@ impl<V: Locked + Drop> ServedSession<V> {
         self.first.shut();
     }
 
-    /// Returns the first connection.
-    pub fn first(&self) -> Result<Arc<Link>, AllocError> {
-        Arc::try_clone(&self.first)
+    /// Returns its synchronous connection, for a thread that writes on it beside the one that reads it.
+    pub fn beside_reader(&self, alloc: Global) -> Result<Connection<Synchronous>, AllocError>
+        ensures { IfOk result (λ connection. connection ≡ []) }
+    {
+        let link = Arc::try_clone(&self.first)?;
+        Ok(Connection::new(link, Vec::new(alloc)))
     }
 
     /// Ends a session, also where no thread serves it: shuts both connections, and notifies all threads.
-    pub fn abandon<R: Wait>(&self, rt: &R) {
+    pub fn abandon<R: Wait>(&self, rt: &R) -> Closed {
         let closing = self.session.abandon(rt);
-        let _closed = self.close(rt, closing);
+        self.close(rt, closing)
     }
 
     /// The threads of the second connection have ended.

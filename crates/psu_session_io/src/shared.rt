@@ -9,7 +9,8 @@ ghost use Rattle.psu_session.specs.declared.phase.Phase.TheVariants.{Open, Over}
 ghost use Rattle.psu_session_io.specs.Shared.{Shared, with_phase, with_reader, with_value};
 ghost use Rattle.psu_session_io.specs.Sharing.{EndsExecuting, EndsNotified, EndsReceiving, EndsResponding, Executes, HasMore, MayContinue, MayRequestService, Notifies, Receives, ReceivesAll, Responds, waits_for};
 
-use crate::linear::{Arrived, BytesRead, Closing, Disconnected, Pending, Received, Remainder};
+use crate::linear::{Arrived, Closing, Disconnected, Pending, Received, Remainder};
+use crate::link::BytesRead;
 use crate::notice::Notice;
 use crate::writes::Writes;
 use crate::{Asynchronous, ConnectionSide, StepDevice, Synchronous};
@@ -19,7 +20,7 @@ use psu_messages::Need;
 use psu_replies::CannotDrop;
 use psu_session::{Device, HislipSession, Phase, Proceeded};
 use std::alloc::{AllocError, Global};
-use std::marker::Model;
+use std::marker::{Model, PhantomData};
 use std::sync::Arc;
 
 /// A session as its threads share it: what they bring and take are linear values. Contracts see its phase and its state,
@@ -141,7 +142,7 @@ impl SharedSession {
         ensures received { IfOk result (λ received. Receives D.does now S.SIDE bytes.entry.bytes.now received self.old device.old self.new device.new) }
         ensures ended { OnErr result (EndsReceiving D.does now S.SIDE bytes.entry.bytes.now self.old device.old self.new device.new) }
     {
-        let BytesRead { bytes, duty, side } = bytes;
+        let (bytes, duty) = bytes.into_parts();
         let was_joined = self.session.is_joined();
         if self.session.receive(now, S::SIDE, bytes, device).is_err() {
             return Err(Closing { duty });
@@ -150,7 +151,7 @@ impl SharedSession {
         Ok(Received::All(Pending {
             again: false,
             duty,
-            side,
+            side: PhantomData,
         }))
     }
 

@@ -18,8 +18,9 @@ pub trait Body<S> {
 }
 
 /// Runs a thread of a session, which ends only once the session is closed.
-pub fn run<S, R: Wait + Clock, B: Body<S>>(rt: &R, body: &mut B) {
+pub fn run<S, R: Wait + Clock, B: Body<S>>(rt: &R, body: &mut B) -> Closed {
     let mut token = Token { side: PhantomData };
-    let _closed = body.serve(rt, &mut token);
+    let closed = body.serve(rt, &mut token);
     let Token { side: _ } = token;
+    closed
 }

@@ -1,9 +1,7 @@
 //! The threads of a session: the readers of its connections, its worker and its notifier.
 use crate::serving::{Continue, Serving};
 use psu_bench::ServedDisk;
-use psu_session_io::{
-    Asynchronous, Body, Closed, Closing, Drained, Incoming, Synchronous, Token, run,
-};
+use psu_session_io::{Asynchronous, Body, Closed, Closing, Drained, Incoming, Synchronous, Token};
 use std::rt::Clock;
 use std::sync::Wait;
 use std::time::{Duration, Instant};
@@ -39,11 +37,6 @@ pub(crate) struct SyncReader<'s, 'v, D: ServedDisk> {
 }
 
 impl<'s, 'v, D: ServedDisk> SyncReader<'s, 'v, D> {
-    /// Reads until the session is over.
-    pub fn run<R: Wait + Clock>(&mut self, rt: &R) {
-        run(rt, self);
-    }
-
     // Limits how long the next read waits, until the session has its second connection.
     fn limit<R: Wait + Clock>(&mut self, rt: &R) -> io::Result<()> {
         if self.limited {
@@ -133,13 +126,6 @@ pub(crate) struct AsyncReader<'s, 'v, D: ServedDisk> {
     pub space: Vec<u8>,
 }
 
-impl<'s, 'v, D: ServedDisk> AsyncReader<'s, 'v, D> {
-    /// Reads until the session is over.
-    pub fn run<R: Wait + Clock>(&mut self, rt: &R) {
-        run(rt, self);
-    }
-}
-
 impl<'s, 'v, D: ServedDisk> Body<Asynchronous> for AsyncReader<'s, 'v, D> {
     fn serve<R: Wait + Clock>(&mut self, rt: &R, token: &mut Token<Asynchronous>) -> Closed {
         for _ in rt.forever() {
@@ -160,11 +146,6 @@ pub(crate) struct Worker<'s, 'v, S, D: ServedDisk> {
 }
 
 impl<'s, 'v, S: Continue, D: ServedDisk> Worker<'s, 'v, S, D> {
-    /// Works until the session is over.
-    pub fn run<R: Wait + Clock>(&mut self, rt: &R) {
-        run(rt, self);
-    }
-
     // Waits for the next notice, or until a release is due, and serves it. Returns when the next release is due.
     fn work_once<R: Wait + Clock>(
         &mut self,

@@ -25,7 +25,8 @@ pub use registry::Registry;
 pub use reporter::{HeldRegistry, Reporter};
 pub use seated_session::{MustClose, SeatedSession};
 pub use server::Server;
-pub use session_thread::{Role, serve_session, space};
+pub use serving::Continue;
+pub use session_thread::{listen_session, read_session, space, work_beside};
 pub use shared_device::SharedDevice;
 
 /// A session that threads serve, which is kept with its seat.

@@ -10,7 +10,7 @@ use std::rt::Clock;
 use std::sync::Wait;
 
 /// How a thread that writes on a connection continues a session.
-pub(crate) trait Continue: ConnectionSide + Sized {
+pub trait Continue: ConnectionSide + Sized {
     /// Continues a session, and takes what is to be written on the connection.
     fn proceed<R: Wait + Clock, D: ServedDisk>(
         rt: &R,

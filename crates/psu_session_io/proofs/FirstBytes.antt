@@ -6,7 +6,7 @@ use Rattle.psu_hislip.specs.Rest.{IsFedBy, all_received}
 use Rattle.psu_hislip.specs.Stream.{IsStream, received}
 use Rattle.psu_hislip.specs.declared.first.First.{First}
 use Rattle.psu_hislip.specs.declared.message.Message.{Message}
-use Rattle.psu_server.specs.Opening.{IsFirst}
+use Rattle.psu_session_io.specs.Opening.{IsFirst}
 
 -- a channel has returned messages, of which this is the first
 pub whole : {A : Type 0} (messages rest : List (Message A)) (message : Message A) (first : First) (channel : Awaited) (stream : List ℕ) → messages ≡ message ∷ rest → first ≡ first_of (received message)
