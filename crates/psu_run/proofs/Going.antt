@@ -1,6 +1,7 @@
 -- From a device at rest to a later moment, step by step.
 use Rattle.std.specs.Prelude.{unwrap_or}
-use Rattle.psu_run.proofs.Common.{◌≡◌, ℕ, ◌≤◌, ◌&&◌, List, ◌∷◌, refl, sym, ap, ◌∙◌, subst, inl, inr, arith, ⊎_elim, Option, Some, option_map, Calls, DeviceStops, DiskAfter, DiskState, Entry, Exec, ForSome, GaveBack, Ghosts, HasFailed, IdleStore, IsAlong, IsAt, IsCrashImage, IsWornOut, JobEnd, Leads, LeavesOnly, NoNumber, Ran, RunCause, RunPoint, Running, Serves, State, StoreBroken, World, and_then, disk_in, failures_of, fault_of, idle_disk, is_broken, is_calm, recorded, started, weaken, same_Some}
+use Rattle.psu_run.proofs.Common.{◌≡◌, ℕ, ◌≤◌, ◌&&◌, List, ◌∷◌, refl, sym, ap, ◌∙◌, subst, inl, inr, arith, ⊎_elim, Option, Some, option_map, Calls, DeviceStops, DiskAfter, DiskState, Entry, Exec, ForSome, GaveBack, Ghosts, HasFailed, IdleStore, IsAlong, IsAt, IsCrashImage, IsWornOut, JobEnd, Leads, LeavesOnly, NoNumber, Ran, RunCause, RunPoint, Running, Serves, State, StoreBroken, World, and_then, disk_in, failures_of, fault_of, idle_disk, is_broken, is_calm, recorded, started, weaken, same_Some, ◌^◌, ◌+◌, reads_left, after, finished, here, passed}
+use Rattle.psu_items.specs.Image.{current_root, number_in}
 use Rattle.psu_run.proofs.OneList.{Continues, Reached, along_here, goes_then, prefix_of_reached, reached_on, stays_on, step_goes}
 
 -- ---- failures, and the disk of the idle store
@@ -13,6 +14,10 @@ failures_is {D} {A} {G} exec disk is = ap (λ (z : Option D). unwrap_or (option_
 
 pub for_disk : {D A : Type 0} {G : Ghosts D} (exec : Exec D A G) {disk : D} (P : D → Type 0) → disk_in exec ≡ Some disk → P disk → ForSome (disk_in exec) P
 for_disk exec {disk} P there p other is = subst P (same_Some disk other (sym there ∙ is)) p
+
+-- an honest disk shows the number of its store
+pub worn_shows : (disk : DiskState) (number : ℕ) → ((image : List ℕ) → IsCrashImage disk image → number_in (current_root image) image ≡ number) → 2 ^ 64 ≤ number + 1 → IsWornOut disk.bytes
+worn_shows disk number shown last = subst (λ (n : ℕ). 2 ^ 64 ≤ n + 1) (sym (shown disk.bytes (reads_left disk))) last
 
 -- ---- one after another
 

@@ -1,10 +1,10 @@
 -- The steps of a job, of a flush, of a wait and of a unit; the changes that a flush leaves unflushed; and why a unit may be `Later`.
-use Rattle.psu_run.proofs.Common.{true, ◌≡◌, ◌⊎◌, ℕ, suc, ◌≤◌, Some, List, [], refl, sym, ap, ◌∙◌, subst, inr, arith, ◌<◌, None, Allows, Begins, Calls, Cleared, Commit, DeviceStops, Exec, Executed, Flush, GaveBack, Ghosts, HasFailed, IsAlong, IsAt, IsEither, IsFlush, IsJob, IsWornOut, Job, JobData, JobEnd, JobKind, Jobs, Later, Leads, LeavesOnly, MayAnswer, NoNumber, Ran, Reopen, Reply, Request, RunCause, RunPoint, Serves, Settled, State, StoreBroken, Taken, Took, Whole, Worn, disk_in, failures_of, fault_of, is_broken, is_whole, job_data, job_disk, job_of, job_store, serves_took, target, wait_of, weaken}
+use Rattle.psu_run.proofs.Common.{true, ◌≡◌, ◌⊎◌, ℕ, suc, ◌≤◌, Some, List, [], refl, sym, ap, ◌∙◌, subst, inr, arith, ◌<◌, None, Allows, Begins, Calls, Cleared, Commit, DeviceStops, Exec, Executed, Flush, GaveBack, Ghosts, HasFailed, IsAlong, IsAt, IsEither, IsFlush, IsJob, IsWornOut, Job, JobData, JobEnd, JobKind, Jobs, Later, Leads, LeavesOnly, MayAnswer, NoNumber, Ran, Reopen, Reply, Request, RunCause, RunPoint, Serves, Settled, State, StoreBroken, Taken, Took, Whole, Worn, disk_in, failures_of, fault_of, is_broken, is_whole, job_data, job_disk, job_of, job_store, serves_took, target, wait_of, weaken, Halts, finished, has}
 use Rattle.psu_exec.specs.World.{IsTrueOf}
 use Rattle.psu_exec.specs.declared.job.Job.{Job as AnyJob}
 use Rattle.psu_run.proofs.Going.{call_steps, failures_is, for_disk, ran_as, stepped, steps_call, steps_then}
 use Rattle.psu_run.proofs.OneList.{Reached, along_here, goes_then, prefix_of_either, reached_on, step_goes}
-use Rattle.psu_run.proofs.Walking.{begins_behind, begins_call, begins_idle, flush_begins, job_begins}
+use Rattle.psu_run.proofs.Walking.{begins_behind, begins_call, begins_idle, flush_begins, job_begins, refused_before}
 
 -- ---- a take and a job as steps
 
@@ -86,9 +86,10 @@ steps_wait reply flushes serves there =
     (steps_call (Settled 1 reply) (λ p q. Calls p (Settled 1 reply) q) serves there (grind arith) (λ w. refl) (λ finished over e. cc) (λ p q c. c)) (λ p m q f c. (m, f, c))
 
 -- a stop, and then the wait is dropped
-pub device_stops_cleared : {D A : Type 0} {G : Ghosts D} {old mid new : Exec D A G} {cause : RunCause} → DeviceStops old mid (Begins []) cause → Serves mid.device (Cleared 1) new.device → new.idle_store ≡ mid.idle_store → DeviceStops old new (Begins []) cause
-device_stops_cleared {old = old} {mid = mid} {new = new} {cause = cause} stops serves there = record {
-  leads = steps_then (Begins []) stops.leads (steps_call (Cleared 1) (Begins []) serves there (grind arith) (λ w. refl) (λ finished over e. cc) (λ p q c. begins_call (Cleared 1) [] c refl)) (λ p m q b e. begins_idle [] b e);
+pub device_stops_cleared : {D A : Type 0} {G : Ghosts D} {old mid new : Exec D A G} (cause : RunCause) → DeviceStops old mid (Halts (Some cause) []) cause → Serves mid.device (Cleared 1) new.device → new.idle_store ≡ mid.idle_store → DeviceStops old new (Halts (Some cause) []) cause
+device_stops_cleared {old = old} {mid = mid} {new = new} cause stops serves there = record {
+  leads = steps_then (Halts (Some cause) []) stops.leads (steps_call (Cleared 1) (λ p q. Calls p (Cleared 1) q) serves there (grind arith) (λ w. refl) (λ finished over e. cc) (λ p q c. c))
+      (λ p m q b c. (begins_idle [] b.0 (begins_call (Cleared 1) [] c refl), refused_before cause 1 b.1 c));
   own = stops.own;
   why = λ e before t. let w = stops.why e before t in grind arith;
 }

@@ -1,5 +1,5 @@
 -- Steps, one after another: the units that they execute, and what they leave of a point.
-use Rattle.psu_run.proofs.Common.{◌≡◌, ◌⊎◌, ℕ, zero, suc, ◌&&◌, true, List, [], ◌∷◌, ◌++◌, refl, sym, ap, ◌∙◌, subst, append_assoc, append-nil, inl, inr, arith, Option, Some, Acts, Begins, Calls, Does, Effect, Entry, Executed, GaveBack, OneCall, IsFlush, IsJob, IsUnit, Job, JobKind, Jobs, Later, Nothing, Parked, Reopen, Reply, Request, RunPoint, Running, Settled, NoCall, Steps, Took, executed_by, is_calm, text_sent, Sent}
+use Rattle.psu_run.proofs.Common.{◌≡◌, ◌⊎◌, ℕ, zero, suc, ◌&&◌, true, List, [], ◌∷◌, ◌++◌, refl, sym, ap, ◌∙◌, subst, append_assoc, append-nil, inl, inr, arith, Option, Some, Acts, Begins, Calls, Does, Effect, Entry, Executed, GaveBack, OneCall, IsFlush, IsJob, IsUnit, Job, JobKind, Jobs, Later, Nothing, Parked, Reopen, Reply, Request, RunPoint, Running, Settled, NoCall, Steps, Took, executed_by, is_calm, text_sent, Sent, BeforeDrop, Cleared, Device, IsRefusedFor, Memory, Open, Read, RunCause, TooLong, Write, finished}
 use Rattle.psu_messages.specs.Effects as effects
 
 -- ---- the units that they execute
@@ -31,6 +31,15 @@ begins_idle {p} {m} {q} a (OneCall entry mid more c is rest) none = OneCall entr
 
 pub job_begins : {p q : RunPoint} {kind : JobKind} → IsJob kind p q → Begins [] p q
 job_begins (job, finished, over, out, takes, give, kind_is, own, long) = OneCall (Took (Job job)) out [] takes refl (begins_call (GaveBack finished (Some over)) [] give refl)
+
+-- a call in which memory was refused, and a drop of a wait after it
+pub refused_before : {p q : RunPoint} (cause : RunCause) (session : ℕ) → IsRefusedFor (Some cause) p → Calls p (Cleared session) q → IsRefusedFor (Some cause) q
+refused_before (Memory sign) session refused call = BeforeDrop session refused call
+refused_before Read session refused call = tt
+refused_before TooLong session refused call = tt
+refused_before Write session refused call = tt
+refused_before (Open why) session refused call = tt
+refused_before Device session refused call = tt
 
 -- a store is reopened before
 pub reopening : {p q : RunPoint} → (q ≡ p) ⊎ IsJob Reopen p q → Begins [] p q

@@ -1,7 +1,7 @@
 //! The laws of the text that a run writes.
 ghost use Rattle.std.specs.Prelude.{ℕ, List, ◌≡◌};
 ghost use Rattle.psu_nv.specs.Contents.{Contents};
-ghost use Rattle.psu_run.specs.Runs.{ScriptAlone};
+ghost use Rattle.psu_run.specs.Points.{ScriptAlone};
 ghost use Rattle.psu_run.specs.Script.{IsScript};
 
 use psu_lex::{

@@ -22,7 +22,7 @@ pub(crate) fn run_between<R: Read, W: Write, D: Disk, A: Allocator + Copy>(
     reader: &mut R,
     writer: &mut W,
     disk: D,
-) -> Result<D, RunFault<D>> {
+) -> Result<D, RunFault<D, A>> {
     run(memory, reader, writer, RunStart::Image(disk))
 }
 
@@ -42,7 +42,7 @@ pub(crate) fn run_from<R: Read, D: Disk, A: Allocator + Copy>(
     let mut text = Vec::new(alloc);
     let (cause, is_worn, disk) = match run_between(memory, reader, &mut text, disk) {
         Ok(disk) => (None, false, disk),
-        Err(fault) => (Some(fault.cause), fault.is_worn, fault.disk),
+        Err(fault) => (Some(fault.cause), fault.is_worn(), fault.into_disk()),
     };
     Ran {
         text,

@@ -1,4 +1,4 @@
-use Rattle.psu_run.proofs.Common.{◌≤◌, ◌≡◌, ℕ, suc, ◌+◌, ◌-◌, [], rules, arith, refl, sym, inl, subst, IsFlush, IsTied, Jobs, NoCall, failures_of, passed}
+use Rattle.psu_run.proofs.Common.{◌≤◌, ◌≡◌, ℕ, suc, ◌+◌, ◌-◌, [], rules, arith, refl, sym, inl, subst, IsFlush, IsTied, Jobs, NoCall, failures_of, passed, flushed}
 use Rattle.psu_run.proofs.UnitEnds.{IsFlushAfter, IsFlushed, one_more}
 use Rattle.psu_run.proofs.Going.{device_stops_then, steps_as, steps_none, steps_then}
 use Rattle.psu_run.proofs.Walking.{begins_behind}
@@ -11,7 +11,7 @@ loop-init g c =
 pub returns-in_err-run_next-clause-stops : goal.returns-in_err-run_next-clause-stops
 returns-in_err-run_next-clause-stops g c =
     passed c.from_residual.result c.in_err-run_next.field-0.0 _ c.from_residual.ensures.1
-    (device_stops_then _ c.loop.invariant.jobs c.in_err-run_next.ensures.stops (λ p m q a b. begins_behind [] a.0 b))
+    (device_stops_then _ c.loop.invariant.jobs c.in_err-run_next.ensures.stops (λ p m q a b. (begins_behind [] a.0 b.0, b.1)))
 
 pub returns-in-Nothing-clause-flushes : goal.returns-in-Nothing-clause-flushes
 returns-in-Nothing-clause-flushes g c =

@@ -1,4 +1,8 @@
-use Rattle.psu_run.proofs.Common.{◌≡◌, ℕ, List, [], refl, ap, ◌∙◌, subst, sym, Some, arith, Item, NotStarted, Opened, Represents, Running, Serves, World, least_free, power_on, reads_left, represents_readable, serves_opened}
+use Rattle.psu_run.proofs.Common.{◌≡◌, ℕ, List, [], refl, ap, ◌∙◌, subst, sym, Some, arith, Item, NotStarted, Opened, Represents, Running, Serves, World, least_free, power_on, reads_left, represents_readable, serves_opened, RecoverFault, start_of, Open, Device, map, opened}
+use Rattle.psu_run.proofs.Going.{worn_shows}
+use Rattle.psu_run.specs.Ends.{cause_of}
+use Rattle.psu_run.specs.declared.recover_fault.RecoverFault.TheVariants as recover_fault
+use Rattle.psu_exec.specs.declared.start_cause.StartCause.TheVariants as start
 use Rattle.psu_exec.specs.Headline.{AreBad}
 use Rattle.psu_exec.specs.declared.start_cause.PowerCause.{PowerCause}
 use Rattle.psu_exec.specs.declared.start_cause.PowerCause.TheVariants as power
@@ -12,7 +16,8 @@ refused power.Memory image limit n map stands bad = (refl, represents_readable i
 
 pub returns-in-Err-clause-refused : goal.returns-in-Err-clause-refused
 returns-in-Err-clause-refused g c = λ image stands.
-    let fault = c.in-Err.fault in (start_of_power_on fault.cause, grind arith, refused fault.cause image c.args.store.limit _ c.args.store.items stands c.in-Err.ensures.bad)
+    let fault = c.in-Err.fault in
+    (c.power_fault.result, c.from.ensures, subst (NotStarted image (g.D.Disk.failures c.args.store.disk) (g.D.Disk.failures c.args.store.disk)) (sym c.power_fault.ensures) (refused fault.cause image c.args.store.limit _ c.args.store.items stands c.in-Err.ensures.bad))
 
 pub returns-in-Err-clause-own : goal.returns-in-Err-clause-own
 returns-in-Err-clause-own g c = λ h. c.items.ensures.represents h _ (reads_left (g.D.Disk.state c.args.store.disk))
@@ -40,8 +45,22 @@ returns-clause-starts g c = λ h image stands size.
       (refl, refl, refl, refl),
     )
 
+-- a power-on makes no call of the disk
+not_opened : (why : RecoverFault) (cause : PowerCause) → start_of why ≡ start_of_power_on cause → cause_of why ≡ Open start.Device → ⊥
+not_opened (recover_fault.Start why) power.BadItems is e = let bad = sym is in cc
+not_opened (recover_fault.Start why) power.Memory is e = cc
+not_opened (recover_fault.Memory sign) cause is e = cc
+
+no_device : (why : RecoverFault) → cause_of why ≡ Device → ⊥
+no_device (recover_fault.Start why) e = cc
+no_device (recover_fault.Memory sign) e = cc
+
 pub returns-in-Err-clause-failed : goal.returns-in-Err-clause-failed
-returns-in-Err-clause-failed g c = record { opening = λ e. grind arith; device = λ e whole. grind arith; worn = λ e. grind arith }
+returns-in-Err-clause-failed g c = record {
+  opening = λ e. absurd (not_opened c.power_fault.result c.in-Err.fault.cause c.power_fault.ensures (sym c.from.ensures ∙ e));
+  device = λ e. absurd (no_device c.power_fault.result (sym c.from.ensures ∙ e));
+  worn = λ worn h. worn_shows (g.D.Disk.state c.in-Err.fault.store.disk) c.in-Err.fault.store.number (λ image left. c.number.ensures.represents h image left ∙ c.number.ensures.value) worn;
+}
 
 pub invariant_of-result-clause-last : goal.invariant_of-result-clause-last
 invariant_of-result-clause-last g c = grind arith

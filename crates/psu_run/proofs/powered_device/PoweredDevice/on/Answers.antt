@@ -1,5 +1,5 @@
 use Rattle.psu_run.proofs.Going.{for_disk}
-use Rattle.psu_run.proofs.Common.{refl, ◌∙◌, ℕ, sym, subst, arith, inl, IsAt, IsOldOrSame, LeavesOnly, NotStarted, at_power_on, passed, started}
+use Rattle.psu_run.proofs.Common.{refl, ◌∙◌, ℕ, sym, subst, arith, inl, IsAt, IsOldOrSame, LeavesOnly, NotStarted, at_power_on, passed, started, disk_from, start_of, map, opened}
 use Rattle.psu_exec.specs.Starts.{start_of_opening}
 use Rattle.psu_run.proofs.powered_device.PoweredDevice.on.Goals as goal
 
@@ -41,7 +41,8 @@ returns-in_err-powered-in-Store-clause-left g c = λ h.
 -- ---- on an image
 
 pub returns-in-Err-clause-refused : goal.returns-in-Err-clause-refused
-returns-in-Err-clause-refused g c = λ h. let refused = c.in-Err.ensures in (start_of_opening c.in-Err.refused.cause, grind arith, grind arith)
+returns-in-Err-clause-refused g c = λ h. let refused = c.in-Err.ensures in
+    (c.opening_fault.result, c.from.ensures, subst (NotStarted (g.D.Disk.state (disk_from c.args.start)).bytes (g.D.Disk.failures (disk_from c.args.start)) (g.D.Disk.failures c.in-Err.refused.disk)) (sym c.opening_fault.ensures) (grind arith))
 
 pub returns-in-Err-clause-left : goal.returns-in-Err-clause-left
 returns-in-Err-clause-left g c = rw c.in-Image.is (λ h limit map each. (c.in-Err.ensures.left limit map each).left h)
@@ -67,7 +68,7 @@ returns-in_err-powered-in-Image-clause-refused g c = λ h.
     let e = c.in_err-powered-in-Image.ensures in let opened = c.in-Ok.ensures in let disk = c.in-Image.disk in
     passed c.from_residual-in_err-powered-in-Image.result c.in_err-powered-in-Image.field-0.0 _ c.from_residual-in_err-powered-in-Image.ensures.1
     (let r = e.refused (g.D.Disk.state disk).bytes (opened.represented h) in
-    rw (e.disk, c.in-Image.is) (r.0, r.1, subst (λ (n : ℕ). NotStarted (g.D.Disk.state disk).bytes n (g.D.Disk.failures c.in-Ok.store.disk) r.0) opened.step.works r.2))
+    rw (e.disk, c.in-Image.is) (r.0, r.1, subst (λ (n : ℕ). NotStarted (g.D.Disk.state disk).bytes n (g.D.Disk.failures c.in-Ok.store.disk) (start_of r.0)) opened.step.works r.2))
 
 pub returns-in_err-powered-in-Image-clause-left : goal.returns-in_err-powered-in-Image-clause-left
 returns-in_err-powered-in-Image-clause-left g c = λ h.
