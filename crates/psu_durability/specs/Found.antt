@@ -36,7 +36,7 @@ Finds possible opened found P = KeepsModel possible opened → IfOk found (λ st
 
 -- A run from one disk to another wrote to the end of its input, or ended early for a cause.
 abbrev pub WritesOn : {D : Type 0} (G : Ghosts D) → Option RunCause → D → D → Option (List ℕ) → Written → Written → Type 0
-WritesOn G end from to input old new = WritesTo end (Ghosts.state G from).bytes input (Ghosts.failures G from) (Ghosts.failures G to) old new (Ghosts.state G to)
+WritesOn G end from to input old new = WritesTo (Ghosts.honest G) end (Ghosts.state G from).bytes input (Ghosts.failures G from) (Ghosts.failures G to) old new (Ghosts.state G to)
 
 -- Where power was lost at a moment since the run began: what the disk held before it, or the contents after a prefix.
 abbrev pub FindsOfRun : {D : Type 0} (G : Ghosts D) → D → D → RunPoint → DiskState → Result (MapOn D) (ImageError D) → Type 0

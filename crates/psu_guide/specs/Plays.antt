@@ -26,7 +26,7 @@ pub record Plays (sent text : List ℕ) : Type 0 where
   pub disk : DiskState
   pub is_new : IsNew disk
   pub over : DiskState
-  pub writes : WritesTo None disk.bytes (Some sent) 0 0 (holding []) (holding text) over
+  pub writes : WritesTo ⊤ None disk.bytes (Some sent) 0 0 (holding []) (holding text) over
 
 -- On a new image a run to which this is sent ends early for this cause, and no call of its disk fails. `rest` is what it
 -- did not read, and `text` what it wrote.
@@ -36,8 +36,8 @@ pub record FailsWith (sent : List ℕ) (cause : RunCause) : Type 0 where
   pub over : DiskState
   pub rest : List ℕ
   pub text : List ℕ
-  pub ends : DoesNotStart cause 0 0 (Some sent) (Some rest) (holding []) (holding text) disk over
-      ⊎ WritesTo (Some cause) disk.bytes (Some sent) 0 0 (holding []) (holding text) over
+  pub ends : DoesNotStart ⊤ cause 0 0 (Some sent) (Some rest) (holding []) (holding text) disk over
+      ⊎ WritesTo ⊤ (Some cause) disk.bytes (Some sent) 0 0 (holding []) (holding text) over
   pub long : cause ≡ TooLong → IsTooLong (Some sent) (Some rest) None None
 
 -- Why a new instrument cannot answer. A contract cannot see that an allocation failed.

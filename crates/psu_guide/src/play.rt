@@ -30,11 +30,11 @@ fn written<D: Disk + Drop, A: Allocator + Copy>(
     sent: &[u8],
     disk: D,
 ) -> Result<Vec<u8, A>, RunCause>
-    ensures whole { D.honest → IfOk result (λ text. (over : D)
-        × WritesTo None (D.state disk).bytes (Some sent.now) (D.failures disk) (D.failures over) (holding []) (holding text.items) (D.state over)) }
-    ensures early { D.honest → IfErr result (λ cause. (over : D) × (rest : List ℕ) × (text : List ℕ)
-        × (DoesNotStart cause (D.failures disk) (D.failures over) (Some sent.now) (Some rest) (holding []) (holding text) (D.state disk) (D.state over)
-        ⊎ WritesTo (Some cause) (D.state disk).bytes (Some sent.now)
+    ensures whole { IfOk result (λ text. (over : D)
+        × WritesTo D.honest None (D.state disk).bytes (Some sent.now) (D.failures disk) (D.failures over) (holding []) (holding text.items) (D.state over)) }
+    ensures early { IfErr result (λ cause. (over : D) × (rest : List ℕ) × (text : List ℕ)
+        × (DoesNotStart D.honest cause (D.failures disk) (D.failures over) (Some sent.now) (Some rest) (holding []) (holding text) (D.state disk) (D.state over)
+        ⊎ WritesTo D.honest (Some cause) (D.state disk).bytes (Some sent.now)
         (D.failures disk) (D.failures over) (holding []) (holding text) (D.state over))
         × (cause ≡ RunCause.TooLong → IsTooLong (Some sent.now) (Some rest) None None)) }
 {

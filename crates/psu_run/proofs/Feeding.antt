@@ -18,8 +18,8 @@ pub answers_none : {D A : Type 0} {G : Ghosts D} (exec : Exec D A G) (t : Output
 answers_none exec t = ([], says_none t, steps_none exec (λ text. text) _ (λ p. (refl, sym (append-nil p.text))))
 
 pub answers_then : {D A : Type 0} {G : Ghosts D} (xs ys : List Message) {s s1 s2 : Exec D A G} (t0 t1 t2 : OutputState) → Answers xs s s1 t0 t1 → Answers ys s1 s2 t1 t2 → Answers (xs ++ ys) s s2 t0 t2
-answers_then xs ys t0 t1 t2 p q =
-    (p.0 ++ q.0, says_join t0 t1 t2 p.0 q.0 p.1 q.1, steps_then _ p.2 q.2 (λ a b c x y. (runs_join a b c xs ys x.0 y.0, y.1 ∙ ap (λ (z : List ℕ). z ++ q.0) x.1 ∙ append_assoc a.text p.0 q.0)))
+answers_then {G = G} xs ys t0 t1 t2 p q =
+    (p.0 ++ q.0, says_join t0 t1 t2 p.0 q.0 p.1 q.1, steps_then _ p.2 q.2 (λ a b c x y. (runs_join (Ghosts.honest G) a b c xs ys x.0 y.0, y.1 ∙ ap (λ (z : List ℕ). z ++ q.0) x.1 ∙ append_assoc a.text p.0 q.0)))
 
 pub ends_then : {D A : Type 0} {G : Ghosts D} (end : Option RunCause) (disk : D) (done due : List Message) {s s1 : Exec D A G} (t0 t1 t2 : OutputState) → Answers done s s1 t0 t1 → Ends s1 end disk due t1 t2 → Ends s end disk (done ++ due) t0 t2
 ends_then end disk done due t0 t1 t2 p q = (p.0 ++ q.0, until_after end t0 t1 t2 p.0 q.0 p.1 q.1, stops_then end disk done due p.0 q.0 p.2 q.2)
@@ -114,7 +114,7 @@ line_stops mid rest at begun {s1} fault t1 t2 found shifted free stops = λ inpu
 
 module _ {D A : Type 0} {G : Ghosts D} {X : Type 0} (exec : X → Exec D A G) (output : X → OutputState) (does : X → Effect → X → Type 0)
     (on : (x y : X) (effect : Effect) → does x effect y → IsDone (exec x) (output x) effect (exec y) (output y)) where
-  follow : (added : List Effect) (x y : X) → effects.Runs does x added y → Leads (exec x) (exec y) (λ p q. effects.Runs Does p added q) × Says (output x) (output y) (text_sent added)
+  follow : (added : List Effect) (x y : X) → effects.Runs does x added y → Leads (exec x) (exec y) (λ p q. effects.Runs (Does (Ghosts.honest G)) p added q) × Says (output x) (output y) (text_sent added)
   follow [] x y same = subst (λ (z : X). Leads (exec x) (exec z) (λ p q. q ≡ p) × Says (output x) (output z) []) (sym same) (steps_none (exec x) (λ text. text) (λ p q. q ≡ p) (λ p. refl), says_none (output x))
   follow (Executed request reply ∷ added) x y (mid, d, runs) =
       let unit = on x mid (Executed request reply) d in
@@ -126,7 +126,7 @@ module _ {D A : Type 0} {G : Ghosts D} {X : Type 0} (exec : X → Exec D A G) (o
   follow (Sent said last ∷ added) x y (mid, d, runs) =
       let sent = on x mid (Sent said last) d in
       let rest = follow added mid y runs in (
-        steps_then _ (steps_none (exec x) (λ text. text ++ said) (λ p m. Does p (Sent said last) m) (λ p. refl)) (subst (λ (z : Exec D A G). Leads z (exec y) (λ p q. effects.Runs Does p added q)) sent.0 rest.0) (λ p m q d r. (m, d, r)),
+        steps_then _ (steps_none (exec x) (λ text. text ++ said) (λ p m. Does (Ghosts.honest G) p (Sent said last) m) (λ p. refl)) (subst (λ (z : Exec D A G). Leads z (exec y) (λ p q. effects.Runs (Does (Ghosts.honest G)) p added q)) sent.0 rest.0) (λ p m q d r. (m, d, r)),
         says_join (output x) (output mid) (output y) said (text_sent added) sent.1 rest.1,
       )
 
@@ -134,7 +134,7 @@ module _ {D A : Type 0} {G : Ghosts D} {X : Type 0} (exec : X → Exec D A G) (o
   pub whole : (source : Source) (x y : X) (from c : Progress) → from ≡ beginning → Advances does source x from y c → IsOver source c → Answers (Message.Line source ∷ []) (exec x) (exec y) (output x) (output y)
   whole source x y from c fresh went over =
       let a = subst (λ (z : Progress). Advances does source x z y c) fresh went in let f = follow a.added x y a.runs in
-      (text_sent a.added, f.1, steps_as _ f.0 (λ p q r. ((q, c, record { added = a.added; runs = r; reaches = a.reaches }, over, refl), (effects_keep p q a.added r).0)))
+      (text_sent a.added, f.1, steps_as _ f.0 (λ p q r. ((q, c, record { added = a.added; runs = r; reaches = a.reaches }, over, refl), (effects_keep (Ghosts.honest G) p q a.added r).0)))
 
 -- ---- a line that stopped early
 
@@ -145,22 +145,22 @@ not_device cause (inr write) is = let bad = sym write ∙ is in cc
 
 -- a unit that gave a response was executed
 responded : {D A : Type 0} {G : Ghosts D} (mid here : Exec D A G) (now then : OutputState) (parked : Bool) (request : Request) (effect : Effect) (response : List ℕ) → IsTry parked request effect (Answer response) → IsDone mid now effect here then
-    → (then ≡ now) × Leads mid here (λ p q. (reply : Reply) × IsUnit request reply p q)
-responded mid here now then false request (Executed other reply) response (same, is) d =
-    (d.0, steps_as (λ p q. (reply : Reply) × IsUnit request reply p q) d.2 (λ p q u. (reply, subst (λ (z : Request). IsUnit z reply p q) same u)))
+    → (then ≡ now) × Leads mid here (λ p q. (reply : Reply) × IsUnit (Ghosts.honest G) request reply p q)
+responded {G = G} mid here now then false request (Executed other reply) response (same, is) d =
+    (d.0, steps_as (λ p q. (reply : Reply) × IsUnit (Ghosts.honest G) request reply p q) d.2 (λ p q u. (reply, subst (λ (z : Request). IsUnit (Ghosts.honest G) z reply p q) same u)))
 responded mid here now then parked request effect response never d = grind arith
 
 module _ {D A : Type 0} {G : Ghosts D} {X : Type 0} (exec : X → Exec D A G) (output : X → OutputState) (r : Relations X RunCause) (source : Source)
     (on : (x y : X) (effect : Effect) → r.does x effect y → IsDone (exec x) (output x) effect (exec y) (output y))
-    (fail : (x y : X) (request : Request) (cause : RunCause) → r.fails x request cause y → (output y ≡ output x) × DeviceStops (exec x) (exec y) (Halts (Some cause) (request ∷ [])) cause × (cause ≢ Write))
+    (fail : (x y : X) (request : Request) (cause : RunCause) → r.fails x request cause y → (output y ≡ output x) × DeviceStops (exec x) (exec y) (Halts (Ghosts.honest G) (Some cause) (request ∷ [])) cause × (cause ≢ Write))
     (stop : (x y : X) (cause : RunCause) → r.stops x cause y → (exec y ≡ exec x) × (IsMemory cause ⊎ (cause ≡ Write)) × SaysUntil (Some cause) (output x) (output y) []) where
   -- the line up to a stop, and its output with what is in the response buffer
   abbrev Broken : X → X → RunCause → Text → Type 0
-  Broken x y cause left = (part : List ℕ) × DeviceStops (exec x) (exec y) (BeginsText (Some cause) (Message.Line source ∷ []) part) cause × SaysUntil (Some cause) (output x) (held (output y).written ((output y).gathered ++ left.rest)) part
+  Broken x y cause left = (part : List ℕ) × DeviceStops (exec x) (exec y) (BeginsText (Ghosts.honest G) (Some cause) (Message.Line source ∷ []) part) cause × SaysUntil (Some cause) (output x) (held (output y).written ((output y).gathered ++ left.rest)) part
 
   -- what is not sent is appended to the text of these effects
   abbrev WithRest : List Effect → List ℕ → RunPoint → RunPoint → Type 0
-  WithRest added rest p s = (m : RunPoint) × effects.Runs Does p added m × (s ≡ record m { text = m.text ++ rest })
+  WithRest added rest p s = (m : RunPoint) × effects.Runs (Does (Ghosts.honest G)) p added m × (s ≡ record m { text = m.text ++ rest })
 
   with_rest : (x mid : X) (c : Progress) (a : Advances r.does source x beginning mid c) → Leads (exec x) (exec mid) (WithRest a.added c.text.rest)
   with_rest x mid c a =
@@ -169,7 +169,7 @@ module _ {D A : Type 0} {G : Ghosts D} {X : Type 0} (exec : X → Exec D A G) (o
 
   -- and then the next unit may have begun, or been executed
   abbrev NextUnit : RunCause → Progress → RunPoint → RunPoint → Type 0
-  NextUnit cause c s q = (q ≡ s) ⊎ ((request : Request) × IsNext source c request × (((reply : Reply) × IsUnit request reply s q) ⊎ Halts (Some cause) (request ∷ []) s q))
+  NextUnit cause c s q = (q ≡ s) ⊎ ((request : Request) × IsNext source c request × (((reply : Reply) × IsUnit (Ghosts.honest G) request reply s q) ⊎ Halts (Ghosts.honest G) (Some cause) (request ∷ []) s q))
 
   same_text : (cause : RunCause) (c : Progress) (s q : RunPoint) → NextUnit cause c s q → q.text ≡ s.text
   same_text cause c s q (inl same) = ap (λ (z : RunPoint). z.text) same
@@ -177,10 +177,10 @@ module _ {D A : Type 0} {G : Ghosts D} {X : Type 0} (exec : X → Exec D A G) (o
   same_text cause c s q (inr (request, next, inr halts)) = (begins_keep (request ∷ []) halts.0).0 ∙ append-nil s.text
 
   line : (cause : RunCause) (x mid : X) (c : Progress) (a : Advances r.does source x beginning mid c) {p s q : RunPoint} → WithRest a.added c.text.rest p s → NextUnit cause c s q
-      → BeginsText (Some cause) (Message.Line source ∷ []) (text_sent a.added ++ c.text.rest) p q
+      → BeginsText (Ghosts.honest G) (Some cause) (Message.Line source ∷ []) (text_sent a.added ++ c.text.rest) p q
   line cause x mid c a {p} {s} {q} (m, runs, is) begun =
       let said : RunPoint = record m { text = m.text ++ c.text.rest } in
-      let text : said.text ≡ p.text ++ (text_sent a.added ++ c.text.rest) = ap (λ (z : List ℕ). z ++ c.text.rest) (effects_keep p m a.added runs).0 ∙ append_assoc p.text (text_sent a.added) c.text.rest in
+      let text : said.text ≡ p.text ++ (text_sent a.added ++ c.text.rest) = ap (λ (z : List ℕ). z ++ c.text.rest) (effects_keep (Ghosts.honest G) p m a.added runs).0 ∙ append_assoc p.text (text_sent a.added) c.text.rest in
       let from : NextUnit cause c said q = subst (λ (z : RunPoint). NextUnit cause c z q) is begun in
       ((m, c, record { added = a.added; runs = runs; reaches = a.reaches }, from), same_text cause c said q from ∙ text)
 
@@ -197,7 +197,7 @@ module _ {D A : Type 0} {G : Ghosts D} {X : Type 0} (exec : X → Exec D A G) (o
       let f = follow exec output r.does on a.added x mid a.runs in let d = stop mid y cause stops in
       let text = text_sent a.added ++ c.text.rest in (
         text,
-        subst (λ (z : Exec D A G). DeviceStops (exec x) z (BeginsText (Some cause) (Message.Line source ∷ []) text) cause) (sym d.0) (record {
+        subst (λ (z : Exec D A G). DeviceStops (exec x) z (BeginsText (Ghosts.honest G) (Some cause) (Message.Line source ∷ []) text) cause) (sym d.0) (record {
           leads = steps_as _ (with_rest x mid c a) (λ p q t. line cause x mid c a t (inl refl));
           own = inr d.1;
           why = λ e. absurd (not_device cause d.1 e);
@@ -209,7 +209,7 @@ module _ {D A : Type 0} {G : Ghosts D} {X : Type 0} (exec : X → Exec D A G) (o
       let d = responded (exec mid) (exec here) (output mid) (output here) c.standing.parked request effect response try (on mid here effect does) in let s = stop here y cause stops in
       let text = text_sent a.added ++ c.text.rest in (
         text,
-        subst (λ (z : Exec D A G). DeviceStops (exec x) z (BeginsText (Some cause) (Message.Line source ∷ []) text) cause) (sym s.0) (record {
+        subst (λ (z : Exec D A G). DeviceStops (exec x) z (BeginsText (Ghosts.honest G) (Some cause) (Message.Line source ∷ []) text) cause) (sym s.0) (record {
           leads = steps_then _ (with_rest x mid c a) d.1 (λ p s q t b. line cause x mid c a t (inr (request, next, inl b)));
           own = inr s.1;
           why = λ e. absurd (not_device cause s.1 e);

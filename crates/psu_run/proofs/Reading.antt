@@ -1,5 +1,5 @@
 -- The output of a piece is written, one piece after another, up to the end of the input; and the result of a whole run.
-use Rattle.std.specs.Io.KnownBytes.{Appends, Consumes, IsAtEnd}
+use Rattle.std.specs.Io.KnownBytes.{Consumes, IsAtEnd}
 use Rattle.psu_exec.proofs.Moments.{keeps_map}
 use Rattle.psu_run.proofs.Common.{◌≡◌, ◌≢◌, ℕ, ◌+◌, ◌-◌, ◌≤◌, true, false, List, [], ◌∷◌, ◌++◌, length, take, drop, refl, sym, ap, ◌∙◌, subst, inr, arith, append_assoc, Some, None, Option, length-append, IfSome, IsErrAnd, Result, inl, Answers, Brings, DiskState, EachRepresents, Ends, EndsEarly, Exec, FaultOf, ForSome, Ghosts, IsAlong, IsAt, IsByFailure, IsCrashImage, IsOfRun, IsOldOrSame, IsScript, IsTied, LeavesOnly, Message, OutputState, PowersOn, Ran, RunCause, RunFault, RunPoint, RunTo, Runs, Says, SaysUntil, ScriptAlone, StopsFor, World, Write, WritesShort, WritesTo, and_then, at_power_on, common_steps, disk_in, failures_of, has, held, is_broken, items_of, message_of, messages, take-add, weaken, append-nil, nil_from_length, same_Some, Consumes-trans, Consumes-nil, Writes, Written, after, fault_disk, disk_of}
 use Rattle.psu_run.proofs.Cuts.{line_end, line_last, short_after, until_none, writes_then}
@@ -192,7 +192,7 @@ module _ {D A : Type 0} {G : Ghosts D} (s : Exec D A G) (given : D) (on : Powere
   pub keeps_count : Ghosts.failures G given ≤ Ghosts.failures G disk
   keeps_count = let rose = ran.later in let same = on.2 in omega (arith, rose, same)
 
-  module _ (h : Ghosts.honest G) (starts : (power : World) × PowersOn (Ghosts.state G given).bytes power × ForSome (disk_in s) (λ d. IsAt s d (at_power_on power (Ghosts.failures G d)))) where
+  module _ (starts : (power : World) × PowersOn (Ghosts.honest G) (Ghosts.state G given).bytes power × ForSome (disk_in s) (λ d. IsAt s d (at_power_on power (Ghosts.failures G d)))) where
     -- from the power-on
     abbrev first : RunPoint
     first = at_power_on starts.0 (Ghosts.failures G given)
@@ -201,15 +201,15 @@ module _ {D A : Type 0} {G : Ghosts D} (s : Exec D A G) (given : D) (on : Powere
     at_first = let at = starts.2 on.0 on.1 in (at.0, at.1, at.2, sym on.2)
 
     abbrev last : RunPoint
-    last = (ran.leads h first at_first).0
+    last = (ran.leads first at_first).0
 
     went : RunsTo G end disk due ends.0 first last
-    went = (ran.leads h first at_first).1
+    went = (ran.leads first at_first).1
 
-    reached : Reached last.world
-    reached = reached_on first.world last.world (ran.leads h first at_first).2.0 (reached_power (Ghosts.state G given).bytes starts.0 starts.1)
+    reached : Ghosts.honest G → Reached last.world
+    reached h = reached_on first.world last.world ((ran.leads first at_first).2 h).0.0 (reached_power h (Ghosts.state G given).bytes starts.0 starts.1)
 
-    abbrev run_to : RunTo end (Ghosts.state G given).bytes from (Ghosts.failures G given)
+    abbrev run_to : RunTo (Ghosts.honest G) end (Ghosts.state G given).bytes from (Ghosts.failures G given)
     run_to = record {
       power = starts.0;
       starts = starts.1;
@@ -217,19 +217,19 @@ module _ {D A : Type 0} {G : Ghosts D} (s : Exec D A G) (given : D) (on : Powere
       brought = brought;
       last = last;
       runs = went.0;
-      since = λ w is. leads_then w starts.0 last.world (power_leads (Ghosts.state G given).bytes starts.0 w starts.1 is) (ran.leads h first at_first).2.0;
+      since = λ h w is. leads_then w starts.0 last.world (power_leads h (Ghosts.state G given).bytes starts.0 w starts.1 is) ((ran.leads first at_first).2 h).0.0;
     }
 
     -- the script, where nothing goes wrong
-    script_of : ScriptAlone → end ≡ None → last.calm ≡ true → (input : Option (List ℕ)) → Brings input due → IfSome input (λ bytes. IsScript starts.0.start starts.0.limit bytes last.text)
-    script_of alone none calm None brings = tt
-    script_of alone none calm (Some input) brings =
-        let r = went.0 in let stops = subst (StopsFor r.rest r.at last (Ghosts.failures G disk) (Ghosts.state G disk)) none went.1.1 in let keeps = begins_keep [] (flush_begins stops.1) in
+    script_of : ScriptAlone (Ghosts.honest G) → Ghosts.honest G → end ≡ None → last.calm ≡ true → (input : Option (List ℕ)) → Brings input due → IfSome input (λ bytes. IsScript starts.0.start starts.0.limit bytes last.text)
+    script_of alone h none calm None brings = tt
+    script_of alone h none calm (Some input) brings =
+        let r = went.0 in let stops = subst (StopsFor (Ghosts.honest G) r.rest r.at last (Ghosts.failures G disk) (Ghosts.state G disk)) none went.1.1 in let keeps = begins_keep [] (flush_begins stops.1) in
         let all : due ≡ r.done = r.is ∙ ap (λ (z : List Message). r.done ++ z) stops.0 ∙ append-nil r.done in
-        let runs : Runs (messages input) first r.at = subst (λ (m : List Message). Runs m first r.at) (sym all ∙ brings) r.runs in
-        subst (IsScript starts.0.start starts.0.limit input) (sym (append-nil r.at.text) ∙ sym keeps.0) (alone (Ghosts.state G given).bytes input starts.0 (Ghosts.failures G given) r.at starts.1 runs (keeps.1 calm))
+        let runs : Runs (Ghosts.honest G) (messages input) first r.at = subst (λ (m : List Message). Runs (Ghosts.honest G) m first r.at) (sym all ∙ brings) r.runs in
+        subst (IsScript starts.0.start starts.0.limit input) (sym (append-nil r.at.text) ∙ sym keeps.0) (alone h (Ghosts.state G given).bytes input starts.0 (Ghosts.failures G given) r.at starts.1 runs (keeps.1 calm))
 
-    run_ends : ScriptAlone → WritesTo end (Ghosts.state G given).bytes from (Ghosts.failures G given) (Ghosts.failures G disk) u v (Ghosts.state G disk)
+    run_ends : ScriptAlone (Ghosts.honest G) → WritesTo (Ghosts.honest G) end (Ghosts.state G given).bytes from (Ghosts.failures G given) (Ghosts.failures G disk) u v (Ghosts.state G disk)
     run_ends alone =
         record {
           run = run_to;
@@ -238,24 +238,24 @@ module _ {D A : Type 0} {G : Ghosts D} (s : Exec D A G) (given : D) (on : Powere
           left = went.1.2;
           whole = λ e. let says = ends.1.whole e in subst (Writes u v) (sym (append-nil says.0) ∙ says.2 ∙ sym went.2) says.1;
           missing = λ e. subst (WritesShort u v) (sym went.2) (ends.1.missing e);
-          calm = λ none calm. script_of alone none calm from brought;
-          kept = leaves_prefix last.world (Ghosts.state G disk) reached went.1.2;
-          all = λ none.
-              let r = went.0 in let stops = subst (StopsFor r.rest r.at last (Ghosts.failures G disk) (Ghosts.state G disk)) none went.1.1 in
-              subst (λ (d : DiskState). EachRepresents d last.world.limit (items_of last.world.state.flush.contents)) stops.3 (flushed_stands last.world reached (flush_running stops.1) stops.2);
-          behind = left_leads last.world (Ghosts.state G disk) went.1.2;
+          calm = λ h none calm. script_of alone h none calm from brought;
+          kept = λ h. leaves_prefix last.world (Ghosts.state G disk) (reached h) (went.1.2 h);
+          all = λ h none.
+              let r = went.0 in let stops = subst (StopsFor (Ghosts.honest G) r.rest r.at last (Ghosts.failures G disk) (Ghosts.state G disk)) none went.1.1 in
+              subst (λ (d : DiskState). EachRepresents d last.world.limit (items_of last.world.state.flush.contents)) stops.3 (flushed_stands last.world (reached h) (flush_running stops.1) stops.2);
+          behind = λ h. left_leads last.world (Ghosts.state G disk) (went.1.2 h);
         }
 
     -- the images at each moment
-    moments : Ghosts.records G → ((d : D) (image : List ℕ) → Ghosts.left_since G d (Ghosts.moment G d) image → IsCrashImage (Ghosts.state G d) image) → ForSome (disk_in s) (λ d. LeavesOnly (Ghosts.moment G) (Ghosts.left_since G) given d (IsOldOrSame (Ghosts.state G given)))
+    moments : Ghosts.honest G → Ghosts.records G → ((d : D) (image : List ℕ) → Ghosts.left_since G d (Ghosts.moment G d) image → IsCrashImage (Ghosts.state G d) image) → ForSome (disk_in s) (λ d. LeavesOnly (Ghosts.moment G) (Ghosts.left_since G) given d (IsOldOrSame (Ghosts.state G given)))
         → LeavesOnly (Ghosts.moment G) (Ghosts.left_since G) given disk (IsOfRun (Ghosts.state G given) last)
-    moments t now opens =
+    moments h t now opens =
         let moment = Ghosts.moment G in let left = Ghosts.left_since G in let P = IsOfRun (Ghosts.state G given) last in
         and_then moment left given on.0 disk P (IsAlong last) (weaken moment left given on.0 (IsOldOrSame (Ghosts.state G given)) P (opens on.0 on.1) (λ x kept. inl (keeps_map (Ghosts.state G given) x kept)))
-        ((ran.leads h first at_first).3 t now (reached_power (Ghosts.state G given).bytes starts.0 starts.1)) (λ x along. inr along)
+        (((ran.leads first at_first).2 h).1 t now (reached_power h (Ghosts.state G given).bytes starts.0 starts.1)) (λ x along. inr along)
 
     -- the run, and each moment of it
-    pub run_with_moments : ScriptAlone → (Ghosts.records G → ((d : D) (image : List ℕ) → Ghosts.left_since G d (Ghosts.moment G d) image → IsCrashImage (Ghosts.state G d) image) × ForSome (disk_in s) (λ d. LeavesOnly (Ghosts.moment G) (Ghosts.left_since G) given d (IsOldOrSame (Ghosts.state G given))))
-        → (written : WritesTo end (Ghosts.state G given).bytes from (Ghosts.failures G given) (Ghosts.failures G disk) u v (Ghosts.state G disk)) × (Ghosts.records G → LeavesOnly (Ghosts.moment G) (Ghosts.left_since G) given disk (IsOfRun (Ghosts.state G given) written.run.last))
+    pub run_with_moments : ScriptAlone (Ghosts.honest G) → (Ghosts.honest G → Ghosts.records G → ((d : D) (image : List ℕ) → Ghosts.left_since G d (Ghosts.moment G d) image → IsCrashImage (Ghosts.state G d) image) × ForSome (disk_in s) (λ d. LeavesOnly (Ghosts.moment G) (Ghosts.left_since G) given d (IsOldOrSame (Ghosts.state G given))))
+        → (written : WritesTo (Ghosts.honest G) end (Ghosts.state G given).bytes from (Ghosts.failures G given) (Ghosts.failures G disk) u v (Ghosts.state G disk)) × (Ghosts.honest G → Ghosts.records G → LeavesOnly (Ghosts.moment G) (Ghosts.left_since G) given disk (IsOfRun (Ghosts.state G given) written.run.last))
     unfolding run_ends ran
-    run_with_moments alone time = (run_ends alone, λ t. moments t (time t).0 (time t).1)
+    run_with_moments alone time = (run_ends alone, λ h t. moments h t (time h t).0 (time h t).1)

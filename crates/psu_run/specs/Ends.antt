@@ -35,38 +35,38 @@ RefusesMemory (GaveBack finished over) = fault_of finished ≡ Some MemoryRefuse
 RefusesMemory entry = ⊥
 
 -- The last of the calls that led here, but for those that drop a wait, is one in which memory was refused.
-pub data IsRefused : RunPoint → Type 0 where
-  InCall : {p q : RunPoint} (entry : Entry) → Calls p entry q → RefusesMemory entry → IsRefused q
-  BeforeDrop : {p q : RunPoint} (session : ℕ) → IsRefused p → Calls p (Cleared session) q → IsRefused q
+pub data IsRefused (honest : Type 0) : RunPoint → Type 0 where
+  InCall : {p q : RunPoint} (entry : Entry) → Calls honest p entry q → RefusesMemory entry → IsRefused honest q
+  BeforeDrop : {p q : RunPoint} (session : ℕ) → IsRefused honest p → Calls honest p (Cleared session) q → IsRefused honest q
 
 -- where memory is the cause, it was refused in the last call
-abbrev pub IsRefusedFor : Option RunCause → RunPoint → Type 0
-IsRefusedFor (Some (Memory sign)) q = IsRefused q
-IsRefusedFor end q = ⊤
+abbrev pub IsRefusedFor : Type 0 → Option RunCause → RunPoint → Type 0
+IsRefusedFor honest (Some (Memory sign)) q = IsRefused honest q
+IsRefusedFor honest end q = ⊤
 
 -- the device stops in calls that execute a prefix of these requests
-abbrev pub Halts : Option RunCause → List Request → RunPoint → RunPoint → Type 0
-Halts end requests p q = Begins requests p q × IsRefusedFor end q
+abbrev pub Halts : Type 0 → Option RunCause → List Request → RunPoint → RunPoint → Type 0
+Halts honest end requests p q = Begins honest requests p q × IsRefusedFor honest end q
 
 -- How far the first of these messages gets. Nothing is begun, or of a line an execution has led to some point, whose text
 -- is written with what is not sent; and there the device stops in the next unit, or has executed it, but for its answer.
 -- Of a power loss the device stops while it reopens a broken store, or the store is reopened. After the last message it
 -- stops in a flush.
-abbrev pub NextBegins : Option RunCause → List Message → RunPoint → RunPoint → Type 0
-NextBegins end [] p q = (q ≡ p) ⊎ Halts end [] p q
-NextBegins end (Message.Power ∷ ms) p q = (q ≡ p) ⊎ (IsJob Reopen p q × (is_broken q.world.state.flush.store ≡ false)) ⊎ Halts end [] p q
-NextBegins end (Message.Line source ∷ ms) p q = (mid : RunPoint) × (at : Progress) × Advances Does source p beginning mid at
+abbrev pub NextBegins : Type 0 → Option RunCause → List Message → RunPoint → RunPoint → Type 0
+NextBegins honest end [] p q = (q ≡ p) ⊎ Halts honest end [] p q
+NextBegins honest end (Message.Power ∷ ms) p q = (q ≡ p) ⊎ (IsJob honest Reopen p q × (is_broken q.world.state.flush.store ≡ false)) ⊎ Halts honest end [] p q
+NextBegins honest end (Message.Line source ∷ ms) p q = (mid : RunPoint) × (at : Progress) × Advances (Does honest) source p beginning mid at
     × let said : RunPoint = record mid { text = mid.text ++ at.text.rest } in
-    (q ≡ said) ⊎ ((request : Request) × IsNext source at request × (((reply : Reply) × IsUnit request reply said q) ⊎ Halts end (request ∷ []) said q))
+    (q ≡ said) ⊎ ((request : Request) × IsNext source at request × (((reply : Reply) × IsUnit honest request reply said q) ⊎ Halts honest end (request ∷ []) said q))
 
 -- Of the messages that are due, those before `rest` are executed, up to `at`, and the first of `rest` gets so far.
-pub record RunsUpTo (end : Option RunCause) (due : List Message) (first last : RunPoint) : Type 0 where
+pub record RunsUpTo (honest : Type 0) (end : Option RunCause) (due : List Message) (first last : RunPoint) : Type 0 where
   pub done : List Message
   pub rest : List Message
   pub is : due ≡ done ++ rest
   pub at : RunPoint
-  pub runs : Runs done first at
-  pub begun : NextBegins end rest at last
+  pub runs : Runs honest done first at
+  pub begun : NextBegins honest end rest at last
 
 -- ---- what is on the disk
 
@@ -121,16 +121,17 @@ IsBetween at last now disk = (last ≡ at) × (last.world.disk ≡ disk) × (las
 
 -- Why a run ends before the first of these messages, at `at`, or in it, at `last`; `now` is the count of failures then, and
 -- `disk` the disk. None: no message is left, and after a flush no change is. Memory: no disk call failed since the last
--- step. Open: a restart was refused, and only because the disk failed in it, since it still represents what it did. Device:
--- the disk failed since `at`, or, except in a restart, changes are left on a store whose root has the last number.
-abbrev pub StopsFor : List Message → RunPoint → RunPoint → ℕ → DiskState → Option RunCause → Type 0
-StopsFor rest at last now disk None = (rest ≡ []) × IsFlush at last × (last.world.state.flush.unflushed ≡ 0) × (last.world.disk ≡ disk) × (last.failures ≡ now)
-StopsFor rest at last now disk (Some Read) = IsBetween at last now disk
-StopsFor rest at last now disk (Some TooLong) = IsBetween at last now disk
-StopsFor rest at last now disk (Some Write) = ⊤
-StopsFor rest at last now disk (Some (Memory sign)) = last.failures ≡ now
-StopsFor rest at last now disk (Some (Open cause)) = IsAtPower rest × (cause ≡ start.Device) × HasFailed at.failures now
-StopsFor rest at last now disk (Some Device) = HasFailed at.failures now ⊎ ((IsAtPower rest → ⊥) × (1 ≤ last.world.state.flush.unflushed) × IsWornOut disk.bytes)
+-- step. Open: a restart was refused, and on an honest disk only because it failed in it, since it still represents what it
+-- did. Device: an honest disk failed since `at`, or, except in a restart, changes are left on a store whose root has the last
+-- number.
+abbrev pub StopsFor : Type 0 → List Message → RunPoint → RunPoint → ℕ → DiskState → Option RunCause → Type 0
+StopsFor honest rest at last now disk None = (rest ≡ []) × IsFlush honest at last × (last.world.state.flush.unflushed ≡ 0) × (last.world.disk ≡ disk) × (last.failures ≡ now)
+StopsFor honest rest at last now disk (Some Read) = IsBetween at last now disk
+StopsFor honest rest at last now disk (Some TooLong) = IsBetween at last now disk
+StopsFor honest rest at last now disk (Some Write) = ⊤
+StopsFor honest rest at last now disk (Some (Memory sign)) = last.failures ≡ now
+StopsFor honest rest at last now disk (Some (Open cause)) = IsAtPower rest × (honest → (cause ≡ start.Device) × HasFailed at.failures now)
+StopsFor honest rest at last now disk (Some Device) = honest → HasFailed at.failures now ⊎ ((IsAtPower rest → ⊥) × (1 ≤ last.world.state.flush.unflushed) × IsWornOut disk.bytes)
 
 -- ---- what is handed back
 

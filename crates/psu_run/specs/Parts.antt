@@ -38,17 +38,17 @@ failures_of {D} {A} {G} exec = unwrap_or (option_map (Ghosts.failures G) (disk_i
 abbrev pub IsAt : {D A : Type 0} {G : Ghosts D} → Exec D A G → D → RunPoint → Type 0
 IsAt {D} {A} {G} exec disk p = (p.world.state ≡ exec.device) × (p.world.mode ≡ Running) × (p.world.disk ≡ Ghosts.state G disk) × (p.failures ≡ Ghosts.failures G disk)
 
--- From a device at rest to a disk: its size stays, and the count of its failures does not fall. On an honest disk steps
--- lead from each point at which the device is to one so that P: events lead on, and what was passed stays passed. Where
+-- From a device at rest to a disk: its size stays, and the count of its failures does not fall. Steps lead from each point
+-- at which the device is to one so that P. On an honest disk events lead on then, and what was passed stays passed; and where
 -- events lead there from a power-on, each possible crash image at any moment between represents a prefix of what was
 -- executed up to some point, if an image that is possible since now is a possible crash image of the disk as it is.
 pub record Ran {D A : Type 0} {G : Ghosts D} (old : Exec D A G) (from to : D) (P : RunPoint → RunPoint → Type 0) : Type 0 where
   pub extent : Ghosts.extent G to ≡ Ghosts.extent G from
   pub later : Ghosts.failures G from ≤ Ghosts.failures G to
-  pub leads : Ghosts.honest G → (p : RunPoint) → IsAt old from p → (q : RunPoint) × P p q
-      × (EventsLead p.world q.world × ((image : List ℕ) → IsAlong p image → IsAlong q image))
+  pub leads : (p : RunPoint) → IsAt old from p → (q : RunPoint) × P p q
+      × (Ghosts.honest G → (EventsLead p.world q.world × ((image : List ℕ) → IsAlong p image → IsAlong q image))
       × (Ghosts.records G → ((d : D) (image : List ℕ) → Ghosts.left_since G d (Ghosts.moment G d) image → IsCrashImage (Ghosts.state G d) image)
-      → ((first : World) × IsStart first × EventsLead first p.world) → LeavesOnly (Ghosts.moment G) (Ghosts.left_since G) from to (IsAlong q))
+      → ((first : World) × IsStart first × EventsLead first p.world) → LeavesOnly (Ghosts.moment G) (Ghosts.left_since G) from to (IsAlong q)))
 
 -- This count of failures is not past; and the disk is honest, or a store that is broken broke by a disk call that failed
 -- after that count. (A reopening of a store on a disk that is not honest may fail although no call does.)
@@ -85,19 +85,19 @@ IsWornAtLast {D} exec = (store : MapOn D) → exec.idle_store ≡ Some (idle_sto
 -- An effect of a line on the device and on the output: a unit is executed with the flushes that it waits for, so its reply
 -- is final and no unit is settled, and a text that is sent is appended to the output, of which little was buffered.
 abbrev pub IsDone : {D A : Type 0} {G : Ghosts D} → Exec D A G → OutputState → Effect → Exec D A G → OutputState → Type 0
-IsDone old output (effect.Executed request reply) new now = (now ≡ output) × (needs reply ≡ None) × Leads old new (IsUnit request reply)
+IsDone {D} {A} {G} old output (effect.Executed request reply) new now = (now ≡ output) × (needs reply ≡ None) × Leads old new (IsUnit (Ghosts.honest G) request reply)
 IsDone old output (effect.Settled reply) new now = ⊥
 IsDone old output (effect.Sent text last) new now = (new ≡ old) × Says output now text × HoldsLittle now text
 
 -- these messages are executed, and their text is output
 abbrev pub Answers : {D A : Type 0} {G : Ghosts D} → List Message → Exec D A G → Exec D A G → OutputState → OutputState → Type 0
-Answers due old new output now = (text : List ℕ) × Says output now text × Leads old new (λ p q. Runs due p q × (q.text ≡ p.text ++ text))
+Answers {D} {A} {G} due old new output now = (text : List ℕ) × Says output now text × Leads old new (λ p q. Runs (Ghosts.honest G) due p q × (q.text ≡ p.text ++ text))
 
 -- a run of these messages ended, well or early for a cause, and output its text
 abbrev pub Ends : {D A : Type 0} {G : Ghosts D} → Exec D A G → Option RunCause → D → List Message → OutputState → OutputState → Type 0
 Ends {D} {A} {G} old end disk due output now = (text : List ℕ) × SaysUntil end output now text
-    × ForSome (disk_in old) (λ from. Ran old from disk (λ p q. (runs : RunsUpTo end due p q)
-    × ((q.failures ≤ Ghosts.failures G disk) × StopsFor runs.rest runs.at q (Ghosts.failures G disk) (Ghosts.state G disk) end × IsLeftBy q.world (Ghosts.state G disk)) × (q.text ≡ p.text ++ text)))
+    × ForSome (disk_in old) (λ from. Ran old from disk (λ p q. (runs : RunsUpTo (Ghosts.honest G) end due p q)
+    × ((q.failures ≤ Ghosts.failures G disk) × StopsFor (Ghosts.honest G) runs.rest runs.at q (Ghosts.failures G disk) (Ghosts.state G disk) end × (Ghosts.honest G → IsLeftBy q.world (Ghosts.state G disk))) × (q.text ≡ p.text ++ text)))
 
 -- it ended early by this fault
 abbrev pub EndsEarly : {D A : Type 0} {G : Ghosts D} → Exec D A G → RunFault D A G → List Message → OutputState → OutputState → Type 0

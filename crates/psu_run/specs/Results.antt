@@ -36,41 +36,41 @@ end_of (Err fault) = Some fault.cause
 -- ---- the result of a run
 
 -- A run on this image with this end, from this count of failures, of the messages that the input brings, up to some point.
--- Events of the theorem on power loss lead there from each world whose disk reads as the image.
-pub record RunTo (end : Option RunCause) (image : List ℕ) (input : Option (List ℕ)) (failures : ℕ) : Type 0 where
+-- On an honest disk events of the theorem on power loss lead there from each world whose disk reads as the image.
+pub record RunTo (honest : Type 0) (end : Option RunCause) (image : List ℕ) (input : Option (List ℕ)) (failures : ℕ) : Type 0 where
   pub power : World
-  pub starts : PowersOn image power
+  pub starts : PowersOn honest image power
   pub due : List Message
   pub brought : Brings input due
   pub last : RunPoint
-  pub runs : RunsUpTo end due (at_power_on power failures) last
-  pub since : (before : World) → before.disk.bytes ≡ image → EventsLead before last.world
+  pub runs : RunsUpTo honest end due (at_power_on power failures) last
+  pub since : honest → (before : World) → before.disk.bytes ≡ image → EventsLead before last.world
 
--- A run that did not start: the disk does not power on, for this cause. Nothing was read and nothing was written, and a
--- map that each possible crash image of the disk represented, each still represents.
-pub record DoesNotStart (cause : RunCause) (old_count new_count : ℕ) (old_rest new_rest : Option (List ℕ)) (old_written new_written : Written) (old new : DiskState) : Type 0 where
+-- A run that did not start: the disk does not power on, for this cause. Nothing was read and nothing was written. An honest
+-- disk shows why, and a map that each of its possible crash images represented, each still represents.
+pub record DoesNotStart (honest : Type 0) (cause : RunCause) (old_count new_count : ℕ) (old_rest new_rest : Option (List ℕ)) (old_written new_written : Written) (old new : DiskState) : Type 0 where
   pub why : RecoverFault
   pub is : cause ≡ cause_of why
-  pub reason : NotStarted old.bytes old_count new_count (start_of why)
+  pub reason : honest → NotStarted old.bytes old_count new_count (start_of why)
   pub unread : new_rest ≡ old_rest
   pub unwritten : Writes old_written new_written []
-  pub kept : (limit : ℕ) (map : List Item) → EachRepresents old limit map → EachRepresents new limit map
+  pub kept : honest → (limit : ℕ) (map : List Item) → EachRepresents old limit map → EachRepresents new limit map
 
 -- A run that ended, well (`None`) or early for a cause. Its text is written, except where the writer failed: then some of
--- it is missing. Each possible crash image of the disk represents the contents after a prefix of the executed units that
--- holds every unit before an answered `*OPC?`, and where it ended well, those after all of them; events lead on to that
--- disk. Where it ended well and nothing went wrong, the text is the script of a known input.
-pub record WritesTo (end : Option RunCause) (image : List ℕ) (input : Option (List ℕ)) (old_count new_count : ℕ) (old_written new_written : Written) (disk : DiskState) : Type 0 where
-  pub run : RunTo end image input old_count
+-- it is missing. On an honest disk each possible crash image represents the contents after a prefix of the executed units
+-- that holds every unit before an answered `*OPC?`, and where it ended well, those after all of them; events lead on to
+-- that disk; and where it ended well and nothing went wrong, the text is the script of a known input.
+pub record WritesTo (honest : Type 0) (end : Option RunCause) (image : List ℕ) (input : Option (List ℕ)) (old_count new_count : ℕ) (old_written new_written : Written) (disk : DiskState) : Type 0 where
+  pub run : RunTo honest end image input old_count
   pub later : run.last.failures ≤ new_count
-  pub stops : StopsFor run.runs.rest run.runs.at run.last new_count disk end
-  pub left : IsLeftBy run.last.world disk
+  pub stops : StopsFor honest run.runs.rest run.runs.at run.last new_count disk end
+  pub left : honest → IsLeftBy run.last.world disk
   pub whole : end ≢ Some Write → Writes old_written new_written run.last.text
   pub missing : end ≡ Some Write → WritesShort old_written new_written run.last.text
-  pub calm : end ≡ None → run.last.calm ≡ true → IfSome input (λ bytes. IsScript run.power.start run.power.limit bytes run.last.text)
-  pub kept : (image : List ℕ) → IsCrashImage disk image → StandsForPrefix run.last.world image
-  pub all : end ≡ None → EachRepresents disk run.last.world.limit (items_of run.last.world.state.flush.contents)
-  pub behind : (stopped : World) × EventsLead run.last.world stopped × (stopped.disk ≡ disk)
+  pub calm : honest → end ≡ None → run.last.calm ≡ true → IfSome input (λ bytes. IsScript run.power.start run.power.limit bytes run.last.text)
+  pub kept : honest → (image : List ℕ) → IsCrashImage disk image → StandsForPrefix run.last.world image
+  pub all : honest → end ≡ None → EachRepresents disk run.last.world.limit (items_of run.last.world.state.flush.contents)
+  pub behind : honest → (stopped : World) × EventsLead run.last.world stopped × (stopped.disk ≡ disk)
 
 -- the image represents each map that some possible crash image of the disk represented
 abbrev pub IsAsBefore : DiskState → List ℕ → Type 0

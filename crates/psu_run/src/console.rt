@@ -70,7 +70,7 @@ impl<'r, 'w, W: Sink, D: Disk, A: Allocator + Copy> Executor<A> for Console<'r, 
           × IsDone x.responder.now.powered.exec (held (W.written x.writer.now) x.responder.now.output.items) effect y.responder.now.powered.exec (held (W.written y.writer.now) y.responder.now.output.items);
       fails = λ x request cause y. (y.responder.ghost_name ≡ x.responder.ghost_name) × (y.writer.ghost_name ≡ x.writer.ghost_name)
           × (held (W.written y.writer.now) y.responder.now.output.items ≡ held (W.written x.writer.now) x.responder.now.output.items)
-          × DeviceStops x.responder.now.powered.exec y.responder.now.powered.exec (Halts (Some cause) (request ∷ [])) cause × (cause ≢ RunCause.Write);
+          × DeviceStops x.responder.now.powered.exec y.responder.now.powered.exec (Halts D.honest (Some cause) (request ∷ [])) cause × (cause ≢ RunCause.Write);
       stops = λ x cause y. (y.responder.ghost_name ≡ x.responder.ghost_name) × (y.writer.ghost_name ≡ x.writer.ghost_name)
           × (y.responder.now.powered.exec ≡ x.responder.now.powered.exec) × (IsMemory cause ⊎ (cause ≡ RunCause.Write))
           × SaysUntil (Some cause) (held (W.written x.writer.now) x.responder.now.output.items) (held (W.written y.writer.now) y.responder.now.output.items) [];
@@ -119,7 +119,7 @@ impl<'r, 'w, W: Sink, D: Disk, A: Allocator + Copy> Console<'r, 'w, W, D, A> {
         ensures breaks { IfErr result (λ cause. (part : List ℕ)
             × SaysUntil (Some cause) (held (W.written self.old.writer.now) (self.old.responder.now.output.items ++ self.old.responder.now.gathered.rest))
             (held (W.written self.new.writer.now) (self.new.responder.now.output.items ++ self.new.responder.now.gathered.rest)) part
-            × DeviceStops self.old.responder.now.powered.exec self.new.responder.now.powered.exec (λ p q. NextBegins (Some cause) (Message.Line (source_of line.now) ∷ []) p q × (q.text ≡ p.text ++ part)) cause) }
+            × DeviceStops self.old.responder.now.powered.exec self.new.responder.now.powered.exec (λ p q. NextBegins D.honest (Some cause) (Message.Line (source_of line.now) ∷ []) p q × (q.text ≡ p.text ++ part)) cause) }
         ensures responder { self.new.responder.ghost_name ≡ self.old.responder.ghost_name }
         ensures writer { self.new.writer.ghost_name ≡ self.old.writer.ghost_name }
     {
@@ -155,7 +155,7 @@ impl<D: Disk, A: Allocator + Copy> Responder<D, A> {
         ensures fresh { OnOk result (self.new.gathered ≡ nothing) }
         ensures breaks { IfErr result (λ cause. (part : List ℕ)
             × SaysUntil (Some cause) (held (W.written writer.old) (self.old.output.items ++ self.old.gathered.rest)) (held (W.written writer.new) (self.new.output.items ++ self.new.gathered.rest)) part
-            × DeviceStops self.old.powered.exec self.new.powered.exec (λ p q. NextBegins (Some cause) (Message.Line (source_of line.now) ∷ []) p q × (q.text ≡ p.text ++ part)) cause) }
+            × DeviceStops self.old.powered.exec self.new.powered.exec (λ p q. NextBegins D.honest (Some cause) (Message.Line (source_of line.now) ∷ []) p q × (q.text ≡ p.text ++ part)) cause) }
     {
         let mut console = Console {
             responder: &mut *self,

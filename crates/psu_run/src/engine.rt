@@ -107,13 +107,14 @@ pub fn run<R: Source, W: Sink, D: Disk, A: Allocator + Copy>(
     writer: &mut W,
     start: RunStart<D, A>,
 ) -> Result<D, RunFault<D, A>>
-    // At each moment since the call began, each possible crash image represents what one of the given disk does, or the
+    // The responses are those of the device, on every disk. On an honest one, at each moment since the call began, each
+    // possible crash image represents what one of the given disk does, or the
     // contents after a prefix of the units executed up to some point of this very run; that prefix contains every unit
     // before a `*OPC?` answered by that point. No clause can say which point belongs to a moment: a contract sees the
     // reader, the writer and the disk only at the two ends of the run.
-    ensures whole { D.honest → IfOk result (λ d. (written : WritesTo None (D.state (disk_from start)).bytes (R.remaining reader.old) (D.failures (disk_from start)) (D.failures d)
+    ensures whole { IfOk result (λ d. (written : WritesTo D.honest None (D.state (disk_from start)).bytes (R.remaining reader.old) (D.failures (disk_from start)) (D.failures d)
         (W.written writer.old) (W.written writer.new) (D.state d))
-        × EachMoment D.Disk (disk_from start) d (IsOfRun (D.state (disk_from start)) written.run.last)) }
+        × (D.honest → EachMoment D.Disk (disk_from start) d (IsOfRun (D.state (disk_from start)) written.run.last))) }
     ensures short { OnOk result (IfSome (R.remaining reader.old) (λ input. length input ≤ 16777216)) }
 
     // It succeeds only at the end of an input that is not too long, ends since the input is too long only where it is, and
@@ -133,17 +134,17 @@ pub fn run<R: Source, W: Sink, D: Disk, A: Allocator + Copy>(
 
     // After a fault: where the disk does not power on, nothing was read and nothing was written; otherwise the output
     // of the lines before the fault was written. Each image at a moment since the call began is as above.
-    ensures early { D.honest → IfErr result (λ f.
-        (DoesNotStart f.cause (D.failures (disk_from start)) (D.failures (fault_disk f)) (R.remaining reader.old) (R.remaining reader.new) (W.written writer.old) (W.written writer.new) (D.state (disk_from start)) (D.state (fault_disk f))
-        × EachMoment D.Disk (disk_from start) (fault_disk f) (IsAsBefore (D.state (disk_from start))))
-        ⊎ ((written : WritesTo (Some f.cause) (D.state (disk_from start)).bytes (R.remaining reader.old) (D.failures (disk_from start)) (D.failures (fault_disk f)) (W.written writer.old) (W.written writer.new) (D.state (fault_disk f)))
-        × EachMoment D.Disk (disk_from start) (fault_disk f) (IsOfRun (D.state (disk_from start)) written.run.last))) }
+    ensures early { IfErr result (λ f.
+        (DoesNotStart D.honest f.cause (D.failures (disk_from start)) (D.failures (fault_disk f)) (R.remaining reader.old) (R.remaining reader.new) (W.written writer.old) (W.written writer.new) (D.state (disk_from start)) (D.state (fault_disk f))
+        × (D.honest → EachMoment D.Disk (disk_from start) (fault_disk f) (IsAsBefore (D.state (disk_from start)))))
+        ⊎ ((written : WritesTo D.honest (Some f.cause) (D.state (disk_from start)).bytes (R.remaining reader.old) (D.failures (disk_from start)) (D.failures (fault_disk f)) (W.written writer.old) (W.written writer.new) (D.state (fault_disk f)))
+        × (D.honest → EachMoment D.Disk (disk_from start) (fault_disk f) (IsOfRun (D.state (disk_from start)) written.run.last)))) }
 
     // On every disk, honest or not: it ends by a fault of the device, also in a restart, only where a disk call failed,
     // unless the store that it hands back has the last number; on an honest disk the root shows that.
     ensures failed { IfErr result (IsByFailure D.Disk (D.failures (disk_from start))) }
 {
-    script_is_the_only_text();
+    script_is_the_only_text::<D>();
     let powered = match PoweredDevice::on(alloc, start) {
         Ok(powered) => powered,
         Err(fault) => return Err(fault),

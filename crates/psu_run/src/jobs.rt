@@ -11,6 +11,7 @@ ghost use Rattle.psu_exec.specs.declared.idle_store.Condition.TheVariants.{Whole
 ghost use Rattle.psu_run.specs.Ends.{Halts};
 ghost use Rattle.psu_run.specs.Parts.{DeviceStops, IsMemory, IsTied, IsWornAtLast, Leads, disk_in, failures_of};
 ghost use Rattle.psu_run.specs.Points.{Calls, EndsJob, IsFlush, IsJob, IsWornOut, MemoryRefused, NoNumber, StoreBroken, fault_of};
+ghost use Rattle.psu_run.specs.Script.{finished};
 
 use crate::memory::{refused_in, take};
 use crate::{OutOfMemory, RunCause};
@@ -66,9 +67,9 @@ fn run_job<D: Disk, A: Allocator + Copy>(
 // Takes a job, runs it and gives it back, if there is one. A job that ends out of memory ends the run.
 fn run_next<D: Disk, A: Allocator + Copy>(exec: &mut Exec<D, A>) -> Result<Work, RunCause>
     requires idle { exec.old.device.flush.out ≡ false }
-    ensures job { IfOk result (λ work. work ≡ Work.Job → Leads exec.old exec.new (λ p q. (kind : JobKind) × IsJob kind p q)) }
-    ensures take { IfOk result (λ work. work ≡ Work.Nothing → Leads exec.old exec.new (λ p q. Calls p (Took Nothing) q)) }
-    ensures stops { IfErr result (λ cause. DeviceStops exec.old exec.new (Halts (Some cause) []) cause) }
+    ensures job { IfOk result (λ work. work ≡ Work.Job → Leads exec.old exec.new (λ p q. (kind : JobKind) × IsJob D.honest kind p q)) }
+    ensures take { IfOk result (λ work. work ≡ Work.Nothing → Leads exec.old exec.new (λ p q. Calls D.honest p (Took Nothing) q)) }
+    ensures stops { IfErr result (λ cause. DeviceStops exec.old exec.new (Halts D.honest (Some cause) []) cause) }
     ensures memory { IfErr result IsMemory }
     ensures idle { exec.new.device.flush.out ≡ false }
     ensures open { is_open exec.new.device 1 ≡ is_open exec.old.device 1 }
@@ -96,8 +97,8 @@ fn run_next<D: Disk, A: Allocator + Copy>(exec: &mut Exec<D, A>) -> Result<Work,
 /// Takes, runs and gives back jobs until there is nothing to take, at most 4 jobs.
 pub(crate) fn flush<D: Disk, A: Allocator + Copy>(exec: &mut Exec<D, A>) -> Result<(), RunCause>
     requires idle { exec.old.device.flush.out ≡ false }
-    ensures flushes { OnOk result (Leads exec.old exec.new IsFlush) }
-    ensures stops { IfErr result (λ cause. DeviceStops exec.old exec.new (Halts (Some cause) []) cause) }
+    ensures flushes { OnOk result (Leads exec.old exec.new (IsFlush D.honest)) }
+    ensures stops { IfErr result (λ cause. DeviceStops exec.old exec.new (Halts D.honest (Some cause) []) cause) }
     ensures other { IfErr result (λ cause. cause ≢ RunCause.Write) }
     ensures idle { exec.new.device.flush.out ≡ false }
     ensures open { is_open exec.new.device 1 ≡ is_open exec.old.device 1 }
@@ -121,8 +122,8 @@ pub(crate) fn flush<D: Disk, A: Allocator + Copy>(exec: &mut Exec<D, A>) -> Resu
 /// Reopens a broken store. A store that stays broken ends the run.
 pub(crate) fn reopen<D: Disk, A: Allocator + Copy>(exec: &mut Exec<D, A>) -> Result<(), RunCause>
     requires idle { exec.old.device.flush.out ≡ false }
-    ensures reopens { OnOk result (Leads exec.old exec.new (λ p q. (q ≡ p) ⊎ IsJob Reopen p q)) }
-    ensures stops { IfErr result (λ cause. DeviceStops exec.old exec.new (Halts (Some cause) []) cause) }
+    ensures reopens { OnOk result (Leads exec.old exec.new (λ p q. (q ≡ p) ⊎ IsJob D.honest Reopen p q)) }
+    ensures stops { IfErr result (λ cause. DeviceStops exec.old exec.new (Halts D.honest (Some cause) []) cause) }
     ensures other { IfErr result (λ cause. cause ≢ RunCause.Write) }
     ensures failed { IfErr result (λ cause. cause ≡ RunCause.Device → (before : ℕ) → IsTied before exec.old → HasFailed before (failures_of exec.new)) }
     ensures idle { exec.new.device.flush.out ≡ false }

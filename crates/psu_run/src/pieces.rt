@@ -23,7 +23,7 @@ fn restart_device<D: Disk, A: Allocator + Copy>(
     alloc: A,
     powered: PoweredDevice<D, A>,
 ) -> Result<PoweredDevice<D, A>, RunFault<D, A>>
-    ensures runs { IfOk result (λ p. Leads powered.exec p.exec (Runs (Message.Power ∷ []))) }
+    ensures runs { IfOk result (λ p. Leads powered.exec p.exec (Runs D.honest (Message.Power ∷ []))) }
     ensures stops { IfErr result (λ f. (rest : List Message) (output : OutputState) → EndsEarly powered.exec f (Message.Power ∷ rest) output output) }
     ensures other { IfErr result (λ f. f.cause ≢ RunCause.Write) }
     ensures input { IfErr result (λ f. (f.cause ≢ RunCause.Read) × (f.cause ≢ RunCause.TooLong)) }
@@ -41,7 +41,7 @@ fn restart_device<D: Disk, A: Allocator + Copy>(
 impl<D: Disk, A: Allocator + Copy> RunState<D, A> {
     // Simulates a power loss at rest and a restart, and keeps the output that is not yet written.
     fn restart<W: Sink>(self, writer: &mut W) -> Result<RunState<D, A>, RunFault<D, A>>
-        ensures runs { IfOk result (λ r. Leads self.responder.powered.exec r.responder.powered.exec (Runs (Message.Power ∷ []))) }
+        ensures runs { IfOk result (λ r. Leads self.responder.powered.exec r.responder.powered.exec (Runs D.honest (Message.Power ∷ []))) }
         ensures same { IfOk result (λ r. (r.lines ≡ self.lines) × (r.responder.output ≡ self.responder.output) × (r.responder.gathered ≡ self.responder.gathered)) }
         ensures silent { OnOk result (W.written writer.new ≡ W.written writer.old) }
         ensures stops { IfErr result (λ f. (rest : List Message) → EndsEarly self.responder.powered.exec f (Message.Power ∷ rest)

@@ -9,7 +9,7 @@ ghost use Rattle.psu_exec.specs.Device.{is_broken, is_denied, is_open, wait_of};
 ghost use Rattle.psu_exec.specs.World.{World};
 ghost use Rattle.psu_exec.specs.declared.idle_store.Condition.TheVariants.{Worn};
 ghost use Rattle.psu_run.specs.Ends.{IsByFailure, NotStarted, cause_of, fault_disk, start_of};
-ghost use Rattle.psu_run.specs.Parts.{FaultOf, IsAt, IsWornAtLast, disk_in};
+ghost use Rattle.psu_run.specs.Parts.{FaultOf, IsAt, IsMemory, IsWornAtLast, disk_in};
 ghost use Rattle.psu_run.specs.Points.{IsWornOut, PowersOn, at_power_on};
 ghost use Rattle.psu_run.specs.Results.{disk_from};
 ghost use Rattle.psu_run.specs.declared.recover_fault.RecoverFault.{RecoverFault};
@@ -38,16 +38,18 @@ pub(crate) struct PoweredDevice<D: Disk, A: Allocator + Copy> {
 impl<D: Disk, A: Allocator + Copy> PoweredDevice<D, A> {
     /// Powers on with the contents of a store, and opens the session. The image is any that represents the store's map.
     pub fn of_store(alloc: A, store: Store<D, A>) -> Result<PoweredDevice<D, A>, RunFault<D, A>>
-        ensures starts { D.honest → (image : List ℕ) → Represents image store.limit store.items → length (D.state store.disk).bytes ≡ length image
-            → IfOk result (λ p. (power : World) × PowersOn image power × IsAt p.exec store.disk (at_power_on power (D.failures store.disk))) }
+        ensures starts { (image : List ℕ) → (D.honest → Represents image store.limit store.items × (length (D.state store.disk).bytes ≡ length image))
+            → IfOk result (λ p. (power : World) × PowersOn D.honest image power × IsAt p.exec store.disk (at_power_on power (D.failures store.disk))) }
         ensures own { D.honest → Represents (D.state store.disk).bytes store.limit store.items }
         ensures stored { IfOk result (λ p. disk_in p.exec ≡ Some store.disk) }
         ensures whole { IfOk result (λ p. is_broken p.exec.device.flush.store ≡ false) }
 
         ensures other { IfErr result (λ f. f.cause ≢ RunCause.Write) }
         ensures input { IfErr result (λ f. (f.cause ≢ RunCause.Read) × (f.cause ≢ RunCause.TooLong)) }
-        ensures refused { IfErr result (λ f. (image : List ℕ) → Represents image store.limit store.items
-            → (why : RecoverFault) × (f.cause ≡ cause_of why) × NotStarted image (D.failures store.disk) (D.failures store.disk) (start_of why)) }
+        ensures refused { IfErr result (λ f. (why : RecoverFault) × (f.cause ≡ cause_of why)
+            × ((image : List ℕ) → Represents image store.limit store.items → NotStarted image (D.failures store.disk) (D.failures store.disk) (start_of why))) }
+        // Where memory is refused, no call of the disk failed.
+        ensures memory { IfErr result (λ f. IsMemory f.cause → D.failures (fault_disk f) ≡ D.failures store.disk) }
         ensures failed { IfErr result (IsByFailure D.Disk (D.failures store.disk)) }
         ensures disk { IfErr result (λ f. fault_disk f ≡ store.disk) }
     {
@@ -72,15 +74,17 @@ impl<D: Disk, A: Allocator + Copy> PoweredDevice<D, A> {
 
     /// Opens the disk that the run begins on, unless its store is open, powers on with its contents, and opens the session.
     pub fn on(alloc: A, start: RunStart<D, A>) -> Result<PoweredDevice<D, A>, RunFault<D, A>>
-        ensures starts { D.honest → IfOk result (λ p. (power : World) × PowersOn (D.state (disk_from start)).bytes power
+        ensures starts { IfOk result (λ p. (power : World) × PowersOn D.honest (D.state (disk_from start)).bytes power
             × ForSome (disk_in p.exec) (λ disk. IsAt p.exec disk (at_power_on power (D.failures disk)))) }
         ensures disk { IfOk result (λ p. (disk : D) × (disk_in p.exec ≡ Some disk) × (D.failures disk ≡ D.failures (disk_from start)) × (D.extent disk ≡ D.extent (disk_from start))) }
         ensures whole { IfOk result (λ p. is_broken p.exec.device.flush.store ≡ false) }
 
         ensures other { IfErr result (λ f. f.cause ≢ RunCause.Write) }
         ensures input { IfErr result (λ f. (f.cause ≢ RunCause.Read) × (f.cause ≢ RunCause.TooLong)) }
-        ensures refused { D.honest → IfErr result (λ f. (why : RecoverFault) × (f.cause ≡ cause_of why)
-            × NotStarted (D.state (disk_from start)).bytes (D.failures (disk_from start)) (D.failures (fault_disk f)) (start_of why)) }
+        ensures refused { IfErr result (λ f. (why : RecoverFault) × (f.cause ≡ cause_of why)
+            × (D.honest → NotStarted (D.state (disk_from start)).bytes (D.failures (disk_from start)) (D.failures (fault_disk f)) (start_of why))) }
+        // Where memory is refused, no call of the disk failed.
+        ensures memory { IfErr result (λ f. IsMemory f.cause → D.failures (fault_disk f) ≡ D.failures (disk_from start)) }
         ensures failed { IfErr result (IsByFailure D.Disk (D.failures (disk_from start))) }
         ensures later { IfErr result (λ f. D.failures (disk_from start) ≤ D.failures (fault_disk f)) }
         ensures extent { IfErr result (λ f. D.extent (fault_disk f) ≡ D.extent (disk_from start)) }

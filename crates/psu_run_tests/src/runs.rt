@@ -1,8 +1,8 @@
 //! A run, and its result.
 use psu_disk::Disk;
-use psu_run::{RunCause, RunFault, RunStart, StartCause, run};
+use psu_run::{RunCause, RunFault, RunStart, Sink, Source, StartCause, run};
 use std::alloc::{Allocator, Global};
-use std::io::{Read, Write};
+use std::io::Read;
 
 /// The cause of a run whose disk fails when it is opened.
 pub(crate) const NOT_OPENED: RunCause = RunCause::Open(StartCause::Device);
@@ -17,7 +17,7 @@ pub(crate) struct Ran<D: Disk> {
 }
 
 /// Runs; all rows run through this function, so its contract is read in one proof only.
-pub(crate) fn run_between<R: Read, W: Write, D: Disk, A: Allocator + Copy>(
+pub(crate) fn run_between<R: Source, W: Sink, D: Disk, A: Allocator + Copy>(
     memory: A,
     reader: &mut R,
     writer: &mut W,

@@ -1,4 +1,4 @@
-use Rattle.psu_run.proofs.Common.{◌≡◌, ◌≤◌, ◌∙◌, ◌+◌, ◌++◌, [], take, inl, inr, refl, sym, arith, Read, TooLong, held, passed, has}
+use Rattle.psu_run.proofs.Common.{◌≡◌, ◌≤◌, ◌∙◌, ◌+◌, ◌++◌, [], take, inl, inr, refl, sym, arith, Read, TooLong, held, passed}
 use Rattle.psu_run.proofs.Feeding.{fed_none, fed_then}
 use Rattle.psu_run.proofs.Reading.{cut_after, cut_front, end_stop, read_all, read_end, read_front, taken_more}
 use Rattle.psu_run.proofs.Input.{further_more, further_none, read_failed, read_more, read_none, read_start, reads_passed}

@@ -12,8 +12,8 @@ use Rattle.psu_run.proofs.engine.run.Goals as goal
 -- ---- it does not power on
 
 pub returns-in-Err-clause-early : goal.returns-in-Err-clause-early
-returns-in-Err-clause-early g c = λ h.
-    let refused = c.in-Err.ensures.refused h in let old = g.D.Disk.state (disk_from c.args.start) in
+returns-in-Err-clause-early g c =
+    let refused = c.in-Err.ensures.refused in let old = g.D.Disk.state (disk_from c.args.start) in
     inl (
       record {
         why = refused.0;
@@ -21,18 +21,18 @@ returns-in-Err-clause-early g c = λ h.
         reason = refused.2;
         unread = refl;
         unwritten = writes_none (g.W.Sink.written c.args.writer.now);
-        kept = c.in-Err.ensures.left h;
+        kept = λ h. c.in-Err.ensures.left h;
       },
-      λ t. weaken g.D.Disk.moment g.D.Disk.left_since (disk_from c.args.start) (fault_disk c.in-Err.fault) (IsOldOrSame old) (IsAsBefore old) (c.in-Err.ensures.time_refused h t) (λ x kept. keeps_map old x kept),
+      λ h t. weaken g.D.Disk.moment g.D.Disk.left_since (disk_from c.args.start) (fault_disk c.in-Err.fault) (IsOldOrSame old) (IsAsBefore old) (c.in-Err.ensures.time_refused h t) (λ x kept. keeps_map old x kept),
     )
 
 -- ---- memory is refused before anything is read
 
 pub returns-in-Err-piece_buffer-clause-early : goal.returns-in-Err-piece_buffer-clause-early
-returns-in-Err-piece_buffer-clause-early g c = λ h.
+returns-in-Err-piece_buffer-clause-early g c =
     let on = c.in-Ok.ensures in let u = g.W.Sink.written c.args.writer.now in let cause = Memory c.in-Err-piece_buffer.sign in
     let early = read_front [] [] _ _ u u (Consumes-nil (g.R.Source.remaining c.args.reader.now)) (fed_none [] c.in-Ok.powered.exec (held u [])) cause c.fault.result c.fault.ensures tt (λ e. cc) in
-    inr (run_with_moments c.in-Ok.powered.exec (disk_from c.args.start) on.disk _ _ _ _ _ early.0 early.1 early.2.0 h (on.starts h) c.script_is_the_only_text.ensures (λ t. (g.met.D.Disk.only_now t, on.time h t)))
+    inr (run_with_moments c.in-Ok.powered.exec (disk_from c.args.start) on.disk _ _ _ _ _ early.0 early.1 early.2.0 on.starts c.script_is_the_only_text.ensures (λ h t. (g.met.D.Disk.only_now t, on.time h t)))
 
 pub returns-in-Err-piece_buffer-clause-reads : goal.returns-in-Err-piece_buffer-clause-reads
 returns-in-Err-piece_buffer-clause-reads g c = rw c.fault.ensures.cause_is (no_reads 0 (g.R.Source.remaining c.args.reader.now) (g.R.Source.reads c.args.reader.now) refl)
@@ -43,10 +43,10 @@ returns-in-Err-piece_buffer-clause-writes g c = no_writes c.fault.result.cause (
 -- ---- it ends early
 
 pub returns-in_err-disk-clause-early : goal.returns-in_err-disk-clause-early
-returns-in_err-disk-clause-early g c = λ h.
+returns-in_err-disk-clause-early g c =
     let on = c.in-Ok.ensures in let early = rw c.new.ensures.powered at c.in_err-disk.ensures.early in
     passed c.from_residual.result c.in_err-disk.field-0.0 _ c.from_residual.ensures.1
-    (inr (run_with_moments c.in-Ok.powered.exec (disk_from c.args.start) on.disk _ _ _ _ _ early.0 early.1 early.2.0 h (on.starts h) c.script_is_the_only_text.ensures (λ t. (g.met.D.Disk.only_now t, on.time h t))))
+    (inr (run_with_moments c.in-Ok.powered.exec (disk_from c.args.start) on.disk _ _ _ _ _ early.0 early.1 early.2.0 on.starts c.script_is_the_only_text.ensures (λ h t. (g.met.D.Disk.only_now t, on.time h t))))
 
 pub returns-in_err-disk-clause-failed : goal.returns-in_err-disk-clause-failed
 returns-in_err-disk-clause-failed g c =
@@ -69,9 +69,9 @@ returns-in_err-disk-clause-later g c =
 -- ---- it succeeds
 
 pub returns-clause-whole : goal.returns-clause-whole
-returns-clause-whole g c = λ h.
+returns-clause-whole g c =
     let on = c.in-Ok.ensures in let whole = rw c.new.ensures.powered at c.in_ok-disk.ensures.whole in
-    run_with_moments c.in-Ok.powered.exec (disk_from c.args.start) on.disk _ _ _ _ _ whole.0 whole.1 whole.2 h (on.starts h) c.script_is_the_only_text.ensures (λ t. (g.met.D.Disk.only_now t, on.time h t))
+    run_with_moments c.in-Ok.powered.exec (disk_from c.args.start) on.disk _ _ _ _ _ whole.0 whole.1 whole.2 on.starts c.script_is_the_only_text.ensures (λ h t. (g.met.D.Disk.only_now t, on.time h t))
 
 pub returns-clause-extent : goal.returns-clause-extent
 returns-clause-extent g c = let whole = rw c.new.ensures.powered at c.in_ok-disk.ensures.whole in keeps_size c.in-Ok.powered.exec (disk_from c.args.start) c.in-Ok.ensures.disk _ _ _ _ _ whole.0 whole.1 whole.2

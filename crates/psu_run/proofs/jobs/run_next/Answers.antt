@@ -1,4 +1,4 @@
-use Rattle.psu_run.proofs.Common.{[], ◌≡◌, refl, ◌≢◌, Some, arith, inl, inr, GaveBack, Halts, HasFailed, InCall, IsJob, Job, JobKind, MemoryRefused, Nothing, OneCall, StoreBroken, Took, fault_of, job_data, job_disk, take}
+use Rattle.psu_run.proofs.Common.{[], ◌≡◌, refl, ◌≢◌, Some, arith, inl, inr, GaveBack, Halts, HasFailed, InCall, IsJob, Job, JobKind, MemoryRefused, Nothing, OneCall, StoreBroken, Took, fault_of, job_data, job_disk}
 use Rattle.psu_exec.specs.Calls.{Memory as NoMemory}
 use Rattle.psu_run.proofs.SessionOne.{job_free}
 use Rattle.psu_run.proofs.Going.{failures_is, steps_as}
@@ -10,7 +10,7 @@ use Rattle.psu_run.proofs.jobs.run_next.Goals as goal
 pub returns-in-Some-clause-stops : goal.returns-in-Some-clause-stops
 returns-in-Some-clause-stops g c =
     let r = c.in-Some.ensures in record {
-      leads = steps_job _ c.take.new.exec c.run_job.new.exec c.in-Ok.job r.disk.0 r.run.0 r.run.1 (Halts (Some (Memory c.in-Some.sign)) []) c.in-Ok.ensures.step c.in-Ok.ensures.job r.run.2 r.disk.1 (λ h. r.run.6 h r.disk.0 r.disk.1) r.disk.2 r.disk.3 r.disk.4 r.breaks
+      leads = steps_job _ c.take.new.exec c.run_job.new.exec c.in-Ok.job r.disk.0 r.run.0 r.run.1 (Halts g.D.Disk.honest (Some (Memory c.in-Some.sign)) []) c.in-Ok.ensures.step c.in-Ok.ensures.job r.run.2 r.disk.1 (λ h. r.run.6 h r.disk.0 r.disk.1) r.disk.2 r.disk.3 r.disk.4 r.breaks
           (λ p out q take give. (OneCall (Took (Job (job_data c.in-Ok.job))) out [] take refl (begins_call (GaveBack r.run.0 (Some r.run.1)) [] give refl), InCall (GaveBack r.run.0 (Some r.run.1)) give r.run.3));
       own = inr (inl tt);
       why = λ e. cc;
@@ -26,7 +26,7 @@ returns-in-Err-None-clause-take g c = λ e. steps_take Nothing (c.in-Err-None.en
 pub returns-in-Err-Some-clause-stops : goal.returns-in-Err-Some-clause-stops
 returns-in-Err-Some-clause-stops g c =
     record {
-      leads = steps_as (Halts (Some (Memory c.in-Err-Some.sign)) []) (steps_take NoMemory (c.in-Err-Some.ensures.refused (λ e. cc)) c.in-Err-Some.ensures.idle_store) (λ p q call. (begins_call (Took NoMemory) [] call refl, InCall (Took NoMemory) call tt));
+      leads = steps_as (Halts g.D.Disk.honest (Some (Memory c.in-Err-Some.sign)) []) (steps_take NoMemory (c.in-Err-Some.ensures.refused (λ e. cc)) c.in-Err-Some.ensures.idle_store) (λ p q call. (begins_call (Took NoMemory) [] call refl, InCall (Took NoMemory) call tt));
       own = inr (inl tt);
       why = λ e. cc;
     }
@@ -34,7 +34,7 @@ returns-in-Err-Some-clause-stops g c =
 pub returns-in-None-clause-job : goal.returns-in-None-clause-job
 returns-in-None-clause-job g c = λ e.
     let r = c.in-None.ensures in
-    steps_job _ c.take.new.exec c.run_job.new.exec c.in-Ok.job r.disk.0 r.run.0 r.run.1 (λ p q. (kind : JobKind) × IsJob kind p q) c.in-Ok.ensures.step c.in-Ok.ensures.job r.run.2 r.disk.1 (λ h. r.run.6 h r.disk.0 r.disk.1) r.disk.2 r.disk.3 r.disk.4 r.breaks
+    steps_job _ c.take.new.exec c.run_job.new.exec c.in-Ok.job r.disk.0 r.run.0 r.run.1 (λ p q. (kind : JobKind) × IsJob g.D.Disk.honest kind p q) c.in-Ok.ensures.step c.in-Ok.ensures.job r.run.2 r.disk.1 (λ h. r.run.6 h r.disk.0 r.disk.1) r.disk.2 r.disk.3 r.disk.4 r.breaks
     (λ p out q take give. ((job_data c.in-Ok.job).kind, (job_data c.in-Ok.job, r.run.0, r.run.1, out, take, give, refl, r.run.5, r.run.4)))
 
 pub returns-in-None-clause-free : goal.returns-in-None-clause-free

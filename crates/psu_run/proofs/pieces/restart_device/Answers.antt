@@ -16,7 +16,7 @@ returns-in_err-powered-clause-stops g c =
       (
         [],
         until_none _ output (λ e. grind arith),
-        power_stops c.reopen.new.exec disk ends fault rest c.in-Ok.ensures.reopens c.contents.ensures.consistent on.refused on.later on.extent on.left (λ h. g.met.D.Disk.sized h (fault_disk fault) ∙ on.extent ∙ sym (g.met.D.Disk.sized h disk)) on.time_refused,
+        power_stops c.reopen.new.exec disk ends fault rest c.in-Ok.ensures.reopens c.contents.ensures.consistent on.refused on.memory on.later on.extent on.left (λ h. g.met.D.Disk.sized h (fault_disk fault) ∙ on.extent ∙ sym (g.met.D.Disk.sized h disk)) on.time_refused,
       ),
       λ before t. power_fails c.reopen.new.exec disk ends fault c.in-Ok.ensures.reopens on.failed before t,
     ))

@@ -1,5 +1,5 @@
 use Rattle.std.proofs.lemmas.Result.{IfOk-weaker}
-use Rattle.psu_run.proofs.Common.{arith, refl, ◌≡◌, ◌∙◌, ℕ, List, IfErr, Result, Contents, HasReadableRoot, NotStarted, RecoverFault, start_of, items_of, represents_readable, map}
+use Rattle.psu_run.proofs.Common.{arith, refl, ◌≡◌, ◌∙◌, ℕ, List, IfErr, Result, Contents, HasReadableRoot, NotStarted, RecoverFault, start_of, items_of, represents_readable}
 use Rattle.psu_exec.specs.declared.idle_store.IdleStore.TheVariants as idle_store
 use Rattle.psu_exec.specs.declared.start_cause.StartFault.TheVariants.{Memory}
 use Rattle.psu_status.specs.Status.{first_request}

@@ -1,4 +1,4 @@
-use Rattle.psu_run.proofs.Common.{◌∙◌, ◌∷◌, ◌++◌, arith, refl, [], subst, sym, Answers, EndsEarly, Message, held, passed, source_of, after}
+use Rattle.psu_run.proofs.Common.{◌∙◌, ◌∷◌, ◌++◌, arith, refl, [], subst, sym, Answers, EndsEarly, Message, held, passed, source_of}
 use Rattle.psu_run.proofs.Cuts.{free_all, free_before, says_none}
 use Rattle.psu_run.proofs.Going.{steps_as}
 use Rattle.psu_run.proofs.Stopping.{halted, halted_fails, power_text}

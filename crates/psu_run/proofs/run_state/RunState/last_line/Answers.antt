@@ -1,4 +1,4 @@
-use Rattle.psu_run.proofs.Common.{[], held, passed, not}
+use Rattle.psu_run.proofs.Common.{[], held, passed}
 use Rattle.psu_run.proofs.Feeding.{answers_none}
 use Rattle.psu_run.proofs.Reading.{last_answered, last_early}
 use Rattle.psu_run.proofs.run_state.RunState.last_line.Goals as goal
