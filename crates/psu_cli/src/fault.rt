@@ -1,7 +1,7 @@
 //! Why a command of the program fails.
 use psu_disk::OpenFault;
 use psu_items::FormatCause;
-use psu_run::{RunCause, StartFault};
+use psu_run::{RecoverFault, RunCause};
 use thiserror::Error;
 
 /// Why a command of the program fails, by the text that standard error shows after `psu: `.
@@ -12,7 +12,7 @@ pub enum Fault {
     #[error("{0}")]
     Run(RunCause),
     #[error("{0}")]
-    Recover(StartFault),
+    Recover(RecoverFault),
     #[error("{0}")]
     Format(FormatCause),
     #[error("write fault")]

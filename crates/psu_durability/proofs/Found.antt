@@ -9,7 +9,9 @@ use Rattle.psu_map.specs.Map.{Item}
 use Rattle.psu_items.proofs.Standing.{represents_one}
 use Rattle.psu_items.specs.Image.{EachRepresents, Represents}
 use Rattle.psu_items.specs.Standing.{MapOn}
-use Rattle.psu_run.specs.Runs.{IsAlong, IsAsBefore, IsOfRun, RunPoint}
+use Rattle.psu_run.specs.Ends.{IsAlong}
+use Rattle.psu_run.specs.Points.{RunPoint}
+use Rattle.psu_run.specs.Results.{IsAsBefore, IsOfRun}
 use Rattle.psu_durability.specs.Found.{Finds, IsOfDisk, IsOfPrefixAlong}
 
 -- what the bytes represent that an opening reads is what the disk represented before

@@ -9,7 +9,9 @@ use Rattle.psu_items.specs.Standing.{MapOn}
 use Rattle.psu_nv.specs.Contents.{items_of}
 use Rattle.psu_exec.specs.Headline.{IsPrefix}
 use Rattle.psu_exec.specs.World.{World, after}
-use Rattle.psu_run.specs.Runs.{RunPoint, WritesTo}
+use Rattle.psu_run.specs.Output.{Written}
+use Rattle.psu_run.specs.Points.{RunPoint}
+use Rattle.psu_run.specs.Results.{WritesTo}
 use Rattle.psu_run.specs.declared.run_cause.RunCause.{RunCause}
 use Rattle.psu_durability.specs.Premise.{KeepsModel}
 
@@ -33,21 +35,21 @@ Finds possible opened found P = KeepsModel possible opened → IfOk found (λ st
 -- ---- after a run
 
 -- A run from one disk to another wrote to the end of its input, or ended early for a cause.
-abbrev pub WritesOn : {D : Type 0} (G : Ghosts D) → Option RunCause → D → D → Option (List ℕ) → Option (List ℕ) → Option (List ℕ) → Type 0
-WritesOn G end from to input old new = WritesTo end (Ghosts.state G from).bytes input (Ghosts.failures G from) (Ghosts.failures G to) old new (Ghosts.state G to)
+abbrev pub WritesOn : {D : Type 0} (G : Ghosts D) → Option RunCause → D → D → Option (List ℕ) → Written → Written → Type 0
+WritesOn G end from to input old new = WritesTo (Ghosts.honest G) end (Ghosts.state G from).bytes input (Ghosts.failures G from) (Ghosts.failures G to) old new (Ghosts.state G to)
 
 -- Where power was lost at a moment since the run began: what the disk held before it, or the contents after a prefix.
 abbrev pub FindsOfRun : {D : Type 0} (G : Ghosts D) → D → D → RunPoint → DiskState → Result (MapOn D) (ImageError D) → Type 0
 FindsOfRun G from to last opened found = Finds (Ghosts.left_since G to (Ghosts.moment G from)) opened found (λ limit map. IsOfDisk (Ghosts.state G from) limit map ⊎ IsOfPrefixAlong last limit map)
 
 -- A run that ended well, and where power was lost since it ended: the contents after all units.
-pub record RanWell {D : Type 0} (G : Ghosts D) (from to : D) (input old new : Option (List ℕ)) (opened : DiskState) (found : Result (MapOn D) (ImageError D)) : Type 0 where
+pub record RanWell {D : Type 0} (G : Ghosts D) (from to : D) (input : Option (List ℕ)) (old new : Written) (opened : DiskState) (found : Result (MapOn D) (ImageError D)) : Type 0 where
   pub written : WritesOn G None from to input old new
   pub moment : FindsOfRun G from to written.run.last opened found
   pub ended : Finds (IsCrashImage (Ghosts.state G to)) opened found (λ limit map. (limit ≡ written.run.last.world.limit) × (map ≡ items_of written.run.last.world.state.flush.contents))
 
 -- a run that ended early
-pub record RanShort {D : Type 0} (G : Ghosts D) (cause : RunCause) (from to : D) (input old new : Option (List ℕ)) (opened : DiskState) (found : Result (MapOn D) (ImageError D)) : Type 0 where
+pub record RanShort {D : Type 0} (G : Ghosts D) (cause : RunCause) (from to : D) (input : Option (List ℕ)) (old new : Written) (opened : DiskState) (found : Result (MapOn D) (ImageError D)) : Type 0 where
   pub written : WritesOn G (Some cause) from to input old new
   pub moment : FindsOfRun G from to written.run.last opened found
 

@@ -1,8 +1,8 @@
 //! The responses of the instrument.
 ghost use Rattle.std.specs.Prelude.{◌≡◌, ◌⊎◌, IfErr, IfOk, IfSome, List, None, Some, [], ℕ};
-ghost use Rattle.psu_run.specs.Runs.{DoesNotStart, WritesTo};
+ghost use Rattle.psu_run.specs.Results.{DoesNotStart, WritesTo};
 ghost use Rattle.psu_run.specs.Lines.{IsTooLong};
-ghost use Rattle.psu_guide.specs.Plays.{CannotAnswer, IsNew, Plays};
+ghost use Rattle.psu_guide.specs.Plays.{CannotAnswer, IsNew, Plays, holding};
 
 use crate::play_fault::PlayFault;
 use psu_disk::{Disk, MemDisk};
@@ -30,13 +30,12 @@ fn written<D: Disk + Drop, A: Allocator + Copy>(
     sent: &[u8],
     disk: D,
 ) -> Result<Vec<u8, A>, RunCause>
-    ensures whole { D.honest → IfOk result (λ text. (over : D)
-        × WritesTo None (D.state disk).bytes (Some sent.now) (D.failures disk) (D.failures over) (Some [])
-        (Some text.items) (D.state over)) }
-    ensures early { D.honest → IfErr result (λ cause. (over : D) × (rest : List ℕ) × (text : List ℕ)
-        × (DoesNotStart cause (D.failures disk) (D.failures over) (Some sent.now) (Some rest) (Some []) (Some text) (D.state disk) (D.state over)
-        ⊎ WritesTo (Some cause) (D.state disk).bytes (Some sent.now)
-        (D.failures disk) (D.failures over) (Some []) (Some text) (D.state over))
+    ensures whole { IfOk result (λ text. (over : D)
+        × WritesTo D.honest None (D.state disk).bytes (Some sent.now) (D.failures disk) (D.failures over) (holding []) (holding text.items) (D.state over)) }
+    ensures early { IfErr result (λ cause. (over : D) × (rest : List ℕ) × (text : List ℕ)
+        × (DoesNotStart D.honest cause (D.failures disk) (D.failures over) (Some sent.now) (Some rest) (holding []) (holding text) (D.state disk) (D.state over)
+        ⊎ WritesTo D.honest (Some cause) (D.state disk).bytes (Some sent.now)
+        (D.failures disk) (D.failures over) (holding []) (holding text) (D.state over))
         × (cause ≡ RunCause.TooLong → IsTooLong (Some sent.now) (Some rest) None None)) }
 {
     let mut reader = sent;

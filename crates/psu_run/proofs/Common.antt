@@ -30,10 +30,15 @@ pub use Rattle.psu_messages.specs.ResponseBuffer.{Text, nothing}
 pub use Rattle.psu_messages.specs.Units.{Fault, IsRequest, Source, faulty, path_at}
 pub use Rattle.psu_nv.specs.Contents.{Contents, IsContents, items_of}
 pub use Rattle.psu_run.specs.Lines.{AreAsked, AreRequests, AskedBy, Brings, HasRead, Message, first_onto, has, message_of, messages, parts_of, source_of}
-pub use Rattle.psu_run.specs.Runs.{Acts, Answers, Begins, Calls, DeviceStops, Does, Ends, EndsEarly, EndsJob, EventsLead, FaultOf, OneCall, IsAlong, IsAsBefore, IsAt, IsByFailure, IsDone, IsFlush, IsJob, IsLeftBy, IsOfRun, IsTied, IsUnit, IsWornAtLast, IsWornOut, Jobs, Leads, LeadsTo, MemoryRefused, NextBegins, NoNumber, NotStarted, OutputState, PowersOn, Ran, RunPoint, RunTo, Runs, RunsUpTo, Says, SaysUntil, ScriptAlone, StandsForPrefix, NoCall, Steps, StopsFor, StoreBroken, WritesShort, WritesTo, at_power_on, cause_of, disk_from, disk_in, executed_by, failures_of, fault_of, held, is_calm}
+pub use Rattle.psu_run.specs.Ends.{BeforeDrop, EventsLead, Halts, InCall, IsAlong, IsAtPower, IsBetween, IsByFailure, IsLeftBy, IsRefused, IsRefusedFor, IsWorn, NextBegins, NotStarted, RefusesMemory, RunsUpTo, StandsForPrefix, StopsFor, cause_of, failed_reads, failed_writes, fault_disk, returned_disk, start_of}
+pub use Rattle.psu_run.specs.Output.{Fails, HoldsLittle, OutputState, Says, SaysUntil, Writes, WritesShort, Written, held}
+pub use Rattle.psu_run.specs.Parts.{Answers, DeviceStops, Ends, EndsEarly, FaultOf, IsAt, IsDone, IsMemory, IsTied, IsWornAtLast, Leads, Ran, disk_in, failures_of}
+pub use Rattle.psu_run.specs.Points.{Acts, Begins, Calls, Does, EndsJob, IsFlush, IsJob, IsUnit, IsWornOut, Jobs, LeadsTo, CallsOn, MemoryRefused, NoCall, NoNumber, OneCall, PowersOn, RunPoint, Runs, ScriptAlone, Steps, StoreBroken, at_power_on, executed_by, fault_of, is_calm}
+pub use Rattle.psu_run.specs.Results.{IsAsBefore, IsOfRun, RunTo, WritesTo, disk_from, disk_of, end_of}
 pub use Rattle.psu_run.specs.Script.{Executes, ExecutesInside, ExecutesReply, HasOutcome, IsScript, Point, Replies, Scripted, at_start, finished, flushed, replied, waited}
 pub use Rattle.psu_run.specs.declared.run_cause.RunCause.TheVariants.{Device, Memory, Open, Read, TooLong, Write}
 pub use Rattle.psu_run.specs.declared.run_cause.RunCause.{RunCause}
+pub use Rattle.psu_run.specs.declared.recover_fault.RecoverFault.{RecoverFault}
 pub use Rattle.psu_run.specs.declared.run_fault.RunFault.{RunFault}
 pub use Rattle.psu_tree.specs.Reading.{Reads, SyntaxCalls, SyntaxMoves}
 pub use Rattle.psu_tree.specs.declared.command.Command.{Command}

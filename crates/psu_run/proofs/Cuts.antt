@@ -2,7 +2,7 @@
 use Rattle.std.proofs.lemmas.Bool.{cases_Bool}
 use Rattle.memchr.specs.Find.{IsFirstByte, is_byte}
 use Rattle.std.proofs.lemmas.Slice.Eq.{bytes_eq-Decides}
-use Rattle.psu_run.proofs.Common.{◌≡◌, ℕ, ◌+◌, ◌-◌, ◌==◌, ◌<◌, ◌≤◌, true, false, List, [], ◌∷◌, ◌++◌, length, take, drop, map, refl, sym, ap, ◌∙◌, arith, slice_index, append_assoc, inl, inr, Some, None, zero, suc, add-one, drop-cons, ◌⊎◌, codes, bytes_eq, if◌then◌else◌, subst, Option, length-append, ◌≢◌, append-nil, Appends, Appends-nil, Appends-trans, Fault, Message, OutputState, RunCause, Says, SaysUntil, Text, TooMuchData, Write, WritesShort, common_steps, first_onto, get_or-take, has, held, message_of, messages, nat_tests, nothing, parts_of, take-add, take-append-add, take-append-drop, take-append-le}
+use Rattle.psu_run.proofs.Common.{◌≡◌, ℕ, ◌+◌, ◌-◌, ◌==◌, ◌<◌, ◌≤◌, true, false, List, [], ◌∷◌, ◌++◌, length, take, drop, map, refl, sym, ap, ◌∙◌, arith, slice_index, append_assoc, inl, inr, Some, None, zero, suc, add-one, drop-cons, ◌⊎◌, codes, bytes_eq, if◌then◌else◌, subst, Option, length-append, ◌≢◌, append-nil, Appends, Appends-nil, Appends-trans, Fails, Fault, Keeps, Message, OutputState, RunCause, Says, SaysUntil, Text, TooMuchData, Write, Writes, WritesShort, Written, common_steps, first_onto, get_or-take, has, held, message_of, messages, nat_tests, nothing, parts_of, take-add, take-append-add, take-append-drop, take-append-le}
 use Rattle.std.specs.Io.{StartsWith}
 
 -- the first part, without its end, and what comes after it
@@ -107,18 +107,49 @@ pub line_last : (line : List ℕ) → (line ≡ [] → ⊥) → has 10 line ≡ 
 line_last [] begun free = absurd (begun refl)
 line_last (x ∷ p) begun free = ap (map message_of) (parts_last 10 x p free)
 
+-- ---- writes, one after another
+
+fails_none : (a : Option ℕ) → Fails 0 a a
+fails_none a = grind arith
+
+fails_then : (m n : ℕ) (a b c : Option ℕ) → Fails m a b → Fails n b c → Fails (m + n) a c
+fails_then m n a b c p q = grind arith
+
+pub writes_none : (w : Written) → Writes w w []
+writes_none w = record { bytes = Appends-nil w.bytes; failed = fails_none w.failed }
+
+pub writes_then : (a b c : Written) (x y : List ℕ) → Writes a b x → Writes b c y → Writes a c (x ++ y)
+writes_then a b c x y p q = record { bytes = Appends-trans a.bytes b.bytes c.bytes x y p.bytes q.bytes; failed = fails_then 0 0 a.failed b.failed c.failed p.failed q.failed }
+
 -- ---- prefixes of a text that is written
 
 pub starts_after : (t s rest : List ℕ) → StartsWith rest s → StartsWith (t ++ rest) (t ++ s)
 starts_after t s rest h = ap (λ (n : ℕ). take n (t ++ rest)) (length-append t s) ∙ take-append-add t rest (length s) ∙ ap (λ (z : List ℕ). t ++ z) h
 
 -- a write of the rest
-pub put_step : (all : List ℕ) (at n : ℕ) (u v w : Option (List ℕ)) → at ≤ length all → n ≤ length (take (length all - at) (drop at all))
-    → Appends u v (take at all) → Appends v w (take n (take (length all - at) (drop at all))) → (at + n ≤ length all) × Appends u w (take (at + n) all)
+pub put_step : (all : List ℕ) (at n : ℕ) (u v w : Written) → at ≤ length all → n ≤ length (take (length all - at) (drop at all))
+    → Writes u v (take at all) → Writes v w (take n (take (length all - at) (drop at all))) → (at + n ≤ length all) × Writes u w (take (at + n) all)
 put_step all at n u v w low bound p q =
     let joined : take (at + n) all ≡ take at all ++ take n (take (length all - at) (drop at all)) = take-add at n all ∙ ap (λ (z : List ℕ). take at all ++ take n z) (sym (whole_tail all at)) in
     let room : n ≤ length (drop at all) = subst (λ (z : List ℕ). n ≤ length z) (whole_tail all at) bound in
-    (grind (arith, common_steps, low, room), subst (Appends u w) (sym joined) (Appends-trans u v w _ _ p q))
+    (grind (arith, common_steps, low, room), subst (Writes u w) (sym joined) (writes_then u v w _ _ p q))
+
+-- a write that fails, where something is still to be written
+pub put_short : (all : List ℕ) (at : ℕ) (u v w : Written) → at < length all → Writes u v (take at all) → Appends v.bytes w.bytes [] → Fails 1 v.failed w.failed → WritesShort u w all
+put_short all at u v w low p q f =
+    let long : length (take at all) ≡ at = grind (arith, common_steps, low) in record {
+      front = take at all;
+      bytes = subst (Appends u.bytes w.bytes) (append-nil (take at all)) (Appends-trans u.bytes v.bytes w.bytes (take at all) [] p.bytes q);
+      failed = fails_then 0 1 u.failed v.failed w.failed p.failed f;
+      starts = ap (λ (n : ℕ). take n all) long;
+      short = omega (arith, long, low);
+    }
+
+-- a write that reports an error appends nothing
+pub kept_nothing : (a b : Option (List ℕ)) → Keeps a b → Appends a b []
+kept_nothing None b p = tt
+kept_nothing (Some x) None p = absurd p
+kept_nothing (Some x) (Some y) p = p ∙ sym (append-nil x)
 
 -- ---- the output, one part after another
 
@@ -126,27 +157,28 @@ pub longer : (text front more : List ℕ) → length front < length more → len
 longer text front more less = grind (arith, common_steps, less)
 
 -- a proper prefix of a text, written after another text
-pub short_behind : (old mid new : Option (List ℕ)) (first second : List ℕ) → Appends old mid first → WritesShort mid new second → WritesShort old new (first ++ second)
-short_behind old mid new first second grows (front, more, starts, less) = (first ++ front, Appends-trans old mid new first front grows more, starts_after first front second starts, longer first front second less)
+pub short_behind : (old mid new : Written) (first second : List ℕ) → Writes old mid first → WritesShort mid new second → WritesShort old new (first ++ second)
+short_behind old mid new first second grows more = record {
+  front = first ++ more.front;
+  bytes = Appends-trans old.bytes mid.bytes new.bytes first more.front grows.bytes more.bytes;
+  failed = fails_then 0 1 old.failed mid.failed new.failed grows.failed more.failed;
+  starts = starts_after first more.front second more.starts;
+  short = longer first more.front second more.short;
+}
 
 -- ---- parts of a text
 
 pub says_none : (t : OutputState) → Says t t []
-says_none t = ([], Appends-nil t.written, sym (append-nil t.gathered))
+says_none t = ([], writes_none t.written, sym (append-nil t.gathered))
 
 told_on : (a b c : OutputState) (m n : List ℕ) (says : Says a b m) → says.0 ++ (b.gathered ++ n) ≡ a.gathered ++ (m ++ n)
 told_on a b c m n says = sym (append_assoc says.0 b.gathered n) ∙ ap (λ (z : List ℕ). z ++ n) says.2 ∙ append_assoc a.gathered m n
 
 pub says_join : (a b c : OutputState) (m n : List ℕ) → Says a b m → Says b c n → Says a c (m ++ n)
-says_join a b c m n p q = (p.0 ++ q.0, Appends-trans a.written b.written c.written p.0 q.0 p.1 q.1, append_assoc p.0 q.0 c.gathered ∙ ap (λ (z : List ℕ). p.0 ++ z) q.2 ∙ told_on a b c m n p)
+says_join a b c m n p q = (p.0 ++ q.0, writes_then a.written b.written c.written p.0 q.0 p.1 q.1, append_assoc p.0 q.0 c.gathered ∙ ap (λ (z : List ℕ). p.0 ++ z) q.2 ∙ told_on a b c m n p)
 
 pub short_after : (a b c : OutputState) (m n : List ℕ) → Says a b m → WritesShort b.written c.written (b.gathered ++ n) → WritesShort a.written c.written (a.gathered ++ (m ++ n))
-short_after a b c m n p q = (
-  p.0 ++ q.0,
-  Appends-trans a.written b.written c.written p.0 q.0 p.1 q.1,
-  subst (λ (z : List ℕ). StartsWith z (p.0 ++ q.0)) (told_on a b c m n p) (starts_after p.0 q.0 (b.gathered ++ n) q.2),
-  subst (λ (z : List ℕ). length (p.0 ++ q.0) < length z) (told_on a b c m n p) (longer p.0 q.0 (b.gathered ++ n) q.3),
-)
+short_after a b c m n p q = subst (WritesShort a.written c.written) (told_on a b c m n p) (short_behind a.written b.written c.written p.0 (b.gathered ++ n) p.1 q)
 
 pub until_after : (end : Option RunCause) (a b c : OutputState) (m n : List ℕ) → Says a b m → SaysUntil end b c n → SaysUntil end a c (m ++ n)
 until_after end a b c m n p q = record { whole = λ e. says_join a b c m n p (q.whole e); missing = λ e. short_after a b c m n p (q.missing e) }
@@ -159,14 +191,19 @@ pub until_none : (end : Option RunCause) (t : OutputState) → end ≢ Some Writ
 until_none end t own = until_said end t t [] own (says_none t)
 
 -- what is missing of a text is also missing of a longer text
-pub short_more : (old new : Option (List ℕ)) (text more : List ℕ) → WritesShort old new text → WritesShort old new (text ++ more)
-short_more old new text more (front, grows, starts, less) =
-    (front, grows, take-append-le (length front) text more (omega (arith, less)) ∙ starts, subst (λ (n : ℕ). length front < n) (sym (length-append text more)) (omega (arith, less)))
+pub short_more : (old new : Written) (text more : List ℕ) → WritesShort old new text → WritesShort old new (text ++ more)
+short_more old new text more short = record {
+  front = short.front;
+  bytes = short.bytes;
+  failed = short.failed;
+  starts = let less = short.short in take-append-le (length short.front) text more (omega (arith, less)) ∙ short.starts;
+  short = let less = short.short in let long = length-append text more in omega (arith, less, long);
+}
 
 -- the rest of a text is buffered after the output, up to a fault
 pub until_rest : (end : Option RunCause) (a b c : OutputState) (m rest : List ℕ) → Says a b m → SaysUntil end b c [] → SaysUntil end a (held c.written (c.gathered ++ rest)) (m ++ rest)
 until_rest end a b c m rest p q = record {
-  whole = λ e. says_join a b (held c.written (c.gathered ++ rest)) m rest p (says_join b c (held c.written (c.gathered ++ rest)) [] rest (q.whole e) ([], Appends-nil c.written, refl));
+  whole = λ e. says_join a b (held c.written (c.gathered ++ rest)) m rest p (says_join b c (held c.written (c.gathered ++ rest)) [] rest (q.whole e) ([], writes_none c.written, refl));
   missing = λ e. short_after a b (held c.written (c.gathered ++ rest)) m rest p (short_more b.written c.written b.gathered rest (subst (WritesShort b.written c.written) (append-nil b.gathered) (q.missing e)));
 }
 

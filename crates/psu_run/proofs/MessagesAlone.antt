@@ -92,11 +92,11 @@ abbrev Tells : World → Effect → World → Type 0
 Tells w (Executed request reply) new = (needs reply ≡ None) × ((at : Point) → Still at w → Holds request → UnitTells at request reply new)
 Tells w effect new = ⊥
 
-line_tells : (p q : RunPoint) (list : List Effect) → effects.Runs Does p list q → q.calm ≡ true → effects.Runs Tells p.world (acts list) q.world
-line_tells p q [] none calm = ap (λ (z : RunPoint). z.world) none
-line_tells p q (Executed request reply ∷ list) (mid, unit, rest) calm = (mid.world, (grind arith, λ at still holds. unit_alone still holds unit ((effects_keep mid q list rest).1 calm)), line_tells mid q list rest calm)
-line_tells p q (Settled reply ∷ list) (mid, never, rest) calm = absurd never
-line_tells p q (Sent text end ∷ list) (mid, is, rest) calm = subst (λ (z : RunPoint). effects.Runs Tells z.world (acts list) q.world) is (line_tells mid q list rest calm)
+line_tells : {H : Type 0} → H → (p q : RunPoint) (list : List Effect) → effects.Runs (Does H) p list q → q.calm ≡ true → effects.Runs Tells p.world (acts list) q.world
+line_tells {H} h p q [] none calm = ap (λ (z : RunPoint). z.world) none
+line_tells {H} h p q (Executed request reply ∷ list) (mid, unit, rest) calm = (mid.world, (grind arith, λ at still holds. unit_alone h still holds unit ((effects_keep H mid q list rest).1 calm)), line_tells h mid q list rest calm)
+line_tells {H} h p q (Settled reply ∷ list) (mid, never, rest) calm = absurd never
+line_tells {H} h p q (Sent text end ∷ list) (mid, is, rest) calm = subst (λ (z : RunPoint). effects.Runs Tells z.world (acts list) q.world) is (line_tells h mid q list rest calm)
 
 split : (xs ys : List Effect) (w new : World) → effects.Runs Tells w (xs ++ ys) new → (mid : World) × effects.Runs Tells w xs mid × effects.Runs Tells mid ys new
 split [] ys w new runs = (w, refl, runs)
@@ -162,23 +162,23 @@ one_more {at = at} {before = before} f unit request rest new still said on =
 -- ---- power
 
 -- a device that has just been powered on
-start_still : {image : List ℕ} {new : World} (on : PowersOn image new) → Still (at_start on.on.limit on.on.start) new
-start_still on =
-    let state = on.opens.1.2.1 ∙ ap (λ (s : State). opened s (Some 1)) on.start.state in
-    let sound = on.start.sound in
-    subst (Still (at_start on.on.limit on.on.start)) (sym on.opens.1.4) (record { state = state; whole = refl; kept = sound; sound = sound; disk = rw on.opens.1.3 on.start.disk })
+start_still : {image : List ℕ} {new : World} {H : Type 0} → H → (on : PowersOn H image new) → Still (at_start on.on.limit on.on.start) new
+start_still h on =
+    let state = on.opens.1.2.1 ∙ ap (λ (s : State). opened s (Some 1)) on.state in
+    let sound = on.sound in
+    subst (Still (at_start on.on.limit on.on.start)) (sym on.opens.1.4) (record { state = state; whole = refl; kept = sound; sound = sound; disk = rw on.opens.1.3 (on.disk h) })
 
 -- or powered on again
-restart_alone : {at : Point} {p q : RunPoint} → Still at p.world → Steps p None q → Still (at_start at.state.flush.limit at.stored) q.world
-restart_alone {at} {p} {q} still restart =
+restart_alone : {at : Point} {p q : RunPoint} {H : Type 0} → H → Still at p.world → Steps H p None q → Still (at_start at.state.flush.limit at.stored) q.world
+restart_alone {at} {p} {q} h still restart =
     let on = restart.leads.1 in
-    let same = represents_one on.on.limit at.state.flush.limit (items_of on.on.start) (items_of at.stored) p.world.disk.bytes on.found (still.disk p.world.disk.bytes (reads_left p.world.disk)) in
-    subst₂ (λ (n : ℕ) (c : Contents). Still (at_start n c) q.world) same.0 (same_contents on.on.start at.stored on.start.sound still.kept same.1) (start_still on)
+    let same = represents_one on.on.limit at.state.flush.limit (items_of on.on.start) (items_of at.stored) p.world.disk.bytes (on.found h) (still.disk p.world.disk.bytes (reads_left p.world.disk)) in
+    subst₂ (λ (n : ℕ) (c : Contents). Still (at_start n c) q.world) same.0 (same_contents on.on.start at.stored on.sound still.kept same.1) (start_still h on)
 
 -- the store is not broken, so it is not reopened
-reopened_alone : {at : Point} {p q : RunPoint} → Still at p.world → (q ≡ p) ⊎ IsJob Reopen p q → q ≡ p
-reopened_alone still (inl none) = none
-reopened_alone still (inr (job, finished, over, out, take, give, is, own, long)) = let commit = (take_alone still take).1 in cc
+reopened_alone : {at : Point} {p q : RunPoint} {H : Type 0} → H → Still at p.world → (q ≡ p) ⊎ IsJob H Reopen p q → q ≡ p
+reopened_alone h still (inl none) = none
+reopened_alone h still (inr (job, finished, over, out, take, give, is, own, long)) = let commit = (take_alone h still take).1 in cc
 
 -- ---- lines without a line feed
 
@@ -209,10 +209,10 @@ parts_whole (part ∷ parts) (free, more) = let rest = parts_whole parts more in
 -- ---- lines and messages
 
 -- where all is calm at the end of messages, it was at their start
-runs_calm : (p q : RunPoint) (ms : List Message) → Runs ms p q → q.calm ≡ true → p.calm ≡ true
-runs_calm p q [] none calm = ap (λ (z : RunPoint). z.calm) (sym none) ∙ calm
-runs_calm p q (Message.Power ∷ ms) (mid, on, reopens, restart, rest) calm = (begins_keep [] (reopening reopens)).1 (calm_step restart (runs_calm on q ms rest calm)).0
-runs_calm p q (Message.Line source ∷ ms) (mid, end, line, over, rest) calm = (effects_keep p mid line.added line.runs).1 (runs_calm mid q ms rest calm)
+runs_calm : (H : Type 0) (p q : RunPoint) (ms : List Message) → Runs H ms p q → q.calm ≡ true → p.calm ≡ true
+runs_calm H p q [] none calm = ap (λ (z : RunPoint). z.calm) (sym none) ∙ calm
+runs_calm H p q (Message.Power ∷ ms) (mid, on, reopens, restart, rest) calm = (begins_keep [] (reopening reopens)).1 (calm_step restart (runs_calm H on q ms rest calm)).0
+runs_calm H p q (Message.Line source ∷ ms) (mid, end, line, over, rest) calm = (effects_keep H p mid line.added line.runs).1 (runs_calm H mid q ms rest calm)
 
 module _ (ones : Ones) (some : SomeUnits) (over_is_messages : OverIsMessages) where
   inside_leads : (at : Point) (body : List ℕ) (place : ℕ) (list : List Effect) (w new : World) → InsideDone body place list → Still at w → effects.Runs Tells w list new
@@ -239,29 +239,29 @@ module _ (ones : Ones) (some : SomeUnits) (over_is_messages : OverIsMessages) wh
       (λ more end left leads. (asked_next ones source last ended.request (last == 0) more ended.is left, (Expand body, one.0, i.rest, one.1, (all.0, left_all some all.1, all.2), leads)))
 
   -- the requests of a line, and the script's result of it
-  line_alone : {at : Point} {p q : RunPoint} (source : Source) (end : Progress) → IsLine source → Still at p.world → Advances Does source p beginning q end → IsOver source end → q.calm ≡ true
+  line_alone : {at : Point} {p q : RunPoint} {H : Type 0} (h : H) (source : Source) (end : Progress) → IsLine source → Still at p.world → Advances (Does H) source p beginning q end → IsOver source end → q.calm ≡ true
       → (requests : List Request) × (rest : Point) × AskedBy source requests × Executes (record at { answers = [] }) requests rest × (q.text ≡ p.text ++ response rest.answers) × Still rest q.world
-  line_alone {at} {p} {q} source end line still a over calm =
+  line_alone {at} {p} {q} {H} h source end line still a over calm =
       let count = end.standing.units in
       let m = line_is source count a.added line (over_is_messages source a.added end (a.reaches [] Begins) over) in
       let new = still_on still [] at.state still.state refl refl refl still.sound in
-      let f = units_lead (record at { answers = [] }) source count (acts a.added) p.world q.world m.0 new (line_tells p q a.added a.runs calm) in
+      let f = units_lead (record at { answers = [] }) source count (acts a.added) p.world q.world m.0 new (line_tells h p q a.added a.runs calm) in
       let all = f.all [] f.rest (asked_none ones source count over.units) refl in
       let sent = m.1 ∙ ap response (sym (f.said ∙ acts_say a.added)) in
-      (all.0, f.rest, asked_all some source all.0 all.1, all.2, (effects_keep p q a.added a.runs).0 ∙ ap (λ (z : List ℕ). p.text ++ z) sent, f.still)
+      (all.0, f.rest, asked_all some source all.0 all.1, all.2, (effects_keep H p q a.added a.runs).0 ∙ ap (λ (z : List ℕ). p.text ++ z) sent, f.still)
 
-  messages_alone : (p q : RunPoint) (ms : List Message) (at : Point) → AreWhole ms → Still at p.world → Runs ms p q → q.calm ≡ true → (more : List ℕ) × Scripted at ms more × (q.text ≡ p.text ++ more)
-  messages_alone p q [] at whole still none calm = ([], refl, ap (λ (z : RunPoint). z.text) none ∙ sym (append-nil p.text))
-  messages_alone p q (Message.Power ∷ ms) at whole still (mid, on, reopens, restart, rest) calm =
-      let same = reopened_alone still reopens in
-      let t = messages_alone on q ms (at_start at.state.flush.limit at.stored) whole (restart_alone (subst (λ (z : RunPoint). Still at z.world) (sym same) still) restart) rest calm in
+  messages_alone : {H : Type 0} → H → (p q : RunPoint) (ms : List Message) (at : Point) → AreWhole ms → Still at p.world → Runs H ms p q → q.calm ≡ true → (more : List ℕ) × Scripted at ms more × (q.text ≡ p.text ++ more)
+  messages_alone h p q [] at whole still none calm = ([], refl, ap (λ (z : RunPoint). z.text) none ∙ sym (append-nil p.text))
+  messages_alone {H} h p q (Message.Power ∷ ms) at whole still (mid, on, reopens, restart, rest) calm =
+      let same = reopened_alone h still reopens in
+      let t = messages_alone h on q ms (at_start at.state.flush.limit at.stored) whole (restart_alone h (subst (λ (z : RunPoint). Still at z.world) (sym same) still) restart) rest calm in
       (t.0, t.1, t.2 ∙ ap (λ (z : List ℕ). z ++ t.0) (ap (λ (z : RunPoint). z.text) restart.is ∙ ap (λ (z : RunPoint). z.text) same))
-  messages_alone p q (Message.Line source ∷ ms) at whole still (mid, end, line, over, rest) calm =
-      let s = line_alone source end whole.0 still line over (runs_calm mid q ms rest calm) in let t = messages_alone mid q ms s.1 whole.1 s.5 rest calm in
+  messages_alone {H} h p q (Message.Line source ∷ ms) at whole still (mid, end, line, over, rest) calm =
+      let s = line_alone h source end whole.0 still line over (runs_calm H mid q ms rest calm) in let t = messages_alone h mid q ms s.1 whole.1 s.5 rest calm in
       (response s.1.answers ++ t.0, (s.0, s.1, t.0, s.2, s.3, t.1, refl), t.2 ∙ ap (λ (z : List ℕ). z ++ t.0) s.4 ∙ append_assoc p.text (response s.1.answers) t.0)
 
-  pub script_is_alone : ScriptAlone
-  script_is_alone image input power failures last on runs calm =
+  pub script_is_alone : (H : Type 0) → ScriptAlone H
+  script_is_alone H h image input power failures last on runs calm =
       let whole = parts_whole (parts_of 10 input) (parts_free input) in
-      let t = messages_alone (at_power_on power failures) last (messages input) (at_start on.on.limit on.on.start) whole (start_still on) runs calm in
+      let t = messages_alone h (at_power_on power failures) last (messages input) (at_start on.on.limit on.on.start) whole (start_still h on) runs calm in
       subst₂ (λ (w : World) (text : List ℕ). IsScript w.start w.limit input text) (sym on.opens.1.4) (sym t.2) t.1

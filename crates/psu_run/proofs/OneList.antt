@@ -22,6 +22,10 @@ leads_behind w mid new event h p = (event ∷ p.0, (mid, h, p.1))
 happens : (w new : World) (entry : Entry) (c : (disk : DiskState) × CallsBy Serves w entry disk new) → Happens w (Call entry c.0) new
 happens w new entry x3 = grind arith
 
+-- a step that is a call is one on an honest disk
+call_of : {H : Type 0} → H → (w new : World) (entry : Entry) → LeadsTo H w (Some entry) new → (disk : DiskState) × CallsBy Serves w entry disk new
+call_of h w new entry (disk, (s, on, serves, after, is)) = (disk, (s, on, serves, after h, is))
+
 -- ---- a restart
 
 -- where each possible crash image represents the map that the disk's bytes represent
@@ -59,13 +63,17 @@ swept w new keeps size =
       ),
     )
 
+-- on an honest disk each possible crash image represents the contents of a power-on
+is_started : {H : Type 0} {image : List ℕ} {new : World} → H → (p : PowersOn H image new) → IsStart p.on
+is_started h p = record { state = p.state; history = p.history; mode = p.mode; sound = p.sound; fitting = p.fitting; disk = p.disk h }
+
 -- A device that powers on from the bytes that the disk of a world reads as is reached by events, once everything has
 -- stopped there.
-restart_leads : (w new : World) → PowersOn w.disk.bytes new → EventsLead (record w { mode = Stopped }) new
-restart_leads w new p =
-    let on = p.on in let shut : World = record w { disk = on.disk; mode = Restarting w.disk } in
-    leads_then (record w { mode = Stopped }) shut new (swept w on.disk (standing_keeps w.disk on.disk on.limit (items_of on.start) p.found p.start.disk) p.size)
-    (leads_behind shut on new (Restart on.limit on.start) (record { down = tt; sound = p.start.sound; fitting = p.start.fitting; stands = p.start.disk }, is_start on p.start)
+restart_leads : {H : Type 0} → H → (w new : World) → PowersOn H w.disk.bytes new → EventsLead (record w { mode = Stopped }) new
+restart_leads h w new p =
+    let on = p.on in let begun = is_started h p in let shut : World = record w { disk = on.disk; mode = Restarting w.disk } in
+    leads_then (record w { mode = Stopped }) shut new (swept w on.disk (standing_keeps w.disk on.disk on.limit (items_of on.start) (p.found h) begun.disk) (p.size h))
+    (leads_behind shut on new (Restart on.limit on.start) (record { down = tt; sound = begun.sound; fitting = begun.fitting; stands = begun.disk }, is_start on begun)
     (Call (Opened (Some 1)) p.opens.0 ∷ [], (new, happens on new (Opened (Some 1)) p.opens, refl)))
 
 -- the disk that is returned is reached by events
@@ -86,16 +94,16 @@ left_leads w disk left = (
 
 -- ---- steps
 
-step_leads : (call : Option Entry) (w new : World) → LeadsTo w call new → EventsLead w new
-step_leads (Some entry) w new c = (Call entry c.0 ∷ [], (new, happens w new entry c, refl))
-step_leads None w new (whole, p) =
+step_leads : {H : Type 0} → H → (call : Option Entry) (w new : World) → LeadsTo H w call new → EventsLead w new
+step_leads h (Some entry) w new c = let made = call_of h w new entry c in (Call entry made.0 ∷ [], (new, happens w new entry made, refl))
+step_leads h None w new (whole, p) =
     let dark : World = record w { disk = without_power w.disk.bytes } in
-    leads_behind w (record dark { mode = Stopped }) new (Loss w.disk.bytes) (reads_left w.disk, refl) (restart_leads dark new p)
+    leads_behind w (record dark { mode = Stopped }) new (Loss w.disk.bytes) (reads_left w.disk, refl) (restart_leads h dark new p)
 
 -- the power-on of a run, from a world before it
-pub power_leads : (image : List ℕ) (power before : World) → PowersOn image power → before.disk.bytes ≡ image → EventsLead before power
-power_leads image power before p same =
-    leads_behind before (record before { mode = Stopped }) power Stop refl (restart_leads before power (subst (λ (x : List ℕ). PowersOn x power) (sym same) p))
+pub power_leads : {H : Type 0} → H → (image : List ℕ) (power before : World) → PowersOn H image power → before.disk.bytes ≡ image → EventsLead before power
+power_leads {H} h image power before p same =
+    leads_behind before (record before { mode = Stopped }) power Stop refl (restart_leads h before power (subst (λ (x : List ℕ). PowersOn H x power) (sym same) p))
 
 -- a world that is reached by events from a device that has just been powered on
 abbrev pub Reached : World → Type 0
@@ -104,8 +112,8 @@ Reached w = (first : World) × IsStart first × EventsLead first w
 pub reached_on : (w new : World) → EventsLead w new → Reached w → Reached new
 reached_on w new e (first, start, before) = (first, start, leads_then first w new before e)
 
-pub reached_power : (image : List ℕ) (power : World) → PowersOn image power → Reached power
-reached_power image power p = (p.on, p.start, (Call (Opened (Some 1)) p.opens.0 ∷ [], (power, happens p.on power (Opened (Some 1)) p.opens, refl)))
+pub reached_power : {H : Type 0} → H → (image : List ℕ) (power : World) → PowersOn H image power → Reached power
+reached_power h image power p = (p.on, is_started h p, (Call (Opened (Some 1)) p.opens.0 ∷ [], (power, happens p.on power (Opened (Some 1)) p.opens, refl)))
 
 -- ---- the points of a run
 
@@ -119,9 +127,9 @@ along_more w ws image (k, v, low, is, stands) = (suc k, v, omega (arith, low), i
 abbrev pub Continues : RunPoint → RunPoint → Type 0
 Continues p q = EventsLead p.world q.world × ((image : List ℕ) → IsAlong p image → IsAlong q image)
 
-pub step_goes : {p q : RunPoint} {call : Option Entry} → Steps p call q → Continues p q
-step_goes {p} {q} {call} s = (
-  step_leads call p.world q.world s.leads,
+pub step_goes : {p q : RunPoint} {call : Option Entry} {H : Type 0} → H → Steps H p call q → Continues p q
+step_goes {p} {q} {call} h s = (
+  step_leads h call p.world q.world s.leads,
   λ image along. subst (λ (z : RunPoint). IsAlong z image) (sym s.is) (along_more q.world (p.world ∷ p.passed) image along),
 )
 

@@ -1,5 +1,5 @@
 -- The input of a run: what is read of it, its lines, and the requests of a line.
-use Rattle.std.specs.Prelude.{◌≡◌, ◌⊎◌, ℕ, ◌+◌, ◌-◌, ◌^◌, ◌<◌, ◌≤◌, ◌==◌, nat_lt, Bool, false, List, [], ◌∷◌, length, Option, Some, None, Result, IfSome, MatchResult, if◌then◌else◌, codes, map, ⊤}
+use Rattle.std.specs.Prelude.{◌≡◌, ◌⊎◌, ℕ, ◌+◌, ◌-◌, ◌^◌, ◌*◌, ◌<◌, ◌≤◌, ◌==◌, nat_lt, Bool, false, List, [], ◌∷◌, length, Option, Some, None, Result, IfSome, MatchResult, if◌then◌else◌, codes, map, ⊤}
 use Rattle.std.specs.Io.KnownBytes.{Consumes, IsAtEnd}
 use Rattle.std.specs.List.{list_any}
 use Rattle.std.specs.Str.{bytes_eq}
@@ -8,53 +8,72 @@ use Rattle.psu_lex.specs.declared.scpi_error.ScpiError.TheVariants.{TooMuchData}
 use Rattle.psu_tree.specs.declared.command.Request.{Request}
 use Rattle.psu_messages.specs.Units.{Fault, IsRequest, Source, Text, faulty, path_at}
 
--- ---- reads
-
--- The number of reads made, and of those that returned bytes.
-pub record Reads : Type 0 where
-  pub made : ℕ
-  pub filled : ℕ
+-- ---- counts
 
 -- The count grew by `n`. A count saturates at 2 ^ 64 - 1, and is exact below it.
 abbrev pub GrewBy : ℕ → ℕ → ℕ → Type 0
 GrewBy n old new = (new ≤ old + n) × (new < 2 ^ 64 - 1 → new ≡ old + n)
 
--- `made` reads were made and `filled` of them returned bytes, by the counts of a reader that counts them.
-abbrev pub Counts : ℕ → ℕ → Option Reads → Option Reads → Type 0
-Counts made filled None new = ⊤
-Counts made filled (Some old) None = ⊥
-Counts made filled (Some old) (Some new) = GrewBy made old.made new.made × GrewBy filled old.filled new.filled
+-- ---- reads
 
--- One read was made. It returned bytes where its result is a number other than 0.
-abbrev pub CountsRead : {E : Type 0} → Option Reads → Option Reads → Result ℕ E → Type 0
-CountsRead old new result = MatchResult result (λ n. (n ≡ 0 → Counts 1 0 old new) × (1 ≤ n → Counts 1 1 old new)) (λ _. Counts 1 0 old new)
+-- What is counted of a reader: the reads made, those that returned bytes and those that failed, and how many bytes they
+-- asked for in all.
+pub record Reads : Type 0 where
+  pub made : ℕ
+  pub filled : ℕ
+  pub failed : ℕ
+  pub asked : ℕ
 
--- What was read of an input: `made` reads were made, `filled` of them returned bytes, at least one each, and `bytes`
--- are these bytes. The bytes are constrained where the reader's bytes are known, and the reads where they are counted.
-pub record HasRead (made filled : ℕ) (bytes : List ℕ) (old_rest new_rest : Option (List ℕ)) (old_reads new_reads : Option Reads) : Type 0 where
+-- these reads were made, by the counts of a reader that counts them
+abbrev pub Counts : Reads → Option Reads → Option Reads → Type 0
+Counts more None new = ⊤
+Counts more (Some old) None = ⊥
+Counts more (Some old) (Some new) = GrewBy more.made old.made new.made × GrewBy more.filled old.filled new.filled
+    × GrewBy more.failed old.failed new.failed × GrewBy more.asked old.asked new.asked
+
+-- reads of a run: each asks for the 65,536 bytes that its buffer has room for
+abbrev pub reads_of : ℕ → ℕ → ℕ → Reads
+reads_of made filled failed = record { made = made; filled = filled; failed = failed; asked = made * 65536 }
+
+-- One read was made, which asked for `room` bytes. It returned bytes where its result is a number other than 0, and failed
+-- where it is an error.
+abbrev pub CountsRead : {E : Type 0} → ℕ → Option Reads → Option Reads → Result ℕ E → Type 0
+CountsRead room old new result = let one : ℕ → ℕ → Reads = λ filled failed. record { made = 1; filled = filled; failed = failed; asked = room } in
+    MatchResult result (λ n. (n ≡ 0 → Counts (one 0 0) old new) × (1 ≤ n → Counts (one 1 0) old new)) (λ _. Counts (one 0 1) old new)
+
+-- What was read of an input: `made` reads were made, `filled` of them returned bytes, at least one each, `failed` of them
+-- failed, and `bytes` are these bytes. The bytes are constrained where the reader's bytes are known, and the reads where
+-- they are counted.
+pub record HasRead (made filled failed : ℕ) (bytes : List ℕ) (old_rest new_rest : Option (List ℕ)) (old_reads new_reads : Option Reads) : Type 0 where
   pub taken : Consumes old_rest new_rest bytes
-  pub counted : Counts made filled old_reads new_reads
+  pub counted : Counts (reads_of made filled failed) old_reads new_reads
   pub each : filled ≤ length bytes
 
 -- Too long: more than 16,777,216 bytes were read, or 1,048,576 reads were made, and each read returned bytes.
 abbrev pub IsTooLong : Option (List ℕ) → Option (List ℕ) → Option Reads → Option Reads → Type 0
 IsTooLong old_rest new_rest old_reads new_reads = (made : ℕ) × (bytes : List ℕ)
-    × HasRead made made bytes old_rest new_rest old_reads new_reads
+    × HasRead made made 0 bytes old_rest new_rest old_reads new_reads
     × ((16777216 < length bytes) ⊎ (made ≡ 1048576))
 
 -- The input was read to its end, and is not too long: it has at most 16,777,216 bytes, and of at most 1,048,576 reads
 -- the last found the end, and each of the others returned bytes.
 abbrev pub IsReadToEnd : Option (List ℕ) → Option (List ℕ) → Option Reads → Option Reads → Type 0
 IsReadToEnd old_rest new_rest old_reads new_reads = (filled : ℕ) × (bytes : List ℕ)
-    × HasRead (filled + 1) filled bytes old_rest new_rest old_reads new_reads
+    × HasRead (filled + 1) filled 0 bytes old_rest new_rest old_reads new_reads
     × (filled + 1 ≤ 1048576) × (length bytes ≤ 16777216) × IsAtEnd new_rest
 
--- At most 1,048,576 reads were made, and what was read exceeds 16,777,216 bytes by at most one read, of at most `piece`
--- bytes. So once the input is too long, no read is made that could return that many bytes.
+-- The last read failed, each before it returned bytes, and what was read is not too long.
+abbrev pub IsReadUpToFault : Option (List ℕ) → Option (List ℕ) → Option Reads → Option Reads → Type 0
+IsReadUpToFault old_rest new_rest old_reads new_reads = (filled : ℕ) × (bytes : List ℕ)
+    × HasRead (filled + 1) filled 1 bytes old_rest new_rest old_reads new_reads
+    × (filled + 1 ≤ 1048576) × (length bytes ≤ 16777216)
+
+-- At most 1,048,576 reads were made, `failed` of which failed, and what was read exceeds 16,777,216 bytes by at most one
+-- read of 65,536 bytes. So once the input is too long, no further read is made.
 abbrev pub ReadsNoFurther : ℕ → Option (List ℕ) → Option (List ℕ) → Option Reads → Option Reads → Type 0
-ReadsNoFurther piece old_rest new_rest old_reads new_reads = (made : ℕ) × (filled : ℕ) × (bytes : List ℕ)
-    × HasRead made filled bytes old_rest new_rest old_reads new_reads
-    × (made ≤ 1048576) × (length bytes ≤ 16777216 + piece)
+ReadsNoFurther failed old_rest new_rest old_reads new_reads = (made : ℕ) × (filled : ℕ) × (bytes : List ℕ)
+    × HasRead made filled failed bytes old_rest new_rest old_reads new_reads
+    × (made ≤ 1048576) × (length bytes ≤ 16777216 + 65536)
 
 -- ---- lines
 

@@ -4,7 +4,9 @@ ghost use Rattle.psu_exec.specs.Calls.{Executed, Settled};
 ghost use Rattle.psu_exec.specs.Device.{Later, Parked, is_open, is_whole, wait_of};
 ghost use Rattle.psu_exec.specs.Shown.{outcome_of};
 ghost use Rattle.psu_messages.specs.Effects.{needs};
-ghost use Rattle.psu_run.specs.Runs.{Acts, Begins, Calls, DeviceStops, IsFlush, IsUnit, IsWornAtLast, Leads, RunPoint};
+ghost use Rattle.psu_run.specs.Ends.{Halts};
+ghost use Rattle.psu_run.specs.Parts.{DeviceStops, IsWornAtLast, Leads};
+ghost use Rattle.psu_run.specs.Points.{Acts, Calls, IsFlush, IsUnit, RunPoint};
 
 use crate::RunCause;
 use crate::jobs::flush;
@@ -40,10 +42,10 @@ fn wait<D: Disk, A: Allocator + Copy>(
     requires first { session ≡ 1 }
     requires idle { exec.old.device.flush.out ≡ false }
     requires open { is_open exec.old.device 1 ≡ true }
-    ensures ends { IfOk result (λ o. Leads exec.old exec.new (λ p q. (over : RunPoint) × IsFlush p over × Calls over (Settled 1 (outcome_of o)) q)) }
+    ensures ends { IfOk result (λ o. Leads exec.old exec.new (λ p q. (over : RunPoint) × IsFlush D.honest p over × Calls D.honest over (Settled 1 (outcome_of o)) q)) }
     ensures ended { IfOk result (λ o. needs (outcome_of o) ≡ None) }
     ensures free { wait_of exec.new.device.flush 1 ≡ None }
-    ensures stops { IfErr result (DeviceStops exec.old exec.new (Begins [])) }
+    ensures stops { IfErr result (λ cause. DeviceStops exec.old exec.new (Halts D.honest (Some cause) []) cause) }
     ensures other { IfErr result (λ cause. cause ≢ RunCause.Write) }
     ensures worn { IsWornAtLast exec.old → IsWornAtLast exec.new }
     ensures idle { exec.new.device.flush.out ≡ false }
@@ -71,11 +73,11 @@ pub(crate) fn act<D: Disk, A: Allocator + Copy>(
     powered: &mut PoweredDevice<D, A>,
     request: &Request<'_>,
 ) -> Result<Outcome<A>, RunCause>
-    ensures acts { IfOk result (λ o. outcome_of o ≢ Later → Leads powered.old.exec powered.new.exec (Acts request.now (outcome_of o))) }
-    ensures late { IfOk result (λ o. outcome_of o ≡ Later → Leads powered.old.exec powered.new.exec (λ p q. Calls p (Executed 1 request.now Later) q)) }
+    ensures acts { IfOk result (λ o. outcome_of o ≢ Later → Leads powered.old.exec powered.new.exec (Acts D.honest request.now (outcome_of o))) }
+    ensures late { IfOk result (λ o. outcome_of o ≡ Later → Leads powered.old.exec powered.new.exec (λ p q. Calls D.honest p (Executed 1 request.now Later) q)) }
     ensures ended { IfOk result (λ o. outcome_of o ≢ Later → needs (outcome_of o) ≡ None) }
     ensures room { IfOk result (λ o. outcome_of o ≡ Later → (is_whole powered.old.exec.device.flush.store ≡ true) × (0 < powered.old.exec.device.flush.unflushed)) }
-    ensures stops { IfErr result (DeviceStops powered.old.exec powered.new.exec (Begins (request.now ∷ []))) }
+    ensures stops { IfErr result (λ cause. DeviceStops powered.old.exec powered.new.exec (Halts D.honest (Some cause) (request.now ∷ [])) cause) }
     ensures other { IfErr result (λ cause. cause ≢ RunCause.Write) }
 {
     let outcome = powered.exec.execute(powered.session, request);
@@ -92,9 +94,9 @@ pub(crate) fn unit<D: Disk, A: Allocator + Copy>(
     powered: &mut PoweredDevice<D, A>,
     request: &Request<'_>,
 ) -> Result<Outcome<A>, RunCause>
-    ensures runs { IfOk result (λ o. Leads powered.old.exec powered.new.exec (IsUnit request.now (outcome_of o))) }
+    ensures runs { IfOk result (λ o. Leads powered.old.exec powered.new.exec (IsUnit D.honest request.now (outcome_of o))) }
     ensures ended { IfOk result (λ o. needs (outcome_of o) ≡ None) }
-    ensures stops { IfErr result (DeviceStops powered.old.exec powered.new.exec (Begins (request.now ∷ []))) }
+    ensures stops { IfErr result (λ cause. DeviceStops powered.old.exec powered.new.exec (Halts D.honest (Some cause) (request.now ∷ [])) cause) }
     ensures other { IfErr result (λ cause. cause ≢ RunCause.Write) }
 {
     let outcome = act(powered, request)?;

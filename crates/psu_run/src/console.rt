@@ -4,14 +4,16 @@ ghost use Rattle.psu_messages.specs.Executions.{Advances, IsOver, StopsAt};
 ghost use Rattle.psu_messages.specs.Relations.{IsAwaited};
 ghost use Rattle.psu_messages.specs.ResponseBuffer.{nothing};
 ghost use Rattle.psu_messages.specs.Shown.{progress_of};
+ghost use Rattle.psu_run.specs.Ends.{Halts, NextBegins};
 ghost use Rattle.psu_run.specs.Lines.{Message, source_of};
-ghost use Rattle.psu_run.specs.Runs.{Answers, Begins, DeviceStops, IsDone, NextBegins, SaysUntil, held};
+ghost use Rattle.psu_run.specs.Output.{SaysUntil, held};
+ghost use Rattle.psu_run.specs.Parts.{Answers, DeviceStops, IsDone, IsMemory};
 
-use crate::RunCause;
 use crate::acting::unit;
 use crate::lines::is_too_long;
 use crate::run_state::Responder;
 use crate::writing::append_output;
+use crate::{OutOfMemory, RunCause, Sink};
 use psu_disk::Disk;
 use psu_exec::{Request, ScpiError};
 use psu_messages::{
@@ -19,7 +21,6 @@ use psu_messages::{
 };
 use std::alloc::Allocator;
 use std::convert::Infallible;
-use std::io::Write;
 use std::mem;
 
 // Executes the message of a line: its bytes, or the error that the line is too long.
@@ -48,12 +49,12 @@ fn proceed<A: Allocator + Copy, F: Executor<A>>(
 
 // The executor of a run: a powered-on device with its output, and the writer.
 #[derive(Drop)]
-struct Console<'r, 'w, W: Write, D: Disk, A: Allocator + Copy> {
+struct Console<'r, 'w, W: Sink, D: Disk, A: Allocator + Copy> {
     responder: &'r mut Responder<D, A>,
     writer: &'w mut W,
 }
 
-impl<'r, 'w, W: Write, D: Disk, A: Allocator + Copy> Executor<A> for Console<'r, 'w, W, D, A> {
+impl<'r, 'w, W: Sink, D: Disk, A: Allocator + Copy> Executor<A> for Console<'r, 'w, W, D, A> {
     type Stop = RunCause;
 
     // There is none: a unit is executed with the flushes that it waits for.
@@ -66,13 +67,13 @@ impl<'r, 'w, W: Write, D: Disk, A: Allocator + Copy> Executor<A> for Console<'r,
     // failed.
     ghost relations = { record {
       does = λ x effect y. (y.responder.ghost_name ≡ x.responder.ghost_name) × (y.writer.ghost_name ≡ x.writer.ghost_name)
-          × IsDone x.responder.now.powered.exec (held (W.contents x.writer.now) x.responder.now.output.items) effect y.responder.now.powered.exec (held (W.contents y.writer.now) y.responder.now.output.items);
+          × IsDone x.responder.now.powered.exec (held (W.written x.writer.now) x.responder.now.output.items) effect y.responder.now.powered.exec (held (W.written y.writer.now) y.responder.now.output.items);
       fails = λ x request cause y. (y.responder.ghost_name ≡ x.responder.ghost_name) × (y.writer.ghost_name ≡ x.writer.ghost_name)
-          × (held (W.contents y.writer.now) y.responder.now.output.items ≡ held (W.contents x.writer.now) x.responder.now.output.items)
-          × DeviceStops x.responder.now.powered.exec y.responder.now.powered.exec (Begins (request ∷ [])) cause × (cause ≢ RunCause.Write);
+          × (held (W.written y.writer.now) y.responder.now.output.items ≡ held (W.written x.writer.now) x.responder.now.output.items)
+          × DeviceStops x.responder.now.powered.exec y.responder.now.powered.exec (Halts D.honest (Some cause) (request ∷ [])) cause × (cause ≢ RunCause.Write);
       stops = λ x cause y. (y.responder.ghost_name ≡ x.responder.ghost_name) × (y.writer.ghost_name ≡ x.writer.ghost_name)
-          × (y.responder.now.powered.exec ≡ x.responder.now.powered.exec) × ((cause ≡ RunCause.Memory) ⊎ (cause ≡ RunCause.Write))
-          × SaysUntil (Some cause) (held (W.contents x.writer.now) x.responder.now.output.items) (held (W.contents y.writer.now) y.responder.now.output.items) [];
+          × (y.responder.now.powered.exec ≡ x.responder.now.powered.exec) × (IsMemory cause ⊎ (cause ≡ RunCause.Write))
+          × SaysUntil (Some cause) (held (W.written x.writer.now) x.responder.now.output.items) (held (W.written y.writer.now) y.responder.now.output.items) [];
       yields = λ _. ⊥;
     } };
 
@@ -102,23 +103,23 @@ impl<'r, 'w, W: Write, D: Disk, A: Allocator + Copy> Executor<A> for Console<'r,
         append_output(&mut self.responder.output, text, self.writer)
     }
 
-    fn out_of_memory(&self, _: MemoryRefused) -> RunCause {
-        RunCause::Memory
+    fn out_of_memory(&self, refused: MemoryRefused) -> RunCause {
+        RunCause::Memory(OutOfMemory::from(refused))
     }
 }
 
-impl<'r, 'w, W: Write, D: Disk, A: Allocator + Copy> Console<'r, 'w, W, D, A> {
+impl<'r, 'w, W: Sink, D: Disk, A: Allocator + Copy> Console<'r, 'w, W, D, A> {
     // Executes the message of a complete line, and outputs its response.
     fn execute_line(&mut self, alloc: A, line: &[u8]) -> Result<(), RunCause>
         requires fresh { self.old.responder.now.gathered ≡ nothing }
         ensures runs { OnOk result (Answers (Message.Line (source_of line.now) ∷ []) self.old.responder.now.powered.exec self.new.responder.now.powered.exec
-            (held (W.contents self.old.writer.now) (self.old.responder.now.output.items ++ self.old.responder.now.gathered.rest))
-            (held (W.contents self.new.writer.now) (self.new.responder.now.output.items ++ self.new.responder.now.gathered.rest))) }
+            (held (W.written self.old.writer.now) (self.old.responder.now.output.items ++ self.old.responder.now.gathered.rest))
+            (held (W.written self.new.writer.now) (self.new.responder.now.output.items ++ self.new.responder.now.gathered.rest))) }
         ensures fresh { OnOk result (self.new.responder.now.gathered ≡ nothing) }
         ensures breaks { IfErr result (λ cause. (part : List ℕ)
-            × SaysUntil (Some cause) (held (W.contents self.old.writer.now) (self.old.responder.now.output.items ++ self.old.responder.now.gathered.rest))
-            (held (W.contents self.new.writer.now) (self.new.responder.now.output.items ++ self.new.responder.now.gathered.rest)) part
-            × DeviceStops self.old.responder.now.powered.exec self.new.responder.now.powered.exec (λ p q. NextBegins (Message.Line (source_of line.now) ∷ []) p q × (q.text ≡ p.text ++ part)) cause) }
+            × SaysUntil (Some cause) (held (W.written self.old.writer.now) (self.old.responder.now.output.items ++ self.old.responder.now.gathered.rest))
+            (held (W.written self.new.writer.now) (self.new.responder.now.output.items ++ self.new.responder.now.gathered.rest)) part
+            × DeviceStops self.old.responder.now.powered.exec self.new.responder.now.powered.exec (λ p q. NextBegins D.honest (Some cause) (Message.Line (source_of line.now) ∷ []) p q × (q.text ≡ p.text ++ part)) cause) }
         ensures responder { self.new.responder.ghost_name ≡ self.old.responder.ghost_name }
         ensures writer { self.new.writer.ghost_name ≡ self.old.writer.ghost_name }
     {
@@ -142,7 +143,7 @@ impl<'r, 'w, W: Write, D: Disk, A: Allocator + Copy> Console<'r, 'w, W, D, A> {
 impl<D: Disk, A: Allocator + Copy> Responder<D, A> {
     /// Executes the message of a complete line that is not the one of a power loss, and outputs its response. Where it
     /// stops early, the answers that were not output are left in the response buffer.
-    pub fn answer_line<W: Write>(
+    pub fn answer_line<W: Sink>(
         &mut self,
         alloc: A,
         line: &[u8],
@@ -150,11 +151,11 @@ impl<D: Disk, A: Allocator + Copy> Responder<D, A> {
     ) -> Result<(), RunCause>
         requires fresh { self.old.gathered ≡ nothing }
         ensures runs { OnOk result (Answers (Message.Line (source_of line.now) ∷ []) self.old.powered.exec self.new.powered.exec
-            (held (W.contents writer.old) (self.old.output.items ++ self.old.gathered.rest)) (held (W.contents writer.new) (self.new.output.items ++ self.new.gathered.rest))) }
+            (held (W.written writer.old) (self.old.output.items ++ self.old.gathered.rest)) (held (W.written writer.new) (self.new.output.items ++ self.new.gathered.rest))) }
         ensures fresh { OnOk result (self.new.gathered ≡ nothing) }
         ensures breaks { IfErr result (λ cause. (part : List ℕ)
-            × SaysUntil (Some cause) (held (W.contents writer.old) (self.old.output.items ++ self.old.gathered.rest)) (held (W.contents writer.new) (self.new.output.items ++ self.new.gathered.rest)) part
-            × DeviceStops self.old.powered.exec self.new.powered.exec (λ p q. NextBegins (Message.Line (source_of line.now) ∷ []) p q × (q.text ≡ p.text ++ part)) cause) }
+            × SaysUntil (Some cause) (held (W.written writer.old) (self.old.output.items ++ self.old.gathered.rest)) (held (W.written writer.new) (self.new.output.items ++ self.new.gathered.rest)) part
+            × DeviceStops self.old.powered.exec self.new.powered.exec (λ p q. NextBegins D.honest (Some cause) (Message.Line (source_of line.now) ∷ []) p q × (q.text ≡ p.text ++ part)) cause) }
     {
         let mut console = Console {
             responder: &mut *self,

@@ -3,8 +3,10 @@ ghost use Rattle.std.specs.Prelude.{◌≡◌, ◌↔◌, ◌++◌, [], List, �
 ghost use Rattle.std.specs.Str.{bytes_eq};
 ghost use Rattle.psu_run.specs.Lines.{has, messages};
 
+use crate::OutOfMemory;
+use crate::memory::append;
 use psu_lex::TEXT_MOST;
-use std::alloc::{AllocError, Allocator};
+use std::alloc::Allocator;
 
 /// The line that is being read. Of a line that is too long only so many bytes are kept that it is too long.
 #[derive(Drop)]
@@ -25,19 +27,19 @@ impl<A: Allocator> Lines<A> {
 
     /// Appends bytes to the line that is being read.
     #[inline(always)]
-    pub fn extend(&mut self, part: &[u8]) -> Result<(), AllocError>
+    pub fn extend(&mut self, part: &[u8]) -> Result<(), OutOfMemory>
         requires { has 10 part.now ≡ false }
         ensures { OnOk result ((input : List ℕ) → messages (self.old.line.items ++ (part.now ++ input)) ≡ messages (self.new.line.items ++ input)) }
     {
         let room = (TEXT_MOST + 1).saturating_sub(self.line.len());
         let kept = part.len().min(room);
-        self.line.extend_from_slice(&part[..kept])?;
+        append(&mut self.line, &part[..kept])?;
         Ok(())
     }
 
     /// Ends the line with this part, and returns it. A line that lies whole in the part is not copied.
     #[inline(always)]
-    pub fn ended<'l>(&'l mut self, part: &'l [u8]) -> Result<&'l [u8], AllocError>
+    pub fn ended<'l>(&'l mut self, part: &'l [u8]) -> Result<&'l [u8], OutOfMemory>
         requires { has 10 part.now ≡ false }
         ensures line { IfOk result (λ line. (input : List ℕ) → messages (self.old.line.items ++ (part.now ++ input)) ≡ messages (line.now ++ input)) }
         ensures free { IfOk result (λ line. has 10 line.now ≡ false) }

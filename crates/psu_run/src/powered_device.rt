@@ -8,21 +8,18 @@ ghost use Rattle.psu_map.specs.Map.{Item};
 ghost use Rattle.psu_exec.specs.Device.{is_broken, is_denied, is_open, wait_of};
 ghost use Rattle.psu_exec.specs.World.{World};
 ghost use Rattle.psu_exec.specs.declared.idle_store.Condition.TheVariants.{Worn};
-ghost use Rattle.psu_exec.specs.declared.start_cause.StartFault.{StartFault};
-ghost use Rattle.psu_run.specs.Runs.{FaultOf, IsAt, IsByFailure, IsWornAtLast, IsWornOut, NotStarted, PowersOn, at_power_on, cause_of, disk_from, disk_in};
+ghost use Rattle.psu_run.specs.Ends.{IsByFailure, NotStarted, cause_of, fault_disk, start_of};
+ghost use Rattle.psu_run.specs.Parts.{FaultOf, IsAt, IsMemory, IsWornAtLast, disk_in};
+ghost use Rattle.psu_run.specs.Points.{IsWornOut, PowersOn, at_power_on};
+ghost use Rattle.psu_run.specs.Results.{disk_from};
+ghost use Rattle.psu_run.specs.declared.recover_fault.RecoverFault.{RecoverFault};
 
-use crate::{RunCause, RunFault, RunStart};
+use crate::memory::{opening_fault, power_fault};
+use crate::{Returned, RunCause, RunFault, RunStart};
 use psu_disk::Disk;
-use psu_exec::{Condition, Crowded, Ended, Exec, Session};
+use psu_exec::{Crowded, Ended, Exec, Session};
 use psu_items::Store;
 use std::alloc::Allocator;
-
-// Whether no number is left for a commit.
-fn is_worn(condition: Condition) -> bool
-    ensures { IsTrue result ↔ (condition ≡ Worn) }
-{
-    matches!(condition, Condition::Worn)
-}
 
 /// A powered-on device: its one session is open and waits for nothing, no lock denies it, no job is out, and its store
 /// is worn only where its number is the last.
@@ -40,29 +37,32 @@ pub(crate) struct PoweredDevice<D: Disk, A: Allocator + Copy> {
 
 impl<D: Disk, A: Allocator + Copy> PoweredDevice<D, A> {
     /// Powers on with the contents of a store, and opens the session. The image is any that represents the store's map.
-    pub fn of_store(alloc: A, store: Store<D, A>) -> Result<PoweredDevice<D, A>, RunFault<D>>
-        ensures starts { D.honest → (image : List ℕ) → Represents image store.limit store.items → length (D.state store.disk).bytes ≡ length image
-            → IfOk result (λ p. (power : World) × PowersOn image power × IsAt p.exec store.disk (at_power_on power (D.failures store.disk))) }
+    pub fn of_store(alloc: A, store: Store<D, A>) -> Result<PoweredDevice<D, A>, RunFault<D, A>>
+        ensures starts { (image : List ℕ) → (D.honest → Represents image store.limit store.items × (length (D.state store.disk).bytes ≡ length image))
+            → IfOk result (λ p. (power : World) × PowersOn D.honest image power × IsAt p.exec store.disk (at_power_on power (D.failures store.disk))) }
         ensures own { D.honest → Represents (D.state store.disk).bytes store.limit store.items }
         ensures stored { IfOk result (λ p. disk_in p.exec ≡ Some store.disk) }
         ensures whole { IfOk result (λ p. is_broken p.exec.device.flush.store ≡ false) }
 
         ensures other { IfErr result (λ f. f.cause ≢ RunCause.Write) }
         ensures input { IfErr result (λ f. (f.cause ≢ RunCause.Read) × (f.cause ≢ RunCause.TooLong)) }
-        ensures refused { IfErr result (λ f. (image : List ℕ) → Represents image store.limit store.items
-            → (why : StartFault) × (f.cause ≡ cause_of why) × NotStarted image (D.failures store.disk) (D.failures store.disk) why) }
+        ensures refused { IfErr result (λ f. (why : RecoverFault) × (f.cause ≡ cause_of why)
+            × ((image : List ℕ) → Represents image store.limit store.items → NotStarted image (D.failures store.disk) (D.failures store.disk) (start_of why))) }
+        // Where memory is refused, no call of the disk failed.
+        ensures memory { IfErr result (λ f. IsMemory f.cause → D.failures (fault_disk f) ≡ D.failures store.disk) }
         ensures failed { IfErr result (IsByFailure D.Disk (D.failures store.disk)) }
-        ensures disk { IfErr result (λ f. f.disk ≡ store.disk) }
+        ensures disk { IfErr result (λ f. fault_disk f ≡ store.disk) }
     {
         // (for what it says of the disk)
         store.items();
         let mut exec = match Exec::power_on(alloc, store) {
             Ok(exec) => exec,
             Err(fault) => {
+                // (for what it says of the disk)
+                fault.store.number();
                 return Err(RunFault {
-                    cause: RunCause::from(fault.cause),
-                    disk: fault.store.into_disk(),
-                    is_worn: false,
+                    cause: RunCause::from(power_fault(&fault)),
+                    returned: Returned::Store(fault.store),
                 });
             }
         };
@@ -73,28 +73,30 @@ impl<D: Disk, A: Allocator + Copy> PoweredDevice<D, A> {
     }
 
     /// Opens the disk that the run begins on, unless its store is open, powers on with its contents, and opens the session.
-    pub fn on(alloc: A, start: RunStart<D, A>) -> Result<PoweredDevice<D, A>, RunFault<D>>
-        ensures starts { D.honest → IfOk result (λ p. (power : World) × PowersOn (D.state (disk_from start)).bytes power
+    pub fn on(alloc: A, start: RunStart<D, A>) -> Result<PoweredDevice<D, A>, RunFault<D, A>>
+        ensures starts { IfOk result (λ p. (power : World) × PowersOn D.honest (D.state (disk_from start)).bytes power
             × ForSome (disk_in p.exec) (λ disk. IsAt p.exec disk (at_power_on power (D.failures disk)))) }
         ensures disk { IfOk result (λ p. (disk : D) × (disk_in p.exec ≡ Some disk) × (D.failures disk ≡ D.failures (disk_from start)) × (D.extent disk ≡ D.extent (disk_from start))) }
         ensures whole { IfOk result (λ p. is_broken p.exec.device.flush.store ≡ false) }
 
         ensures other { IfErr result (λ f. f.cause ≢ RunCause.Write) }
         ensures input { IfErr result (λ f. (f.cause ≢ RunCause.Read) × (f.cause ≢ RunCause.TooLong)) }
-        ensures refused { D.honest → IfErr result (λ f. (why : StartFault) × (f.cause ≡ cause_of why)
-            × NotStarted (D.state (disk_from start)).bytes (D.failures (disk_from start)) (D.failures f.disk) why) }
+        ensures refused { IfErr result (λ f. (why : RecoverFault) × (f.cause ≡ cause_of why)
+            × (D.honest → NotStarted (D.state (disk_from start)).bytes (D.failures (disk_from start)) (D.failures (fault_disk f)) (start_of why))) }
+        // Where memory is refused, no call of the disk failed.
+        ensures memory { IfErr result (λ f. IsMemory f.cause → D.failures (fault_disk f) ≡ D.failures (disk_from start)) }
         ensures failed { IfErr result (IsByFailure D.Disk (D.failures (disk_from start))) }
-        ensures later { IfErr result (λ f. D.failures (disk_from start) ≤ D.failures f.disk) }
-        ensures extent { IfErr result (λ f. D.extent f.disk ≡ D.extent (disk_from start)) }
+        ensures later { IfErr result (λ f. D.failures (disk_from start) ≤ D.failures (fault_disk f)) }
+        ensures extent { IfErr result (λ f. D.extent (fault_disk f) ≡ D.extent (disk_from start)) }
         // At each moment since the call began, each possible crash image is one from before, or has the root that was
         // current when the disk was read.
         ensures time { D.honest → D.records → IfOk result (λ p.
             ForSome (disk_in p.exec) (λ disk. LeavesOnly D.moment D.left_since (disk_from start) disk (IsOldOrSame (D.state (disk_from start))))) }
-        ensures time_refused { D.honest → D.records → IfErr result (λ f. LeavesOnly D.moment D.left_since (disk_from start) f.disk (IsOldOrSame (D.state (disk_from start)))) }
+        ensures time_refused { D.honest → D.records → IfErr result (λ f. LeavesOnly D.moment D.left_since (disk_from start) (fault_disk f) (IsOldOrSame (D.state (disk_from start)))) }
 
         // A disk that does not power on also keeps the map that each of its possible crash images represented.
         ensures left { D.honest → IfErr result (λ f. (limit : ℕ) (map : List Item)
-            → EachRepresents (D.state (disk_from start)) limit map → EachRepresents (D.state f.disk) limit map) }
+            → EachRepresents (D.state (disk_from start)) limit map → EachRepresents (D.state (fault_disk f)) limit map) }
     {
         match start {
             RunStart::Store(store) => {
@@ -106,9 +108,8 @@ impl<D: Disk, A: Allocator + Copy> PoweredDevice<D, A> {
                     Ok(store) => store,
                     Err(refused) => {
                         return Err(RunFault {
-                            cause: RunCause::from(refused.cause),
-                            disk: refused.disk,
-                            is_worn: false,
+                            cause: RunCause::from(opening_fault(&refused)),
+                            returned: Returned::Disk(refused.disk),
                         });
                     }
                 };
@@ -132,15 +133,24 @@ impl<D: Disk, A: Allocator + Copy> PoweredDevice<D, A> {
         }
     }
 
-    /// Ends the run early, for this cause, and returns the disk with it.
-    pub fn fault(self, cause: RunCause) -> RunFault<D>
+    /// Ends the run early, for this cause, and hands back the store with it.
+    pub fn fault(self, cause: RunCause) -> RunFault<D, A>
         ensures { FaultOf self.exec cause result }
     {
-        let is_worn = is_worn(self.exec.condition());
-        RunFault {
-            cause,
-            disk: self.into_disk(),
-            is_worn,
+        match self.exec.end() {
+            Ended::Whole(store) => {
+                // (for what it says of the disk)
+                store.number();
+                RunFault {
+                    cause,
+                    returned: Returned::Store(store),
+                }
+            }
+            Ended::Failed(broken) => RunFault {
+                cause,
+                returned: Returned::Broken(broken),
+            },
+            Ended::Out(_) => unreachable!(),
         }
     }
 }

@@ -6,25 +6,28 @@ ghost use Rattle.psu_map.specs.Map.{Item};
 ghost use Rattle.psu_items.specs.Image.{EachRepresents};
 ghost use Rattle.psu_exec.specs.Jobs.{idle_disk};
 ghost use Rattle.psu_exec.specs.declared.start_cause.StartCause.TheVariants.{Device};
-ghost use Rattle.psu_exec.specs.declared.start_cause.StartFault.TheVariants.{Memory, Start};
+ghost use Rattle.psu_exec.specs.declared.start_cause.StartFault.TheVariants.{Memory};
+ghost use Rattle.psu_run.specs.Ends.{NotStarted, start_of};
 ghost use Rattle.psu_run.specs.Recover.{IsReported, Reports};
-ghost use Rattle.psu_run.specs.Runs.{NotStarted};
+ghost use Rattle.psu_run.specs.declared.recover_fault.RecoverFault.TheVariants.{Start};
 ghost use Rattle.psu_status.specs.Status.{first_request};
 
 mod listing;
 mod report;
 
+use crate::RecoverFault;
+use crate::memory::{opening_fault, power_fault};
 use listing::files_of;
 use psu_disk::Disk;
-use psu_exec::{Ended, Exec, StartFault};
+use psu_exec::{Ended, Exec};
 use psu_items::Store;
 pub use report::{Report, ReportedFile, report_text};
-use std::alloc::{AllocError, Allocator};
+use std::alloc::Allocator;
 
 /// The report on an image, or why there is none, with its disk.
 #[derive(Drop)]
 pub struct Recovered<D, A: Allocator + Copy> {
-    pub found: Result<Report<A>, StartFault>,
+    pub found: Result<Report<A>, RecoverFault>,
     pub disk: D,
 }
 
@@ -34,7 +37,7 @@ pub struct Recovered<D, A: Allocator + Copy> {
 /// failed, and a map that each possible crash image of the disk represented, each still represents.
 pub fn recover<D: Disk, A: Allocator + Copy>(alloc: A, disk: D) -> Recovered<D, A>
     ensures found { D.honest → IfOk result.found (IsReported (D.state disk).bytes) }
-    ensures refused { D.honest → IfErr result.found (NotStarted (D.state disk).bytes (D.failures disk) (D.failures result.disk)) }
+    ensures refused { D.honest → IfErr result.found (λ why. NotStarted (D.state disk).bytes (D.failures disk) (D.failures result.disk) (start_of why)) }
     ensures step { DiskStep D.Disk disk result.disk result.found (λ e. e ≡ Start Device) }
     ensures left { D.honest → (limit : ℕ) (map : List Item) → EachRepresents (D.state disk) limit map → EachRepresents (D.state result.disk) limit map }
 {
@@ -42,7 +45,7 @@ pub fn recover<D: Disk, A: Allocator + Copy>(alloc: A, disk: D) -> Recovered<D, 
         Ok(store) => store,
         Err(refused) => {
             return Recovered {
-                found: Err(StartFault::from(refused.cause)),
+                found: Err(opening_fault(&refused)),
                 disk: refused.disk,
             };
         }
@@ -57,7 +60,7 @@ pub fn recover<D: Disk, A: Allocator + Copy>(alloc: A, disk: D) -> Recovered<D, 
             disk: disk_of(exec),
         },
         Err(fault) => Recovered {
-            found: Err(StartFault::from(fault.cause)),
+            found: Err(power_fault(&fault)),
             disk: fault.store.into_disk(),
         },
     }
@@ -83,14 +86,14 @@ fn report_of<D: Disk, A: Allocator + Copy>(
     root: u64,
     limit: u16,
     pages: u128,
-) -> Result<Report<A>, StartFault>
+) -> Result<Report<A>, RecoverFault>
     ensures reports { IfOk result (Reports exec.now.device.flush.contents (first_request exec.now.device.volatile.instrument.status) version root limit pages) }
-    ensures wants { IfErr result (λ e. e ≡ Memory) }
+    ensures wants { IfErr result (λ e. start_of e ≡ Memory) }
 {
     let contents = exec.contents();
     let files = match files_of(alloc, contents.names()) {
         Ok(files) => files,
-        Err(AllocError) => return Err(StartFault::Memory),
+        Err(sign) => return Err(RecoverFault::Memory(sign)),
     };
     Ok(Report {
         version,

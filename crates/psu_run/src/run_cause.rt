@@ -1,10 +1,10 @@
 //! Why a run ends early.
 ghost use Rattle.std.specs.Prelude.{◌≡◌};
-ghost use Rattle.psu_exec.specs.Starts.{start_of_opening, start_of_power_on};
-ghost use Rattle.psu_run.specs.Runs.{cause_of};
+ghost use Rattle.psu_run.specs.Ends.{cause_of};
+ghost use Rattle.psu_run.specs.declared.run_cause.RunCause.TheVariants.{Memory};
 
-use psu_exec::{PowerCause, StartCause, StartFault};
-use psu_items::OpenCause;
+use crate::{OutOfMemory, RecoverFault};
+use psu_exec::StartCause;
 use thiserror::Error;
 
 /// Why a run ends early.
@@ -28,32 +28,24 @@ pub enum RunCause {
     TooLong,
     /// An allocation failed outside of a unit.
     #[error("out of memory")]
-    Memory,
+    Memory(OutOfMemory),
 }
 
-impl From<StartFault> for RunCause {
+impl From<RecoverFault> for RunCause {
     ghost from_gives = { λ fault e. e ≡ cause_of fault };
 
-    fn from(fault: StartFault) -> Self {
+    fn from(fault: RecoverFault) -> Self {
         match fault {
-            StartFault::Start(cause) => RunCause::Open(cause),
-            StartFault::Memory => RunCause::Memory,
+            RecoverFault::Start(cause) => RunCause::Open(cause),
+            RecoverFault::Memory(sign) => RunCause::Memory(sign),
         }
     }
 }
 
-impl From<OpenCause> for RunCause {
-    ghost from_gives = { λ cause e. e ≡ cause_of (start_of_opening cause) };
+impl From<OutOfMemory> for RunCause {
+    ghost from_gives = { λ sign e. e ≡ Memory sign };
 
-    fn from(cause: OpenCause) -> Self {
-        RunCause::from(StartFault::from(cause))
-    }
-}
-
-impl From<PowerCause> for RunCause {
-    ghost from_gives = { λ cause e. e ≡ cause_of (start_of_power_on cause) };
-
-    fn from(cause: PowerCause) -> Self {
-        RunCause::from(StartFault::from(cause))
+    fn from(sign: OutOfMemory) -> Self {
+        RunCause::Memory(sign)
     }
 }

@@ -1,19 +1,19 @@
 //! What a run has in hand.
 ghost use Rattle.std.specs.Prelude.{◌≡◌, ◌⊎◌, ◌↔◌, ◌++◌, [], List, IsTrue};
 ghost use Rattle.psu_messages.specs.ResponseBuffer.{nothing};
-ghost use Rattle.psu_run.specs.Runs.{EndsEarly, FaultOf, OutputState, held};
-ghost use Rattle.psu_exec.specs.Exec.{Exec};
 ghost use Rattle.psu_run.specs.Lines.{Message};
+ghost use Rattle.psu_run.specs.Output.{OutputState, held};
+ghost use Rattle.psu_run.specs.Parts.{EndsEarly, FaultOf};
+ghost use Rattle.psu_exec.specs.Exec.{Exec};
 ghost use Rattle.psu_run.specs.declared.run_fault.RunFault.{RunFault as AnyFault};
 
 use crate::lines::Lines;
 use crate::output::put_both;
 use crate::powered_device::PoweredDevice;
-use crate::{RunCause, RunFault};
+use crate::{RunCause, RunFault, Sink};
 use psu_disk::Disk;
 use psu_messages::ResponseBuffer;
 use std::alloc::Allocator;
-use std::io::Write;
 
 /// The powered-on device, with its output that is not yet written.
 #[derive(Drop)]
@@ -41,15 +41,15 @@ fn is_write(cause: RunCause) -> bool
 
 /// Writes the output before a fault by which the run then ends, unless the writer has failed. Where it fails now, that
 /// is the fault.
-pub(crate) fn write_before<W: Write, D: Disk, A: Allocator + Copy>(
-    fault: RunFault<D>,
+pub(crate) fn write_before<W: Sink, D: Disk, A: Allocator + Copy>(
+    fault: RunFault<D, A>,
     output: &[u8],
     gathered: &ResponseBuffer<A>,
     writer: &mut W,
-) -> RunFault<D>
+) -> RunFault<D, A>
     ensures cause { (result.cause ≡ fault.cause) ⊎ (result.cause ≡ RunCause.Write) }
     ensures ends { (old : Exec D A D.Disk) (due : List Message) (before : OutputState)
-        → EndsEarly old fault due before (held (W.contents writer.old) (output.now ++ gathered.now.rest)) → EndsEarly old result due before (held (W.contents writer.new) []) }
+        → EndsEarly old fault due before (held (W.written writer.old) (output.now ++ gathered.now.rest)) → EndsEarly old result due before (held (W.written writer.new) []) }
 {
     if is_write(fault.cause) {
         return fault;
@@ -89,18 +89,18 @@ impl<D: Disk, A: Allocator + Copy> RunState<D, A> {
     }
 
     /// Ends the run early, for this cause, where all output is written.
-    pub fn fault(self, cause: RunCause) -> RunFault<D>
+    pub fn fault(self, cause: RunCause) -> RunFault<D, A>
         ensures { FaultOf self.responder.powered.exec cause result }
     {
         self.into_device().fault(cause)
     }
 
     /// Ends the run early, for this cause, once the output before it is written.
-    pub fn end_early<W: Write>(self, cause: RunCause, writer: &mut W) -> RunFault<D>
+    pub fn end_early<W: Sink>(self, cause: RunCause, writer: &mut W) -> RunFault<D, A>
         ensures cause { (result.cause ≡ cause) ⊎ (result.cause ≡ RunCause.Write) }
-        ensures ends { (fault : AnyFault D) × FaultOf self.responder.powered.exec cause fault
+        ensures ends { (fault : AnyFault D A D.Disk) × FaultOf self.responder.powered.exec cause fault
             × ((old : Exec D A D.Disk) (due : List Message) (before : OutputState)
-            → EndsEarly old fault due before (held (W.contents writer.old) (self.responder.output.items ++ self.responder.gathered.rest)) → EndsEarly old result due before (held (W.contents writer.new) [])) }
+            → EndsEarly old fault due before (held (W.written writer.old) (self.responder.output.items ++ self.responder.gathered.rest)) → EndsEarly old result due before (held (W.written writer.new) [])) }
     {
         let Responder {
             powered,

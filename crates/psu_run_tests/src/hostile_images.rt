@@ -3,19 +3,19 @@ use crate::holds::holds;
 use crate::images::formatted;
 use crate::runs::run_on;
 use crate::spelled::spoiled;
-use psu_run::{RunCause, StartCause, StartFault, recover};
+use psu_run::{RunCause, StartCause, RecoverFault, recover};
 use psu_tables::row;
 use std::alloc::Global;
 use std::process::Abort;
 
 // Whether a cause is the one with this text.
-fn is_cause(fault: StartFault, wanted: &str) -> bool {
+fn is_cause(fault: RecoverFault, wanted: &str) -> bool {
     match fault {
-        StartFault::Start(StartCause::NoRoot) => wanted == "no root",
-        StartFault::Start(StartCause::BadRoot) => wanted == "bad root",
-        StartFault::Start(StartCause::BadVersion) => wanted == "bad version",
-        StartFault::Start(StartCause::BadItems) => wanted == "bad items",
-        StartFault::Start(StartCause::Device) | StartFault::Memory => false,
+        RecoverFault::Start(StartCause::NoRoot) => wanted == "no root",
+        RecoverFault::Start(StartCause::BadRoot) => wanted == "bad root",
+        RecoverFault::Start(StartCause::BadVersion) => wanted == "bad version",
+        RecoverFault::Start(StartCause::BadItems) => wanted == "bad items",
+        RecoverFault::Start(StartCause::Device) | RecoverFault::Memory(_) => false,
     }
 }
 

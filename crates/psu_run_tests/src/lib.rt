@@ -3,6 +3,8 @@
 #![tactic(auto)]
 
 #[cfg(test)]
+mod counted_calls;
+#[cfg(test)]
 mod failing_disks;
 #[cfg(test)]
 mod faults;
@@ -32,6 +34,8 @@ mod old_images;
 mod power_on_rows;
 #[cfg(test)]
 mod reports;
+#[cfg(test)]
+mod returned;
 #[cfg(test)]
 mod runs;
 #[cfg(test)]

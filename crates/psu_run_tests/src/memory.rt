@@ -170,7 +170,7 @@ impl Row<'_> {
         let end = match cause {
             None if text == self.output.as_slice() => End::Whole,
             None => End::Partly,
-            Some(RunCause::Memory) => End::Refused,
+            Some(RunCause::Memory(_)) => End::Refused,
             Some(_) => return None,
         };
         if self.allows(text, held, cause.is_none()) {

@@ -7,7 +7,7 @@ use psu_call_steps::{image, play, powered_on};
 use psu_disk::MemDisk;
 use psu_exec::Ended;
 use psu_items::IMAGE_SIZE;
-use psu_run::{StartCause, StartFault, recover};
+use psu_run::{StartCause, RecoverFault, recover};
 use std::alloc::Global;
 use std::process::Abort;
 
@@ -148,7 +148,7 @@ const OF_A_FRESH_IMAGE: &str =
 // Whether a disk of this many bytes 00 is not an image.
 fn is_none(alloc: Global, size: u64) -> Option<bool> {
     let disk = MemDisk::new(alloc, size).ok()?;
-    Some(recover(alloc, disk).found.err()? == StartFault::Start(StartCause::NoRoot))
+    Some(recover(alloc, disk).found.err()? == RecoverFault::Start(StartCause::NoRoot))
 }
 
 #[test]

@@ -1,8 +1,8 @@
 //! A run, and its result.
 use psu_disk::Disk;
-use psu_run::{RunCause, RunFault, RunStart, StartCause, run};
+use psu_run::{RunCause, RunFault, RunStart, Sink, Source, StartCause, run};
 use std::alloc::{Allocator, Global};
-use std::io::{Read, Write};
+use std::io::Read;
 
 /// The cause of a run whose disk fails when it is opened.
 pub(crate) const NOT_OPENED: RunCause = RunCause::Open(StartCause::Device);
@@ -17,12 +17,12 @@ pub(crate) struct Ran<D: Disk> {
 }
 
 /// Runs; all rows run through this function, so its contract is read in one proof only.
-pub(crate) fn run_between<R: Read, W: Write, D: Disk, A: Allocator + Copy>(
+pub(crate) fn run_between<R: Source, W: Sink, D: Disk, A: Allocator + Copy>(
     memory: A,
     reader: &mut R,
     writer: &mut W,
     disk: D,
-) -> Result<D, RunFault<D>> {
+) -> Result<D, RunFault<D, A>> {
     run(memory, reader, writer, RunStart::Image(disk))
 }
 
@@ -42,7 +42,7 @@ pub(crate) fn run_from<R: Read, D: Disk, A: Allocator + Copy>(
     let mut text = Vec::new(alloc);
     let (cause, is_worn, disk) = match run_between(memory, reader, &mut text, disk) {
         Ok(disk) => (None, false, disk),
-        Err(fault) => (Some(fault.cause), fault.is_worn, fault.disk),
+        Err(fault) => (Some(fault.cause), fault.is_worn(), fault.into_disk()),
     };
     Ran {
         text,

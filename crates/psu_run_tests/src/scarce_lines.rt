@@ -131,7 +131,7 @@ impl Case<'_> {
         match cause {
             None if is_written(cell(self.rows, "- "), text, true) => Some(End::Whole),
             None if self.allows(text, true) => Some(End::Partly),
-            Some(RunCause::Memory)
+            Some(RunCause::Memory(_))
                 if self.allows(text, false) && text.starts_with(self.answered_before.as_slice()) =>
                 { Some(End::Refused) }
             _ => None,

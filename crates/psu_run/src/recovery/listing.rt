@@ -2,11 +2,11 @@
 ghost use Rattle.std.specs.Prelude.{◌≡◌, IfOk, map};
 ghost use Rattle.psu_run.specs.Recover.{entry, of_value, reported};
 
-use crate::ReportedFile;
+use crate::memory::{copy_of, push};
+use crate::{OutOfMemory, ReportedFile};
 use psu_items::Pair;
-use psu_lex::Bytes;
 use psu_nv::FileKind;
-use std::alloc::{AllocError, Allocator};
+use std::alloc::Allocator;
 
 // The type of a file, and the number of its bytes.
 fn of_value(value: &[u8]) -> (FileKind, usize)
@@ -19,12 +19,12 @@ fn of_value(value: &[u8]) -> (FileKind, usize)
 }
 
 // A file as it is reported.
-fn file_of<A: Allocator + Copy>(alloc: A, file: &Pair<A>) -> Result<ReportedFile<A>, AllocError>
+fn file_of<A: Allocator + Copy>(alloc: A, file: &Pair<A>) -> Result<ReportedFile<A>, OutOfMemory>
     ensures { IfOk result (λ f. reported f ≡ entry file.now) }
 {
     let (kind, size) = of_value(file.value());
     Ok(ReportedFile {
-        name: Bytes::of(alloc, file.key())?,
+        name: copy_of(alloc, file.key())?,
         kind,
         size,
     })
@@ -34,12 +34,12 @@ fn file_of<A: Allocator + Copy>(alloc: A, file: &Pair<A>) -> Result<ReportedFile
 pub(crate) fn files_of<A: Allocator + Copy>(
     alloc: A,
     kept: &[Pair<A>],
-) -> Result<Vec<ReportedFile<A>, A>, AllocError>
+) -> Result<Vec<ReportedFile<A>, A>, OutOfMemory>
     ensures { IfOk result (λ files. map reported files.items ≡ map entry kept.now) }
 {
     let mut files = Vec::new(alloc);
     for file in kept {
-        files.push(file_of(alloc, file)?)?;
+        push(&mut files, file_of(alloc, file)?)?;
     }
     Ok(files)
 }

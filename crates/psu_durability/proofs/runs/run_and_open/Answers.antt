@@ -9,14 +9,14 @@ returns-clause-whole g c =
     let read = c.open.ensures.represented tt in
     IfOk-weaker c.run-ended.result _ _ (λ to ran. record {
       written = ran.0;
-      moment = finds_of_run _ c.open.result read _ _ ran.0.run.last ((ran.1 (tt, tt)).each);
-      ended = finds_all _ c.open.result read _ ran.0.run.last.world.limit (items_of ran.0.run.last.world.state.flush.contents) (ran.0.all refl);
-    }) (c.run-ended.ensures.whole tt)
+      moment = finds_of_run _ c.open.result read _ _ ran.0.run.last ((ran.1 tt (tt, tt)).each);
+      ended = finds_all _ c.open.result read _ ran.0.run.last.world.limit (items_of ran.0.run.last.world.state.flush.contents) (ran.0.all tt refl);
+    }) c.run-ended.ensures.whole
 
 pub returns-clause-early : goal.returns-clause-early
 returns-clause-early g c =
     let read = c.open.ensures.represented tt in
     IfErr-weaker c.run-ended.result _ _ (λ fault early. ⊎_elim
-    (λ none. inl (finds_old _ c.open.result read _ _ ((none.1 (tt, tt)).each)))
-    (λ ran. inr (record { written = ran.0; moment = finds_of_run _ c.open.result read _ _ ran.0.run.last ((ran.1 (tt, tt)).each) })) early)
-    (c.run-ended.ensures.early tt)
+    (λ none. inl (finds_old _ c.open.result read _ _ ((none.1 tt (tt, tt)).each)))
+    (λ ran. inr (record { written = ran.0; moment = finds_of_run _ c.open.result read _ _ ran.0.run.last ((ran.1 tt (tt, tt)).each) })) early)
+    c.run-ended.ensures.early

@@ -1,7 +1,7 @@
 use Rattle.psu_run.proofs.Common.{◌≡◌, ◌≤◌, ◌∙◌, ◌+◌, ◌++◌, [], take, inl, inr, refl, sym, arith, Read, TooLong, held, passed}
 use Rattle.psu_run.proofs.Feeding.{fed_none, fed_then}
 use Rattle.psu_run.proofs.Reading.{cut_after, cut_front, end_stop, read_all, read_end, read_front, taken_more}
-use Rattle.psu_run.proofs.Input.{further_more, further_none, read_failed, read_more, read_none, read_start}
+use Rattle.psu_run.proofs.Input.{further_more, further_none, read_failed, read_more, read_none, read_start, reads_passed}
 use Rattle.psu_run.proofs.engine.execute_pieces.Goals as goal
 
 pub reading-init : goal.reading-init
@@ -9,7 +9,7 @@ reading-init g c = record {
   seen = [];
   has = read_start _ (g.R.Source.remaining c.args.reader.now) (g.R.Source.reads c.args.reader.now) c.new-intake.ensures.reads;
   taken = sym c.new-intake.ensures.bytes;
-  fed = rw c.requires.line (fed_none [] c.args.run.responder.powered.exec (held (g.W.Write.contents c.args.writer.now) []));
+  fed = rw c.requires.line (fed_none [] c.args.run.responder.powered.exec (held (g.W.Sink.written c.args.writer.now) []));
   none = c.requires.none;
   fresh = c.requires.fresh;
 }
@@ -40,7 +40,7 @@ returns-then-taken-count-clause-early g c =
 
 pub returns-then-taken-count-clause-long : goal.returns-then-taken-count-clause-long
 returns-then-taken-count-clause-long g c = λ e.
-    let has = read_more c.in-Ok.count c.read_into.new.piece c.reading.invariant.has c.in-Ok.ensures.bytes.0 c.in-Ok.ensures.counted.1 c.if-count-eq0.false c.in-Ok.ensures.bound.0 c.count_read.ensures.reads in
+    let has = read_more c.in-Ok.count c.read_into.new.piece c.reading.invariant.has c.in-Ok.ensures.bytes.0 (rw (c.reading.auto.piece, c.requires.room) at c.in-Ok.ensures.counted.1) c.if-count-eq0.false c.in-Ok.ensures.bound.0 c.count_read.ensures.reads in
     let all = taken_more c.reading.invariant.seen c.read_into.new.piece c.in-Ok.count _ _ _ c.reading.invariant.taken c.in-Ok.ensures.bound.0 c.count_read.ensures.bytes refl in
     (_, _, has, inl (omega (arith, all, c.room.ensures, c.min-taken.ensures, c.if-taken-count.true, c.count_read.ensures.bytes)))
 
@@ -48,9 +48,9 @@ pub reading-preserved : goal.reading-preserved
 reading-preserved g c =
     let whole : c.min-taken.result ≡ c.in-Ok.count = omega (arith, c.min-taken.ensures, c.if-taken-count.false) in record {
       seen = c.reading.invariant.seen ++ take c.in-Ok.count c.read_into.new.piece;
-      has = read_more c.in-Ok.count c.read_into.new.piece c.reading.invariant.has c.in-Ok.ensures.bytes.0 c.in-Ok.ensures.counted.1 c.if-count-eq0.false c.in-Ok.ensures.bound.0 (c.count_bytes.ensures.reads ∙ c.count_read.ensures.reads);
+      has = read_more c.in-Ok.count c.read_into.new.piece c.reading.invariant.has c.in-Ok.ensures.bytes.0 (rw (c.reading.auto.piece, c.requires.room) at c.in-Ok.ensures.counted.1) c.if-count-eq0.false c.in-Ok.ensures.bound.0 (c.count_bytes.ensures.reads ∙ c.count_read.ensures.reads);
       taken = taken_more c.reading.invariant.seen c.read_into.new.piece c.in-Ok.count _ _ _ c.reading.invariant.taken c.in-Ok.ensures.bound.0 c.count_read.ensures.bytes c.count_bytes.ensures.bytes;
-      fed = fed_then [] c.reading.run.lines.line.items c.in_ok-run.run'.lines.line.items c.reading.invariant.seen (take c.in-Ok.count c.read_into.new.piece) (held (g.W.Write.contents c.args.writer.now) []) _ _ c.reading.invariant.fed (rw whole at c.in_ok-run.ensures.fed);
+      fed = fed_then [] c.reading.run.lines.line.items c.in_ok-run.run'.lines.line.items c.reading.invariant.seen (take c.in-Ok.count c.read_into.new.piece) (held (g.W.Sink.written c.args.writer.now) []) _ _ c.reading.invariant.fed (rw whole at c.in_ok-run.ensures.fed);
       none = c.in_ok-run.ensures.none;
       fresh = c.in_ok-run.ensures.fresh;
     }
@@ -74,7 +74,7 @@ pub returns-then-count-eq0-clause-ends : goal.returns-then-count-eq0-clause-ends
 returns-then-count-eq0-clause-ends g c = (
   _,
   _,
-  read_none c.reading.invariant.has (rw c.if-count-eq0.true at c.in-Ok.ensures.bytes.0) (c.in-Ok.ensures.counted.0 c.if-count-eq0.true),
+  read_none c.reading.invariant.has (rw c.if-count-eq0.true at c.in-Ok.ensures.bytes.0) (rw (c.reading.auto.piece, c.requires.room) at (c.in-Ok.ensures.counted.0 c.if-count-eq0.true)),
   omega (arith, c.count_read.new.self.few, c.count_read.ensures.reads),
   omega (arith, c.reading.invariant.taken, c.reading.intake.short),
   c.in-Ok.ensures.bytes.1 c.if-count-eq0.true (omega (arith, c.requires.room, c.reading.auto.piece, c.read_into.auto.piece)),
@@ -82,28 +82,39 @@ returns-then-count-eq0-clause-ends g c = (
 
 pub returns-in_default-clause-reads : goal.returns-in_default-clause-reads
 returns-in_default-clause-reads g c =
-    further_none _ _ _ (read_failed c.reading.invariant.has c.in_default.ensures.bytes c.in_default.ensures.counted)
-    c.count_read.ensures.reads c.count_read.new.self.few c.reading.invariant.taken c.reading.intake.short
+    rw c.fault.ensures.cause_is (further_none 1 _ _ (read_failed c.reading.invariant.has c.in_default.ensures.bytes (rw (c.reading.auto.piece, c.requires.room) at c.in_default.ensures.counted))
+    c.count_read.ensures.reads c.count_read.new.self.few c.reading.invariant.taken c.reading.intake.short)
+
+pub returns-in_default-clause-fault : goal.returns-in_default-clause-fault
+returns-in_default-clause-fault g c = λ e. (
+  _,
+  _,
+  read_failed c.reading.invariant.has c.in_default.ensures.bytes (rw (c.reading.auto.piece, c.requires.room) at c.in_default.ensures.counted),
+  omega (arith, c.count_read.new.self.few, c.count_read.ensures.reads),
+  omega (arith, c.reading.invariant.taken, c.reading.intake.short),
+)
 
 pub returns-then-count-eq0-clause-reads : goal.returns-then-count-eq0-clause-reads
-returns-then-count-eq0-clause-reads g c =
-    further_none _ _ _ (read_none c.reading.invariant.has (rw c.if-count-eq0.true at c.in-Ok.ensures.bytes.0) (c.in-Ok.ensures.counted.0 c.if-count-eq0.true))
+returns-then-count-eq0-clause-reads g c = further_none 0 _ _ (read_none c.reading.invariant.has (rw c.if-count-eq0.true at c.in-Ok.ensures.bytes.0) (rw (c.reading.auto.piece, c.requires.room) at (c.in-Ok.ensures.counted.0 c.if-count-eq0.true)))
     c.count_read.ensures.reads c.count_read.new.self.few c.reading.invariant.taken c.reading.intake.short
 
 pub returns-in_err-disk-clause-reads : goal.returns-in_err-disk-clause-reads
-returns-in_err-disk-clause-reads g c =
-    further_none _ _ _ (read_none c.reading.invariant.has (rw c.if-count-eq0.true at c.in-Ok.ensures.bytes.0) (c.in-Ok.ensures.counted.0 c.if-count-eq0.true))
-    c.count_read.ensures.reads c.count_read.new.self.few c.reading.invariant.taken c.reading.intake.short
+returns-in_err-disk-clause-reads g c = reads_passed c.from_residual.result c.in_err-disk.field-0.0 _ _ _ _ c.from_residual.ensures.1 c.in_err-disk.ensures.input.0 (further_none 0 _ _ (read_none c.reading.invariant.has (rw c.if-count-eq0.true at c.in-Ok.ensures.bytes.0) (rw (c.reading.auto.piece, c.requires.room) at (c.in-Ok.ensures.counted.0 c.if-count-eq0.true)))
+    c.count_read.ensures.reads c.count_read.new.self.few c.reading.invariant.taken c.reading.intake.short)
+
+pub returns-in_err-disk-clause-fault : goal.returns-in_err-disk-clause-fault
+returns-in_err-disk-clause-fault g c = passed c.from_residual.result c.in_err-disk.field-0.0 _ c.from_residual.ensures.1 (λ e. absurd (c.in_err-disk.ensures.input.0 e))
 
 pub returns-in_err-run-clause-reads : goal.returns-in_err-run-clause-reads
-returns-in_err-run-clause-reads g c =
-    further_more _ c.in-Ok.count _ _ c.reading.invariant.seen c.read_into.new.piece c.reading.invariant.has c.in-Ok.ensures.bytes.0 c.in-Ok.ensures.counted.1 c.if-count-eq0.false
-    c.in-Ok.ensures.bound.0 c.count_read.ensures.reads c.count_read.new.self.few c.reading.invariant.taken c.reading.intake.short (c.read_into.auto.piece ∙ c.reading.auto.piece)
+returns-in_err-run-clause-reads g c = reads_passed c.from_residual-in_err-run.result c.in_err-run.field-0.0 _ _ _ _ c.from_residual-in_err-run.ensures.1 c.in_err-run.ensures.input.0 (further_more c.in-Ok.count _ _ c.reading.invariant.seen c.read_into.new.piece c.reading.invariant.has c.in-Ok.ensures.bytes.0 (rw (c.reading.auto.piece, c.requires.room) at c.in-Ok.ensures.counted.1) c.if-count-eq0.false
+    c.in-Ok.ensures.bound.0 c.count_read.ensures.reads c.count_read.new.self.few c.reading.invariant.taken c.reading.intake.short (c.read_into.auto.piece ∙ c.reading.auto.piece ∙ c.requires.room))
+
+pub returns-in_err-run-clause-fault : goal.returns-in_err-run-clause-fault
+returns-in_err-run-clause-fault g c = passed c.from_residual-in_err-run.result c.in_err-run.field-0.0 _ c.from_residual-in_err-run.ensures.1 (λ e. absurd (c.in_err-run.ensures.input.0 e))
 
 pub returns-then-taken-count-clause-reads : goal.returns-then-taken-count-clause-reads
-returns-then-taken-count-clause-reads g c =
-    further_more _ c.in-Ok.count _ _ c.reading.invariant.seen c.read_into.new.piece c.reading.invariant.has c.in-Ok.ensures.bytes.0 c.in-Ok.ensures.counted.1 c.if-count-eq0.false
-    c.in-Ok.ensures.bound.0 c.count_read.ensures.reads c.count_read.new.self.few c.reading.invariant.taken c.reading.intake.short (c.read_into.auto.piece ∙ c.reading.auto.piece)
+returns-then-taken-count-clause-reads g c = rw c.fault-then-taken-count.ensures.cause_is (further_more c.in-Ok.count _ _ c.reading.invariant.seen c.read_into.new.piece c.reading.invariant.has c.in-Ok.ensures.bytes.0 (rw (c.reading.auto.piece, c.requires.room) at c.in-Ok.ensures.counted.1) c.if-count-eq0.false
+    c.in-Ok.ensures.bound.0 c.count_read.ensures.reads c.count_read.new.self.few c.reading.invariant.taken c.reading.intake.short (c.read_into.auto.piece ∙ c.reading.auto.piece ∙ c.requires.room))
 
 pub returns-clause-reads : goal.returns-clause-reads
-returns-clause-reads g c = (_, _, _, c.reading.invariant.has, c.reading.intake.few, omega (arith, c.reading.invariant.taken, c.reading.intake.short))
+returns-clause-reads g c = rw c.fault-2.ensures.cause_is (_, _, _, c.reading.invariant.has, c.reading.intake.few, omega (arith, c.reading.invariant.taken, c.reading.intake.short))

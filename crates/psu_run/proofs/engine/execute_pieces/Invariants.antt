@@ -6,9 +6,9 @@ use Rattle.psu_run.proofs.engine.execute_pieces.Given as goal
 abbrev pub invariant-reading : goal.invariant-reading
 invariant-reading g l = record {
   seen : List ℕ;
-  has : HasRead l.intake.reads l.intake.reads seen (g.R.Source.remaining l.initial.reader) (g.R.Source.remaining l.reader) (g.R.Source.reads l.initial.reader) (g.R.Source.reads l.reader);
+  has : HasRead l.intake.reads l.intake.reads 0 seen (g.R.Source.remaining l.initial.reader) (g.R.Source.remaining l.reader) (g.R.Source.reads l.initial.reader) (g.R.Source.reads l.reader);
   taken : length seen ≡ l.intake.bytes;
-  fed : Fed [] seen l.run.lines.line.items l.initial.run.responder.powered.exec l.run.responder.powered.exec (held (g.W.Write.contents l.initial.writer) []) (held (g.W.Write.contents l.writer) []);
+  fed : Fed [] seen l.run.lines.line.items l.initial.run.responder.powered.exec l.run.responder.powered.exec (held (g.W.Sink.written l.initial.writer) []) (held (g.W.Sink.written l.writer) []);
   none : l.run.responder.output.items ≡ [];
   fresh : l.run.responder.gathered ≡ nothing;
 }

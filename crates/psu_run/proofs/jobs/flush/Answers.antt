@@ -6,17 +6,17 @@ use Rattle.psu_run.proofs.jobs.flush.Goals as goal
 
 pub loop-init : goal.loop-init
 loop-init g c =
-    let jobs = steps_none c.args.exec.now (λ t. t) (IsFlushAfter 4) (λ p. (NoCall refl, λ r jobs. jobs)) in let idle = c.requires.idle in search rules
+    let jobs = steps_none c.args.exec.now (λ t. t) (IsFlushAfter g.D.Disk.honest 4) (λ p. (NoCall refl, λ r jobs. jobs)) in let idle = c.requires.idle in search rules
 
 pub returns-in_err-run_next-clause-stops : goal.returns-in_err-run_next-clause-stops
 returns-in_err-run_next-clause-stops g c =
     passed c.from_residual.result c.in_err-run_next.field-0.0 _ c.from_residual.ensures.1
-    (device_stops_then _ c.loop.invariant.jobs c.in_err-run_next.ensures.stops (λ p m q a b. begins_behind [] a.0 b))
+    (device_stops_then _ c.loop.invariant.jobs c.in_err-run_next.ensures.stops (λ p m q a b. (begins_behind [] a.0 b.0, b.1)))
 
 pub returns-in-Nothing-clause-flushes : goal.returns-in-Nothing-clause-flushes
 returns-in-Nothing-clause-flushes g c =
     let some : 4 - c.loop.counter ≡ suc (4 - (c.loop.counter + 1)) = omega (arith, c.loop-test.true) in
-    steps_then IsFlush c.loop.invariant.jobs (c.in_ok-run_next.ensures.take c.in-Nothing.is) (λ p m q a none. a.1 q (subst (λ (n : ℕ). Jobs n m q) (sym some) (inl none)))
+    steps_then (IsFlush g.D.Disk.honest) c.loop.invariant.jobs (c.in_ok-run_next.ensures.take c.in-Nothing.is) (λ p m q a none. a.1 q (subst (λ (n : ℕ). Jobs g.D.Disk.honest n m q) (sym some) (inl none)))
 
 pub loop-preserved : goal.loop-preserved
 loop-preserved g c =
@@ -33,7 +33,7 @@ loop-preserved g c =
 pub returns-clause-flushes : goal.returns-clause-flushes
 returns-clause-flushes g c =
     let none : 4 - c.loop.counter ≡ 0 = omega (arith, c.loop-test.false) in
-    steps_as IsFlush c.loop.invariant.jobs (λ p q a. a.1 q (subst (λ (n : ℕ). Jobs n q q) (sym none) refl))
+    steps_as (IsFlush g.D.Disk.honest) c.loop.invariant.jobs (λ p q a. a.1 q (subst (λ (n : ℕ). Jobs g.D.Disk.honest n q q) (sym none) refl))
 
 pub returns-clause-clean : goal.returns-clause-clean
 returns-clause-clean g c = λ before t. let flushed = c.loop.invariant.flushed before t in let all = c.loop-test.false in grind arith

@@ -10,6 +10,6 @@ invariant-loop g l = record {
   free : wait_of l.initial.exec.device.flush 1 ≡ None → wait_of l.exec.device.flush 1 ≡ None;
   worn : IsWornAtLast l.initial.exec → IsWornAtLast l.exec;
   count : l.counter ≤ 4;
-  jobs : Leads l.initial.exec l.exec (IsFlushAfter (4 - l.counter));
+  jobs : Leads l.initial.exec l.exec (IsFlushAfter g.D.Disk.honest (4 - l.counter));
   flushed : (before : ℕ) → IsTied before l.initial.exec → IsFlushed before (failures_of l.exec) l.counter l.exec.device.flush;
 }

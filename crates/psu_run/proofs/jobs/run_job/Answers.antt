@@ -8,7 +8,8 @@ returns-clause-run g c =
       finished_of end,
       c.in-Ok.field-0,
       serves_gave_back c.args.exec.now.device c.give_back.new.self.device (finished_of end) (Some c.in-Ok.field-0) c.in-Ok.ensures.step,
-      rw (← c.end.ensures) c.is_short-short.ensures,
+      rw (← c.end.ensures) c.refused_in-refused.ensures.some,
+      rw (← c.end.ensures) c.refused_in-refused.ensures.none,
       grind arith,
       λ h disk is.
           let same = same_Some (finished_disk end) disk (sym now ∙ is) in

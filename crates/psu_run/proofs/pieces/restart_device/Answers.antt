@@ -1,4 +1,4 @@
-use Rattle.psu_run.proofs.Common.{◌∙◌, [], arith, sym, passed}
+use Rattle.psu_run.proofs.Common.{fault_disk, ◌∙◌, [], arith, sym, passed}
 use Rattle.psu_run.proofs.Cuts.{until_none}
 use Rattle.psu_run.proofs.Stopping.{EndedWhole, halted_fails, power_fails, power_runs, power_stops, reopen_stops, restarts}
 use Rattle.psu_run.proofs.pieces.restart_device.Goals as goal
@@ -16,7 +16,7 @@ returns-in_err-powered-clause-stops g c =
       (
         [],
         until_none _ output (λ e. grind arith),
-        power_stops c.reopen.new.exec disk ends fault rest c.in-Ok.ensures.reopens c.contents.ensures.consistent on.refused on.later on.extent on.left (λ h. g.met.D.Disk.sized h fault.disk ∙ on.extent ∙ sym (g.met.D.Disk.sized h disk)) on.time_refused,
+        power_stops c.reopen.new.exec disk ends fault rest c.in-Ok.ensures.reopens c.contents.ensures.consistent on.refused on.memory on.later on.extent on.left (λ h. g.met.D.Disk.sized h (fault_disk fault) ∙ on.extent ∙ sym (g.met.D.Disk.sized h disk)) on.time_refused,
       ),
       λ before t. power_fails c.reopen.new.exec disk ends fault c.in-Ok.ensures.reopens on.failed before t,
     ))

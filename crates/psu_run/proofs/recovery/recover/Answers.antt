@@ -1,7 +1,6 @@
 use Rattle.std.proofs.lemmas.Result.{IfOk-weaker}
-use Rattle.psu_run.proofs.Common.{arith, refl, ◌≡◌, ◌∙◌, ℕ, List, IfErr, Result, Contents, HasReadableRoot, NotStarted, items_of, represents_readable}
+use Rattle.psu_run.proofs.Common.{arith, refl, ◌≡◌, ◌∙◌, ℕ, List, IfErr, Result, Contents, HasReadableRoot, NotStarted, RecoverFault, start_of, items_of, represents_readable}
 use Rattle.psu_exec.specs.declared.idle_store.IdleStore.TheVariants as idle_store
-use Rattle.psu_exec.specs.declared.start_cause.StartFault.{StartFault}
 use Rattle.psu_exec.specs.declared.start_cause.StartFault.TheVariants.{Memory}
 use Rattle.psu_status.specs.Status.{first_request}
 use Rattle.psu_run.specs.Recover.{Reports}
@@ -36,7 +35,7 @@ returns-in-Err-power_on-clause-refused g c = λ h.
     let rooted = represents_readable (g.D.Disk.state c.args.disk).bytes c.in-Ok.store.limit c.in-Ok.store.items stands in grind arith
 
 -- a report for which memory is refused
-no_memory : {A : Type 0} (r : Result A StartFault) (image : List ℕ) (before now : ℕ) → IfErr r (λ e. e ≡ Memory) → now ≡ before → HasReadableRoot image → IfErr r (NotStarted image before now)
+no_memory : {A : Type 0} (r : Result A RecoverFault) (image : List ℕ) (before now : ℕ) → IfErr r (λ e. start_of e ≡ Memory) → now ≡ before → HasReadableRoot image → IfErr r (λ e. NotStarted image before now (start_of e))
 no_memory x0 image before now is same rooted = grind arith
 
 pub returns-in-Ok-power_on-clause-refused : goal.returns-in-Ok-power_on-clause-refused

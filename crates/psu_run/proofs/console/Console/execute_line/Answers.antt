@@ -8,7 +8,7 @@ use Rattle.psu_run.proofs.console.Console.execute_line.Goals as goal
 pub returns-clause-breaks : goal.returns-clause-breaks
 returns-clause-breaks g c =
     let before = c.args.self.now.responder.now in
-    let s = broken (λ x. x.responder.now.powered.exec) (λ x. held (g.W.Write.contents x.writer.now) x.responder.now.output.items) _ (source_of c.args.line.now)
+    let s = broken (λ x. x.responder.now.powered.exec) (λ x. held (g.W.Sink.written x.writer.now) x.responder.now.output.items) _ (source_of c.args.line.now)
     (λ x y effect d. d.2) (λ x y request cause f. (f.2, f.3, f.4)) (λ x y cause s. (s.2, s.3, s.4)) _ c.proceed-done.new.executor c.in-Err.cause c.proceed-done.new.progress.gathered _ c.new-progress.ensures c.in-Err.ensures.stops in
     rw (told_alone before.output.items before.gathered c.requires.fresh) (s.0, s.2, s.1)
 
@@ -22,7 +22,7 @@ pub returns-in-None-clause-runs : goal.returns-in-None-clause-runs
 returns-in-None-clause-runs g c =
     let before = c.args.self.now.responder.now in
     rw (told_alone before.output.items before.gathered c.requires.fresh, told_alone c.proceed-done.new.executor.responder.now.output.items c.restart.new.self c.restart.ensures)
-    (whole (λ x. x.responder.now.powered.exec) (λ x. held (g.W.Write.contents x.writer.now) x.responder.now.output.items) _ (λ x y effect d. d.2)
+    (whole (λ x. x.responder.now.powered.exec) (λ x. held (g.W.Sink.written x.writer.now) x.responder.now.output.items) _ (λ x y effect d. d.2)
     (source_of c.args.line.now) _ c.proceed-done.new.executor _ (progress_of c.proceed-done.new.progress) c.new-progress.ensures c.in-Ok.ensures.goes (c.in-Ok.ensures.over c.in-None.is))
 
 pub returns-in-None-clause-responder : goal.returns-in-None-clause-responder

@@ -17,5 +17,5 @@ returns-in_default-clause-stopped g c =
 pub returns-clause-fed : goal.returns-clause-fed
 returns-clause-fed g c =
     let before = c.args.self in let run = c.in_ok-run.run' in let e = c.in_ok-run.ensures in
-    fed_written c.args.self.lines.line.items c.args.piece.now run.lines.line.items (held (g.W.Write.contents c.args.writer.now) []) (held (g.W.Write.contents c.execute_lines.new.writer) (run.responder.output.items ++ run.responder.gathered.rest)) _
+    fed_written c.args.self.lines.line.items c.args.piece.now run.lines.line.items (held (g.W.Sink.written c.args.writer.now) []) (held (g.W.Sink.written c.execute_lines.new.writer) (run.responder.output.items ++ run.responder.gathered.rest)) _
     (rw (none_told before.responder.output.items before.responder.gathered c.requires.none c.requires.fresh) at e.fed) (rw (told_alone run.responder.output.items run.responder.gathered e.fresh, ← c.as_slice.ensures.value) c.in-Ok.ensures.whole)

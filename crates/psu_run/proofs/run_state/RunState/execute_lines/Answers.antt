@@ -9,7 +9,7 @@ pub loop-at-init : goal.loop-at-init
 loop-at-init g c = record {
   within = omega arith;
   fresh = c.requires;
-  fed = ([], refl, fed_none c.args.self.lines.line.items c.args.self.responder.powered.exec (held (g.W.Write.contents c.args.writer.now) (c.args.self.responder.output.items ++ c.args.self.responder.gathered.rest)));
+  fed = ([], refl, fed_none c.args.self.lines.line.items c.args.self.responder.powered.exec (held (g.W.Sink.written c.args.writer.now) (c.args.self.responder.output.items ++ c.args.self.responder.gathered.rest)));
 }
 
 pub ended-requires : goal.ended-requires
@@ -18,15 +18,15 @@ ended-requires g c = free_before 10 c.loop-at.rest.now c.in-Some.at c.in-Some.en
 pub extend-requires : goal.extend-requires
 extend-requires g c = free_all 10 c.loop-at.rest.now c.in_default.ensures
 
-pub returns-in_default-ended-clause-stopped : goal.returns-in_default-ended-clause-stopped
-returns-in_default-ended-clause-stopped g c = λ input.
+pub returns-in-Err-clause-stopped : goal.returns-in-Err-clause-stopped
+returns-in-Err-clause-stopped g c = λ input.
     let e = c.end_early.ensures.ends in let run = c.loop-at.run in
-    e.2 _ _ _ (feed_refused c.args.self.lines.line.items run.lines.line.items c.args.piece.now c.loop-at.rest.now e.0 _ _ c.loop-at.invariant.fed e.1 input)
+    e.2 _ _ _ (feed_refused c.args.self.lines.line.items run.lines.line.items c.args.piece.now c.loop-at.rest.now c.in-Err.sign e.0 _ _ c.loop-at.invariant.fed e.1 input)
 
-pub returns-in_default-extend-clause-stopped : goal.returns-in_default-extend-clause-stopped
-returns-in_default-extend-clause-stopped g c = λ input.
-    let e = c.end_early-in_default-extend.ensures.ends in let run = c.loop-at.run in
-    e.2 _ _ _ (feed_refused c.args.self.lines.line.items run.lines.line.items c.args.piece.now c.loop-at.rest.now e.0 _ _ c.loop-at.invariant.fed e.1 input)
+pub returns-in-Err-extend-clause-stopped : goal.returns-in-Err-extend-clause-stopped
+returns-in-Err-extend-clause-stopped g c = λ input.
+    let e = c.end_early-in-Err-extend.ensures.ends in let run = c.loop-at.run in
+    e.2 _ _ _ (feed_refused c.args.self.lines.line.items run.lines.line.items c.args.piece.now c.loop-at.rest.now c.in-Err-extend.sign e.0 _ _ c.loop-at.invariant.fed e.1 input)
 
 pub returns-in_err-run-clause-stopped : goal.returns-in_err-run-clause-stopped
 returns-in_err-run-clause-stopped g c =
@@ -34,25 +34,25 @@ returns-in_err-run-clause-stopped g c =
     passed c.from_residual.result fault _ c.from_residual.ensures.1
     (feed_stops c.args.self.lines.line.items run.lines.line.items c.args.piece.now c.loop-at.rest.now fault _ _ _ c.loop-at.invariant.fed
     (line_stops run.lines.line.items c.loop-at.rest.now c.in-Some.at line fault _ _ c.in-Some.ensures c.in-Ok.ensures.line c.in-Ok.ensures.free
-    (λ later. subst (λ (m : Message). EndsEarly run.responder.powered.exec fault (m ∷ later) (held (g.W.Write.contents c.loop-at.writer) (run.responder.output.items ++ run.responder.gathered.rest)) (held (g.W.Write.contents c.restart.new.writer) []))
+    (λ later. subst (λ (m : Message). EndsEarly run.responder.powered.exec fault (m ∷ later) (held (g.W.Sink.written c.loop-at.writer) (run.responder.output.items ++ run.responder.gathered.rest)) (held (g.W.Sink.written c.restart.new.writer) []))
     (sym (power_message line (sym c.is_power.ensures ∙ c.if-is_power.true))) (e.ensures.stops later))))
 
-pub returns-in-Err-clause-stopped : goal.returns-in-Err-clause-stopped
-returns-in-Err-clause-stopped g c = λ input.
-    let e = c.end_early-in-Err.ensures.ends in let fault = e.0 in let run = c.loop-at.run in let after = c.answer_line.new.self in let line = c.in-Ok.line.now in let s = c.in-Err.ensures.breaks in
+pub returns-in-Err-answer_line-clause-stopped : goal.returns-in-Err-answer_line-clause-stopped
+returns-in-Err-answer_line-clause-stopped g c = λ input.
+    let e = c.end_early-in-Err-answer_line.ensures.ends in let fault = e.0 in let run = c.loop-at.run in let after = c.answer_line.new.self in let line = c.in-Ok.line.now in let s = c.in-Err-answer_line.ensures.breaks in
     e.2 _ _ _ (feed_stops c.args.self.lines.line.items run.lines.line.items c.args.piece.now c.loop-at.rest.now fault _ _ _ c.loop-at.invariant.fed
     (line_stops run.lines.line.items c.loop-at.rest.now c.in-Some.at line fault _ _ c.in-Some.ensures c.in-Ok.ensures.line c.in-Ok.ensures.free
-    (λ later. subst (λ (m : Message). EndsEarly run.responder.powered.exec fault (m ∷ later) (held (g.W.Write.contents c.loop-at.writer) (run.responder.output.items ++ run.responder.gathered.rest)) (held (g.W.Write.contents c.answer_line.new.writer) (after.output.items ++ after.gathered.rest)))
+    (λ later. subst (λ (m : Message). EndsEarly run.responder.powered.exec fault (m ∷ later) (held (g.W.Sink.written c.loop-at.writer) (run.responder.output.items ++ run.responder.gathered.rest)) (held (g.W.Sink.written c.answer_line.new.writer) (after.output.items ++ after.gathered.rest)))
     (sym (plain_message line (sym c.is_power.ensures ∙ c.if-is_power.false)))
-    ((s.0, rw e.1.cause_is s.1, halted c.in-Err.cause fault (Message.Line (source_of line) ∷ later) s.0 s.2 e.1 (λ at. at)), λ before t. halted_fails before c.in-Err.cause fault e.1 s.2 t))) input)
+    ((s.0, rw e.1.cause_is s.1, halted c.in-Err-answer_line.cause fault (Message.Line (source_of line) ∷ later) s.0 s.2 e.1 (λ at. at)), λ before t. halted_fails before c.in-Err-answer_line.cause fault e.1 s.2 t))) input)
 
-pub returns-clause-fed : goal.returns-clause-fed
-returns-clause-fed g c = feed_end c.args.self.lines.line.items c.loop-at.run.lines.line.items c.extend.new.self.line.items c.args.piece.now c.loop-at.rest.now _ _ c.loop-at.invariant.fed c.in-Ok-extend.ensures
+pub returns-in-Ok-extend-clause-fed : goal.returns-in-Ok-extend-clause-fed
+returns-in-Ok-extend-clause-fed g c = feed_end c.args.self.lines.line.items c.loop-at.run.lines.line.items c.extend.new.self.line.items c.args.piece.now c.loop-at.rest.now _ _ c.loop-at.invariant.fed c.in-Ok-extend.ensures
 
 pub loop-at-preserved-then-is_power : goal.loop-at-preserved-then-is_power
 loop-at-preserved-then-is_power g c =
     let line = c.in-Ok.line.now in let run = c.loop-at.run in let e = c.in_ok-run.ensures in
-    let t = held (g.W.Write.contents c.loop-at.writer) (run.responder.output.items ++ run.responder.gathered.rest) in
+    let t = held (g.W.Sink.written c.loop-at.writer) (run.responder.output.items ++ run.responder.gathered.rest) in
     let power : Answers (Message.Power ∷ []) run.responder.powered.exec c.in_ok-run.run'.responder.powered.exec t t = ([], says_none t, steps_as _ e.runs (λ p q r. (r, power_text p q r))) in
     rw (e.same.0, e.same.1, e.same.2, e.silent) (record {
       within = grind arith;

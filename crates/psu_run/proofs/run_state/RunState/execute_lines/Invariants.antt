@@ -7,7 +7,7 @@ invariant-loop-at g l = record {
   within : length l.rest ≤ length l.piece;
   fresh : l.run.responder.gathered ≡ nothing;
   fed : FedSo l.initial.run.lines.line.items l.piece l.rest l.run.lines.line.items l.initial.run.responder.powered.exec l.run.responder.powered.exec
-      (held (g.W.Write.contents l.initial.writer) (l.initial.run.responder.output.items ++ l.initial.run.responder.gathered.rest)) (held (g.W.Write.contents l.writer) (l.run.responder.output.items ++ l.run.responder.gathered.rest));
+      (held (g.W.Sink.written l.initial.writer) (l.initial.run.responder.output.items ++ l.initial.run.responder.gathered.rest)) (held (g.W.Sink.written l.writer) (l.run.responder.output.items ++ l.run.responder.gathered.rest));
 }
 
 abbrev pub decreases-loop-at : goal.decreases-loop-at
