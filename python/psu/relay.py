@@ -8,10 +8,12 @@ from __future__ import annotations
 
 import argparse
 import asyncio
+import atexit
+import logging
 import random
 import sys
 import time
-from typing import BinaryIO, Iterable, List, Optional, TextIO
+from typing import BinaryIO, Iterable, List, Optional, TextIO, Union
 
 from .listening import (
     SERVER_ADDRESS,
@@ -26,7 +28,7 @@ from .listening import (
     run_until_signal,
 )
 from .relay_connection import Connection
-from .relay_log import Entry, Event, LogWriter, json_event, json_line, text_event, text_line
+from .relay_log import Entry, Event, LogWriter, RotatingFile, json_event, json_line, text_event, text_line
 from .relay_pcap import FILE_HEADER, Packets
 from .relay_rules import Rule, RuleError, Rules, RuleText, parse_rule, parse_rules, parsed_rules
 from .relay_summary import Summary
@@ -47,7 +49,7 @@ class Relay(LoopServer):
         self,
         to: Target,
         rules: Iterable[RuleText] = (),
-        log: Optional[TextIO] = None,
+        log: Union[TextIO, RotatingFile, None] = None,
         listen: Endpoint = Endpoint(SERVER_ADDRESS, 0),
         seed: int = 0,
         is_json: bool = False,
@@ -134,6 +136,8 @@ def make_parser() -> argparse.ArgumentParser:
                                      formatter_class=argparse.RawDescriptionHelpFormatter)
     add_listening_options(parser, DEFAULT_PORT)
     parser.add_argument("--log", metavar="FILE", help="where the traffic is written (standard output)")
+    parser.add_argument("--log-size", type=int, default=0, metavar="BYTES",
+                        help="begin another file before one has more bytes, and keep five older ones (0: one file)")
     parser.add_argument("--pcap", metavar="FILE", help="a file of the traffic for Wireshark, which is written anew")
     parser.add_argument("--json", action="store_true", help="write each line of the log as a JSON object")
     parser.add_argument("--quiet", action="store_true", help="write no log")
@@ -159,12 +163,13 @@ def read_rules(arguments: argparse.Namespace) -> List[Rule]:
     return rules
 
 
-def open_log(arguments: argparse.Namespace) -> Optional[TextIO]:
+def open_log(arguments: argparse.Namespace) -> Union[TextIO, RotatingFile, None]:
     if arguments.quiet:
         return None
     if arguments.log is None:
         return sys.stdout
-    return open(arguments.log, "a", encoding="utf-8")
+    atexit.unregister(logging.shutdown)  # which would wait for a file that takes nothing
+    return RotatingFile(arguments.log, arguments.log_size)
 
 
 def main(words: Optional[List[str]] = None) -> int:
@@ -199,7 +204,7 @@ def set_again(relay: Relay, arguments: argparse.Namespace, seed: int) -> None:
         say(f"the rules stay as they were: {fault}")
 
 
-def announce(relay: Relay, log: Optional[TextIO]) -> None:
+def announce(relay: Relay, log: object) -> None:
     """Says where the relay listens, as psu does; where the log is on standard output, its first line says it."""
     if log is not sys.stdout:
         print(f"listening on {Endpoint(relay.listen.address, relay.port)}", flush=True)

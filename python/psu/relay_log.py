@@ -6,14 +6,15 @@
 from __future__ import annotations
 
 import base64
-import collections
 import datetime
 import functools
 import json
+import logging.handlers
+import queue
 import re
 import threading
 import time
-from typing import IO, AnyStr, Callable, Deque, Dict, Generic, List, NamedTuple, Optional
+from typing import IO, Any, Callable, Dict, List, NamedTuple, Optional, Union
 
 from .frames import WITH_MESSAGE_ID, MessageType, control_in_words, name_of
 
@@ -192,34 +193,51 @@ def json_event(event: Event) -> str:
 # Writing
 
 
-class LogWriter(Generic[AnyStr]):
-    """Writes lines, or other pieces, by a thread of its own. Where the file takes none, lines wait, and beyond a limit are left out."""
+class RotatingFile(logging.handlers.RotatingFileHandler):
+    """A file to which texts are appended. Before it has more than so many bytes it is renamed, and another one begins.
 
-    def __init__(self, file: IO[AnyStr], report: Callable[[str], None], limit: int = WAITING_LINES) -> None:
-        self._file: IO[AnyStr] = file
+    Of the files before, FILE.1 is the newest. With a size of 0 there is one file.
+    """
+
+    terminator = ""
+
+    def __init__(self, path: str, size: int = 0, older: int = 5) -> None:
+        super().__init__(path, maxBytes=size, backupCount=older, encoding="utf-8")
+
+    def write(self, text: str) -> None:
+        self.emit(logging.makeLogRecord({"msg": text}))
+
+    def handleError(self, record: logging.LogRecord) -> None:
+        raise  # what `write` met
+
+
+class LogWriter(logging.handlers.QueueListener):
+    """Writes lines, or bytes, by a thread of its own. Where the file takes none, they wait, and beyond a limit are left out."""
+
+    def __init__(
+        self, file: Union[IO[Any], RotatingFile], report: Callable[[str], None], limit: int = WAITING_LINES
+    ) -> None:
+        super().__init__(queue.SimpleQueue())
+        self._file = file
         self._report = report
         self._limit = limit
-        self._lines: Deque[AnyStr] = collections.deque()
         self._missing = 0
-        self._has_lines = threading.Event()
-        self._is_ending = False
-        self._is_writing = False
-        self._thread = threading.Thread(target=self._run, daemon=True)
-        self._thread.start()
+        self._added = 0
+        self._written = 0
+        self.start()
 
-    def add(self, line: AnyStr) -> bool:
+    def add(self, line: Union[str, bytes]) -> bool:
         """Takes a line; returns whether it had place."""
-        if len(self._lines) >= self._limit:
+        if self.queue.qsize() >= self._limit:
             self._missing += 1
             return False
-        self._lines.append(line)
-        if not self._has_lines.is_set():
-            self._has_lines.set()
+        self._added += 1
+        self.queue.put(line)
         return True
 
     def take_missing(self) -> int:
         """Returns how many lines were left out since the last call; 0 while there is no place to say so."""
-        if not self._missing or len(self._lines) >= self._limit:
+        if not self._missing or self.queue.qsize() >= self._limit:
             return 0
         missing, self._missing = self._missing, 0
         return missing
@@ -227,32 +245,34 @@ class LogWriter(Generic[AnyStr]):
     def flush(self, seconds: float) -> None:
         """Returns once all lines that were added are written, or after so many seconds."""
         deadline = time.monotonic() + seconds
-        while (self._lines or self._is_writing) and time.monotonic() < deadline:
+        while self._written < self._added and time.monotonic() < deadline:
             time.sleep(BATCH_SECONDS / 4)
 
     def end(self, seconds: float) -> None:
         """Writes what waits; returns after so many seconds at most."""
-        self._is_ending = True
-        self._has_lines.set()
-        self._thread.join(seconds)
+        stopping = threading.Thread(target=self.stop, daemon=True)
+        stopping.start()
+        stopping.join(seconds)
 
-    def _run(self) -> None:
+    # The listener's thread
+
+    def dequeue(self, block: bool) -> Any:
+        """Returns all lines that wait, once there is one; None, which ends the thread, where `stop` was called."""
+        lines = [self.queue.get()]
+        time.sleep(BATCH_SECONDS)  # so that one write takes many lines
+        lines += [self.queue.get() for _ in range(self.queue.qsize())]
+        whole = [line for line in lines if line is not None]
+        if whole and len(whole) < len(lines):
+            self.queue.put(None)
+        return whole or None
+
+    def handle(self, record: Any) -> None:
+        """Writes lines."""
         try:
-            while not self._is_ending:
-                self._has_lines.wait()
-                time.sleep(BATCH_SECONDS)  # so that one write takes many lines
-                self._has_lines.clear()
-                self._write()
-            self._write()
+            self._file.write(type(record[0])().join(record))
+            self._file.flush()
         except (OSError, ValueError) as fault:
-            self._report(f"the log can't be written, and traffic continues without it: {fault}")
+            if self._limit:
+                self._report(f"the log can't be written, and traffic continues without it: {fault}")
             self._limit = 0
-
-    def _write(self) -> None:
-        self._is_writing = True
-        # Lines that come meanwhile wait for the next call, so that each call ends.
-        batch = [self._lines.popleft() for _ in range(len(self._lines))]
-        if batch:
-            self._file.write(type(batch[0])().join(batch))
-        self._file.flush()
-        self._is_writing = False
+        self._written += len(record)
