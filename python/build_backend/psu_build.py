@@ -31,9 +31,12 @@ SCRIPTS = {
     "psu-socket": "psu.raw_socket:main",
     "psu-backup": "psu.backup:main",
     "psu-send": "psu.send:main",
+    "psu-replay": "psu.replay:main",
+    "psu-panel": "psu.panel:main",
 }
 PLUGINS = {"psu": "psu_pytest"}
 TOP_MODULES = ("psu_pytest.py", "psu_pytest_names.py")  # beside the package
+KINDS = (".py", ".typed", ".html", ".js")  # of the files of the package
 NOTE = f"{NAME}/BUILD"
 VERSION = re.compile(r'^__version__ = "([0-9.]+)"$', re.MULTILINE)
 ANY = "py3-none-any"
@@ -105,7 +108,7 @@ def note() -> str:
 def modules(build: str) -> Dict[str, bytes]:
     """Returns the files of the package, by their paths in a wheel, with this note of the build."""
     folder = os.path.join(FOLDER, NAME)
-    names = [f"{NAME}/{it}" for it in sorted(os.listdir(folder)) if it.endswith((".py", ".typed"))]
+    names = [f"{NAME}/{it}" for it in sorted(os.listdir(folder)) if it.endswith(KINDS)]
     files = {it: read(FOLDER, it) for it in [*names, *TOP_MODULES]}
     root = f"{NAME}/__init__.py"
     files[root] = VERSION.sub(f'__version__ = "{version()}"', files[root].decode()).encode()
@@ -163,7 +166,7 @@ def sources() -> Dict[str, bytes]:
     paths = ["README.md", "pyproject.toml", *TOP_MODULES]
     for folder in (NAME, "build_backend", "tests"):
         names = sorted(os.listdir(os.path.join(FOLDER, folder)))
-        paths += [f"{folder}/{it}" for it in names if it.endswith((".py", ".typed"))]
+        paths += [f"{folder}/{it}" for it in names if it.endswith(KINDS)]
     return {it: read(FOLDER, it) for it in paths}
 
 

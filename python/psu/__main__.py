@@ -1,18 +1,131 @@
-"""python3 -m psu --version: prints the commit, the program with its SHA-256, and the toolchain."""
+"""A bench in one command: the server of an image, and as options a relay with rules, raw sockets and a panel.
+
+    python3 -m psu bench.psu --socket --relay --panel --rule 'delay 2 response to "MEAS:VOLT?"'
+
+IMAGE is made where it is missing. Prints the address of each, and ends with all of them once the server ends, or at SIGTERM,
+SIGINT or SIGHUP. Raw sockets are before the relay, where there is one; the panel is not, and has a button for a power cut.
+"""
 from __future__ import annotations
 
 import argparse
+import contextlib
+import signal
 import sys
+import threading
+from typing import List, Optional
 
 from .build_note import Version
+from .errors import ServerNotStarted
+from .frames import DEFAULT_PORT
+from .listening import SERVER_ADDRESS, Endpoint
+from .panel import DEFAULT_PORT as PANEL_PORT
+from .panel import Panel
+from .raw_socket import DEFAULT_PORT as RAW_PORT
+from .raw_socket import RawSocket
+from .relay import DEFAULT_PORT as RELAY_PORT
+from .relay import Relay
+from .relay_log import RotatingFile
+from .relay_rules import RuleError
+from .resource import Resource
+from .server import Server
+
+LOOK_SECONDS = 0.2  # between two looks whether the server runs
 
 
-def main() -> int:
-    parser = argparse.ArgumentParser(prog="python3 -m psu", description=__doc__)
-    parser.add_argument("--version", action=Version)
-    parser.parse_args()
-    parser.print_help()
-    return 2
+class Bench:
+    """What runs, in a `with` block."""
+
+    def __init__(self, arguments: argparse.Namespace) -> None:
+        self._arguments = arguments
+        self._parts = contextlib.ExitStack()
+        self._changing = threading.Lock()  # while the server is killed and started again
+        self._shown = ""  # of what it wrote to standard error
+        self._server = Server(arguments.image, port=arguments.port)
+
+    def __enter__(self) -> Bench:
+        try:
+            self._start()
+        except BaseException:
+            self._parts.close()
+            raise
+        return self
+
+    def __exit__(self, *_: object) -> None:
+        self._parts.close()
+
+    def _start(self) -> None:
+        given, enter = self._arguments, self._parts.enter_context
+        port = enter(self._server).port
+        assert port is not None
+        say("server", port, str(Resource(SERVER_ADDRESS, port)))
+        before = port
+        if given.relay is not None:
+            log = RotatingFile(given.log) if given.log is not None else None
+            before = enter(Relay(port, given.rule, log, Endpoint(SERVER_ADDRESS, given.relay), given.seed)).port
+            say("relay", before, str(Resource(SERVER_ADDRESS, before)))
+        if given.socket is not None:
+            raw = enter(RawSocket(before, Endpoint(SERVER_ADDRESS, given.socket))).port
+            say("socket", raw, f"TCPIP::{SERVER_ADDRESS}::{raw}::SOCKET")
+        if given.panel is not None:
+            panel = enter(Panel(port, given.panel, cut_power=self._cut_power))
+            threading.Thread(target=panel.serve_forever, daemon=True).start()
+            self._parts.callback(panel.shutdown)
+            say("panel", panel.server_port, panel.address)
+
+    def _cut_power(self) -> None:
+        with self._changing:
+            self._server.restart()
+
+    def run(self, stopping: threading.Event) -> None:
+        """Returns once `stopping` is set; raises ServerNotStarted where the server has ended by itself."""
+        while not stopping.wait(LOOK_SECONDS):
+            with self._changing:
+                self._pass_messages()
+                if not self._server.is_running:
+                    raise ServerNotStarted("the server has ended")
+
+    def _pass_messages(self) -> None:
+        """Passes on what the server wrote to standard error."""
+        text = self._server.messages()
+        sys.stderr.write(text[len(self._shown) :] if text.startswith(self._shown) else text)
+        self._shown = text
+
+
+def say(name: str, port: int, address: str) -> None:
+    print(f"{name:6}  {SERVER_ADDRESS}:{port:<5}  {address}", flush=True)
+
+
+def made_parser() -> argparse.ArgumentParser:
+    form = argparse.RawDescriptionHelpFormatter
+    made = argparse.ArgumentParser(prog="python3 -m psu", description=__doc__, formatter_class=form)
+    made.add_argument("--version", action=Version)
+    made.add_argument("image", metavar="IMAGE", help="the image, as bench.psu")
+    made.add_argument("--port", type=int, default=DEFAULT_PORT, help=f"the server's port ({DEFAULT_PORT})")
+    for name, port, what in (("relay", RELAY_PORT, "a relay"), ("socket", RAW_PORT, "raw sockets"),
+                             ("panel", PANEL_PORT, "a panel")):
+        made.add_argument(f"--{name}", type=int, nargs="?", const=port, metavar="PORT", help=f"{what}, at this port ({port})")
+    made.add_argument("--rule", action="append", default=[], help="a rule of the relay, as `psu-relay --rule`")
+    made.add_argument("--log", metavar="FILE", help="where the relay writes the traffic")
+    made.add_argument("--seed", type=int, default=0, help="the seed of the rules with a probability (0)")
+    return made
+
+
+def main(words: Optional[List[str]] = None) -> int:
+    """Runs the program; returns its exit status: 1 for a fault, 2 for a wrong rule, with a line on standard error."""
+    parser = made_parser()
+    arguments = parser.parse_args(words)
+    if arguments.relay is None and (arguments.rule or arguments.log):
+        parser.error("--rule and --log are for a relay: add --relay")
+    stopping = threading.Event()
+    for number in (signal.SIGTERM, signal.SIGINT, signal.SIGHUP):
+        signal.signal(number, lambda *_: stopping.set())
+    try:
+        with Bench(arguments) as bench:
+            bench.run(stopping)
+    except (RuleError, ServerNotStarted, OSError) as fault:
+        print(f"psu: {fault}", file=sys.stderr)
+        return 2 if isinstance(fault, RuleError) else 1
+    return 0
 
 
 if __name__ == "__main__":

@@ -180,7 +180,7 @@ class SocketFrames:
     def __init__(
         self, connection: socket.socket, largest: int = LARGEST_PAYLOAD, interrupt: Optional[Interrupt] = None
     ) -> None:
-        self._socket = connection
+        self.connection = connection
         self._largest = largest
         self._received = bytearray()
         self._ready, self._socket_alone = SELECTOR(), SELECTOR()
@@ -210,7 +210,7 @@ class SocketFrames:
         """Reads until `size` bytes are there; False where the stream ended and none are."""
         while len(self._received) < size:
             self._wait(deadline, ready)
-            piece = self._socket.recv(65536)
+            piece = self.connection.recv(65536)
             if piece:
                 self._received += piece
             elif self._received:
@@ -227,7 +227,7 @@ class SocketFrames:
             files = [key.fileobj for key, _ in ready.select(min(max(left, 0), LONGEST_SELECT))]
             if not files and left < LONGEST_SELECT:
                 raise TimeoutError("no frame in time")
-        if files != [self._socket]:
+        if files != [self.connection]:
             raise Interrupted
 
 

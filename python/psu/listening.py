@@ -80,10 +80,15 @@ def add_listening_options(parser: argparse.ArgumentParser, port: int) -> None:
     default = Endpoint(SERVER_ADDRESS, port)
     parser.add_argument("--listen", type=parse_endpoint, default=default, metavar="ADDRESS:PORT",
                         help=f"where clients connect ({default}); port 0 takes a free one")
-    server = Endpoint(SERVER_ADDRESS, DEFAULT_PORT)
-    parser.add_argument("--to", type=parse_server, default=server, metavar="[HOST:]PORT", help=f"the server ({server})")
+    add_server_option(parser)
     parser.add_argument(ALLOW_REMOTE, OLD_ALLOW_REMOTE, action="store_true", dest="is_open",
                         help="listen on an address that other machines reach, where anyone commands the instrument")
+
+
+def add_server_option(parser: argparse.ArgumentParser) -> None:
+    """Adds --to."""
+    server = Endpoint(SERVER_ADDRESS, DEFAULT_PORT)
+    parser.add_argument("--to", type=parse_server, default=server, metavar="[HOST:]PORT", help=f"the server ({server})")
 
 
 def check_listening(parser: argparse.ArgumentParser, arguments: argparse.Namespace) -> None:

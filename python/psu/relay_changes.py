@@ -54,6 +54,10 @@ FAULT_TEXTS = {
 }
 
 
+# How the text begins of what keeps a message, or a part of it, from the other side.
+KEPT_BACK = ("held back", "connection dropped before", "cut ", "session refused", "FatalError instead", "Error instead")
+
+
 def fault_text(rule: Rule, action: Action) -> str:
     """Returns what a rule does to a message, for its line in the log."""
     if action is Action.CUT and rule.value is None:

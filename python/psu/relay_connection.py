@@ -9,7 +9,7 @@ from typing import Awaitable, Callable, Dict, List, Optional
 from .frames import HEADER_SIZE, Frame, FrameError, Header, MessageType, unpack_header
 from .listening import close_soon, reset
 from .relay_changes import CHANGES, changed, fault_text
-from .relay_log import Entry, payload_text
+from .relay_log import MADE_BY_RELAY, Entry, payload_text
 from .relay_rules import Action, Rule, Seen, Side
 from .relay_session import Session, Transmissions
 from .relay_traffic import Outlet, Traffic
@@ -368,7 +368,7 @@ class Direction:
         self._to_client.add(frame)
         self._traffic.write_entry(Entry(time.time(), number, connection.is_async, False, frame.kind, frame.control,
                                         frame.parameter, len(frame.payload), frame.payload, None,
-                                        f"sent by the relay: {rule.name}"))
+                                        f"{MADE_BY_RELAY}: {rule.name}"))
 
     def _drop(self, rule: Rule) -> None:
         session = self._connection.session

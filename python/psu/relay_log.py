@@ -22,6 +22,7 @@ SHOWN_PAYLOAD = 120  # the most characters of a payload in a line
 SHOWN_BLOCK = 16  # the most bytes of a block
 WAITING_LINES = 20_000  # beyond so many lines that are not written yet, lines are left out and counted
 BATCH_SECONDS = 0.02
+MADE_BY_RELAY = "sent by the relay"  # how the fault of an entry begins that no server sent
 
 
 class Entry(NamedTuple):
