@@ -14,10 +14,10 @@ import sys
 import threading
 from typing import List, Optional
 
-from .build_note import Version
+from .command_line import plain_parser
 from .errors import ServerNotStarted
 from .frames import DEFAULT_PORT
-from .listening import SERVER_ADDRESS, Endpoint
+from .listening import SERVER_ADDRESS, Endpoint, status_of
 from .panel import DEFAULT_PORT as PANEL_PORT
 from .panel import Panel
 from .raw_socket import DEFAULT_PORT as RAW_PORT
@@ -25,7 +25,6 @@ from .raw_socket import RawSocket
 from .relay import DEFAULT_PORT as RELAY_PORT
 from .relay import Relay
 from .relay_log import RotatingFile
-from .relay_rules import RuleError
 from .resource import Resource
 from .server import Server
 
@@ -96,9 +95,7 @@ def say(name: str, port: int, address: str) -> None:
 
 
 def made_parser() -> argparse.ArgumentParser:
-    form = argparse.RawDescriptionHelpFormatter
-    made = argparse.ArgumentParser(prog="python3 -m psu", description=__doc__, formatter_class=form)
-    made.add_argument("--version", action=Version)
+    made = plain_parser(__doc__, "python3 -m psu")
     made.add_argument("image", metavar="IMAGE", help="the image, as bench.psu")
     made.add_argument("--port", type=int, default=DEFAULT_PORT, help=f"the server's port ({DEFAULT_PORT})")
     for name, port, what in (("relay", RELAY_PORT, "a relay"), ("socket", RAW_PORT, "raw sockets"),
@@ -111,7 +108,7 @@ def made_parser() -> argparse.ArgumentParser:
 
 
 def main(words: Optional[List[str]] = None) -> int:
-    """Runs the program; returns its exit status: 1 for a fault, 2 for a wrong rule, with a line on standard error."""
+    """Runs the program; returns its exit status."""
     parser = made_parser()
     arguments = parser.parse_args(words)
     if arguments.relay is None and (arguments.rule or arguments.log):
@@ -119,13 +116,12 @@ def main(words: Optional[List[str]] = None) -> int:
     stopping = threading.Event()
     for number in (signal.SIGTERM, signal.SIGINT, signal.SIGHUP):
         signal.signal(number, lambda *_: stopping.set())
-    try:
+
+    def run() -> None:
         with Bench(arguments) as bench:
             bench.run(stopping)
-    except (RuleError, ServerNotStarted, OSError) as fault:
-        print(f"psu: {fault}", file=sys.stderr)
-        return 2 if isinstance(fault, RuleError) else 1
-    return 0
+
+    return status_of("psu", run)
 
 
 if __name__ == "__main__":

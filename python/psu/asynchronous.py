@@ -122,17 +122,7 @@ class Asynchronous:
                     self._raise_end()
                 self._raise_fault()
                 self._asks.append(ask)
-            try:
-                self._channel.send(message, timeout)
-            except Timeout as fault:
-                self._end_all(*closed_by_client("the server did not read"))
-                raise Timeout(fault.text, session_continues=False) from None
-            except ConnectionError:
-                raise
-            except BaseException:
-                # Its ask stands among the others, and a part of it may be sent.
-                self._end_all(*closed_by_client("a write was interrupted"))
-                raise
+            self._channel.send(message, timeout)
 
     def _raise_fault(self) -> None:
         fault, self._fault = self._fault, None

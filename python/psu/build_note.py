@@ -12,7 +12,7 @@ import platform
 import subprocess
 import sys
 import time
-from typing import Dict, NamedTuple, Optional, Sequence, Union
+from typing import Dict, NamedTuple, Optional, Sequence
 
 PACKAGE = os.path.dirname(os.path.abspath(__file__))
 FILE = "BUILD"
@@ -136,12 +136,6 @@ class Version(argparse.Action):
     def __init__(self, option_strings: Sequence[str], dest: str) -> None:
         super().__init__(option_strings, argparse.SUPPRESS, nargs=0, help="print commit, program and toolchain, and end")
 
-    def __call__(
-        self,
-        parser: argparse.ArgumentParser,
-        namespace: argparse.Namespace,
-        values: Union[str, Sequence[object], None],
-        option_string: Optional[str] = None,
-    ) -> None:
+    def __call__(self, parser: argparse.ArgumentParser, *_: object, **__: object) -> None:
         sys.stdout.write(text())
         parser.exit()

@@ -56,17 +56,21 @@ class Channel:
         self._end: Optional[End] = None
 
     def send(self, message: bytes, timeout: float) -> None:
-        """Sends a packed message. After an exception a part of it may be sent, so that the connection has to be ended."""
+        """Sends a packed message. Where that fails a part of it may be sent, which nothing can follow: the session ends."""
         self._raise_end()
         # With a timeout of 0 the socket would not wait, and would not raise the exception of a timeout.
         self._socket.settimeout(finite(max(timeout, 0.001)))
         try:
             self._socket.sendall(message)
         except socket.timeout:
-            raise Timeout(f"the server has not read in {timeout:g} s") from None
+            self._end_all(*closed_by_client("the server did not read"))
+            raise Timeout(f"the server has not read in {timeout:g} s", session_continues=False) from None
         except OSError:
-            self._raise_end()
             raise self._lost(LOST) from None
+        except BaseException:
+            # Ctrl-C, or a signal's handler that raises.
+            self._end_all(*closed_by_client("a write was interrupted"))
+            raise
 
     def receive(self, timeout: float, is_interrupted: bool = True) -> Frame:
         """Returns the next message. After a Timeout its bytes so far are kept, and the next call continues.
@@ -79,16 +83,13 @@ class Channel:
         except TimeoutError:
             raise Timeout(f"no message in {timeout:g} s") from None
         except CutShort:
-            self._raise_end()
             raise self._lost(f"{LOST} in the middle of a message") from None
         except FrameError as fault:
             self._raise_end()
             raise ProtocolError(f"the server sent no HiSLIP message: {fault}") from None
         except OSError:
-            self._raise_end()
             raise self._lost(LOST) from None
         if frame is None:
-            self._raise_end()
             raise self._lost(LOST)
         return frame
 
@@ -114,6 +115,7 @@ class Channel:
         self._socket.close()
 
     def _lost(self, why: str) -> ConnectionError:
+        """Ends the session; returns why it has ended, which may have been noted before."""
         self._end_all(ConnectionLost, why)
         assert self._end is not None
         kind, why = self._end

@@ -17,15 +17,7 @@ from .blocks import block_content, definite_block, encoded
 from .channel import Channel, closed_by_client, ender
 from .errors import HislipError, LockError, LockRefusal, ProtocolError, ScpiError, Timeout
 from .exchange import Exchange, Wait, wait_of
-from .frames import (
-    DEFAULT_PORT,
-    HEADER_SIZE,
-    LARGEST_PAYLOAD,
-    PROTOCOL_1_0,
-    Frame,
-    Interrupt,
-    MessageType,
-)
+from .frames import DEFAULT_PORT, HEADER_SIZE, LARGEST_PAYLOAD, PROTOCOL_1_0, Frame, Interrupt, MessageType
 from .resource import Resource, parse_resource
 from .synchronous import Synchronous
 from .turn import Turn
@@ -53,12 +45,8 @@ class Instrument:
     """
 
     def __init__(
-        self,
-        host: str = "127.0.0.1",
-        port: int = DEFAULT_PORT,
-        timeout: Optional[float] = 5.0,
-        sub_address: str = "hislip0",
-        check_errors: bool = False,
+        self, host: str = "127.0.0.1", port: int = DEFAULT_PORT, timeout: Optional[float] = 5.0,
+        sub_address: str = "hislip0", check_errors: bool = False
     ) -> None:
         self.timeout = timeout
         self.check_errors = check_errors

@@ -9,19 +9,12 @@ import socket
 import struct
 import sys
 import threading
-from typing import Callable, NamedTuple, Optional, Set, Tuple, TypeVar, Union
+from typing import Callable, List, NamedTuple, Optional, Set, Tuple, TypeVar, Union
 
-from .build_note import Version
-from .frames import (
-    DEFAULT_PORT,
-    HEADER_SIZE,
-    LARGEST_PAYLOAD,
-    CutShort,
-    Frame,
-    Header,
-    allowed_length,
-    unpack_header,
-)
+from .command_line import plain_parser
+from .errors import ServerNotStarted
+from .frames import DEFAULT_PORT, HEADER_SIZE, LARGEST_PAYLOAD, CutShort, Frame, Header, allowed_length, unpack_header
+from .relay_rules import RuleError
 
 SERVER_ADDRESS = "127.0.0.1"
 ALLOW_REMOTE = "--allow-remote"
@@ -74,15 +67,16 @@ def endpoint_of(target: Target) -> Endpoint:
     return target if isinstance(target, Endpoint) else Endpoint(SERVER_ADDRESS, target)
 
 
-def add_listening_options(parser: argparse.ArgumentParser, port: int) -> None:
-    """Adds --version, --listen, --to and the option that allows another address than a loopback one."""
-    parser.add_argument("--version", action=Version)
+def listening_parser(program: str, description: Optional[str], port: int) -> argparse.ArgumentParser:
+    """Returns a parser with --listen, --to and the option that allows another address than a loopback one."""
+    parser = plain_parser(description, program)
     default = Endpoint(SERVER_ADDRESS, port)
     parser.add_argument("--listen", type=parse_endpoint, default=default, metavar="ADDRESS:PORT",
                         help=f"where clients connect ({default}); port 0 takes a free one")
     add_server_option(parser)
     parser.add_argument(ALLOW_REMOTE, OLD_ALLOW_REMOTE, action="store_true", dest="is_open",
                         help="listen on an address that other machines reach, where anyone commands the instrument")
+    return parser
 
 
 def add_server_option(parser: argparse.ArgumentParser) -> None:
@@ -91,10 +85,22 @@ def add_server_option(parser: argparse.ArgumentParser) -> None:
     parser.add_argument("--to", type=parse_server, default=server, metavar="[HOST:]PORT", help=f"the server ({server})")
 
 
-def check_listening(parser: argparse.ArgumentParser, arguments: argparse.Namespace) -> None:
-    """Ends the program where other machines reach the address and that is not allowed."""
+def parsed(parser: argparse.ArgumentParser, words: Optional[List[str]]) -> argparse.Namespace:
+    """Returns the options; ends the program where other machines reach the address and that is not allowed."""
+    arguments = parser.parse_args(words)
     if not ipaddress.ip_address(arguments.listen.address).is_loopback and not arguments.is_open:
         parser.error(f"anyone who reaches {arguments.listen} would command the instrument: add {ALLOW_REMOTE}")
+    return arguments
+
+
+def status_of(program: str, run: Callable[[], None]) -> int:
+    """Runs a program; returns its exit status: 1 for a fault, 2 for a wrong rule, with a line on standard error."""
+    try:
+        run()
+    except (RuleError, ServerNotStarted, OSError) as fault:
+        report(program, str(fault))
+        return 2 if isinstance(fault, RuleError) else 1
+    return 0
 
 
 Self = TypeVar("Self", bound="LoopServer")
@@ -245,16 +251,20 @@ def reset(writer: asyncio.StreamWriter) -> None:
 
 
 def run_until_signal(
-    server: LoopServer, ready: Callable[[], None], hang_up: Optional[Callable[[], None]] = None
+    server: LoopServer, is_announced: bool = True, hang_up: Optional[Callable[[], None]] = None
 ) -> None:
     """Serves until SIGTERM or SIGINT, and SIGHUP where that is not for `hang_up`; raises OSError without a port."""
+    def announce() -> None:
+        if is_announced:
+            print(f"listening on {Endpoint(server.listen.address, server.port)}", flush=True)
+
     async def run() -> None:
         stopping = asyncio.Event()
         loop = asyncio.get_running_loop()
         for number in (signal.SIGTERM, signal.SIGINT):
             loop.add_signal_handler(number, stopping.set)
         loop.add_signal_handler(signal.SIGHUP, hang_up or stopping.set)
-        await server.run(ready, stopping)
+        await server.run(announce, stopping)
 
     asyncio.run(run())
 

@@ -244,12 +244,8 @@ class Panel(http.server.ThreadingHTTPServer):
     daemon_threads = True
 
     def __init__(
-        self,
-        port: int,
-        listen_port: int = DEFAULT_PORT,
-        interval: float = 0.5,
-        minutes: float = 5,
-        cut_power: Optional[Callable[[], object]] = None,
+        self, port: int, listen_port: int = DEFAULT_PORT, interval: float = 0.5, minutes: float = 5,
+        cut_power: Optional[Callable[[], object]] = None
     ) -> None:
         super().__init__((ADDRESS, listen_port), Handler)
         self.cut_power = cut_power

@@ -7,39 +7,20 @@ requests.
 """
 from __future__ import annotations
 
-import argparse
 import asyncio
 import sys
 from typing import Iterable, List, Optional, Tuple
 
 from .frames import (
-    FATAL_ERRORS,
-    FIRST_MESSAGE_ID,
-    PROTOCOL_1_0,
-    Frame,
-    FrameError,
-    MessageType,
-    after,
-    control_in_words,
-    name_of,
+    FATAL_ERRORS, FIRST_MESSAGE_ID, PROTOCOL_1_0, Frame, FrameError, MessageType, after, control_in_words, name_of,
 )
 from .listening import (
-    Endpoint,
-    LoopServer,
-    SERVER_ADDRESS,
-    Target,
-    add_listening_options,
-    check_listening,
-    close_soon,
-    connect,
-    endpoint_of,
-    read_frame,
-    report,
-    run_until_signal,
+    SERVER_ADDRESS, Endpoint, LoopServer, Target, close_soon, connect, endpoint_of, listening_parser, parsed, read_frame,
+    report, run_until_signal, status_of,
 )
 from .raw_faults import Disconnected, RawFaults, check_rules
 from .raw_messages import LARGEST_PART, Divider
-from .relay_rules import RuleError, RuleText, parsed_rules
+from .relay_rules import RuleText, parsed_rules
 
 PROGRAM = "psu-socket"
 DEFAULT_PORT = 5025
@@ -238,24 +219,12 @@ class RawSocket(LoopServer):
 
 
 def main(words: Optional[List[str]] = None) -> int:
-    """Runs the program; returns its exit status: 1 for a fault, 2 for a wrong rule, with a line on standard error."""
-    parser = argparse.ArgumentParser(prog=PROGRAM, description=__doc__,
-                                     formatter_class=argparse.RawDescriptionHelpFormatter)
-    add_listening_options(parser, DEFAULT_PORT)
+    """Runs the program; returns its exit status."""
+    parser = listening_parser(PROGRAM, __doc__, DEFAULT_PORT)
     parser.add_argument("--rule", action="append", default=[], metavar="RULE", help="a fault, as the rules of psu-relay")
     parser.add_argument("--seed", type=int, default=0, help="the seed of what a rule leaves to chance (0)")
-    arguments = parser.parse_args(words)
-    check_listening(parser, arguments)
-    try:
-        raw = RawSocket(arguments.to, arguments.listen, arguments.rule, arguments.seed)
-        run_until_signal(raw, lambda: print(f"listening on {Endpoint(raw.listen.address, raw.port)}", flush=True))
-    except RuleError as fault:
-        say(str(fault))
-        return 2
-    except OSError as fault:
-        say(str(fault))
-        return 1
-    return 0
+    given = parsed(parser, words)
+    return status_of(PROGRAM, lambda: run_until_signal(RawSocket(given.to, given.listen, given.rule, given.seed)))
 
 
 if __name__ == "__main__":

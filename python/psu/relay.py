@@ -16,16 +16,8 @@ import time
 from typing import BinaryIO, Iterable, List, Optional, TextIO, Union
 
 from .listening import (
-    SERVER_ADDRESS,
-    Endpoint,
-    LoopServer,
-    Target,
-    add_listening_options,
-    check_listening,
-    connect,
-    endpoint_of,
-    report,
-    run_until_signal,
+    SERVER_ADDRESS, Endpoint, LoopServer, Target, connect, endpoint_of, listening_parser, parsed, report, run_until_signal,
+    status_of,
 )
 from .relay_connection import Connection
 from .relay_log import Entry, Event, LogWriter, RotatingFile, json_event, json_line, text_event, text_line
@@ -46,14 +38,8 @@ class Relay(LoopServer):
     """A relay. In a test: `with Relay(to=server.port, rules=["hold response number 3"]) as relay: .. relay.port`."""
 
     def __init__(
-        self,
-        to: Target,
-        rules: Iterable[RuleText] = (),
-        log: Union[TextIO, RotatingFile, None] = None,
-        listen: Endpoint = Endpoint(SERVER_ADDRESS, 0),
-        seed: int = 0,
-        is_json: bool = False,
-        pcap: Optional[BinaryIO] = None,
+        self, to: Target, rules: Iterable[RuleText] = (), log: Union[TextIO, RotatingFile, None] = None,
+        listen: Endpoint = Endpoint(SERVER_ADDRESS, 0), seed: int = 0, is_json: bool = False, pcap: Optional[BinaryIO] = None
     ) -> None:
         super().__init__(listen)
         self.to = to
@@ -132,9 +118,7 @@ class Relay(LoopServer):
 
 
 def make_parser() -> argparse.ArgumentParser:
-    parser = argparse.ArgumentParser(prog=PROGRAM, description=__doc__,
-                                     formatter_class=argparse.RawDescriptionHelpFormatter)
-    add_listening_options(parser, DEFAULT_PORT)
+    parser = listening_parser(PROGRAM, __doc__, DEFAULT_PORT)
     parser.add_argument("--log", metavar="FILE", help="where the traffic is written (standard output)")
     parser.add_argument("--log-size", type=int, default=0, metavar="BYTES",
                         help="begin another file before one has more bytes, and keep five older ones (0: one file)")
@@ -173,26 +157,21 @@ def open_log(arguments: argparse.Namespace) -> Union[TextIO, RotatingFile, None]
 
 
 def main(words: Optional[List[str]] = None) -> int:
-    """Runs the program; returns its exit status: 1 for a fault, 2 for a wrong rule, with a line on standard error."""
-    parser = make_parser()
-    arguments = parser.parse_args(words)
-    check_listening(parser, arguments)
+    """Runs the program; returns its exit status."""
+    arguments = parsed(make_parser(), words)
+    return status_of(PROGRAM, lambda: run(arguments))
+
+
+def run(arguments: argparse.Namespace) -> None:
     seed = random.SystemRandom().randrange(1 << 32) if arguments.seed is None else arguments.seed
-    try:
-        rules = read_rules(arguments)
-        log = open_log(arguments)
-        pcap = open(arguments.pcap, "wb") if arguments.pcap is not None else None
-        relay = Relay(arguments.to, log=log, listen=arguments.listen, is_json=arguments.json, pcap=pcap)
-        relay.take_rules(rules, seed)
-        read_again = None if arguments.rules is None else lambda: set_again(relay, arguments, seed)
-        run_until_signal(relay, lambda: announce(relay, log), read_again)
-    except RuleError as fault:
-        say(str(fault))
-        return 2
-    except OSError as fault:
-        say(str(fault))
-        return 1
-    return 0
+    rules = read_rules(arguments)
+    log = open_log(arguments)
+    pcap = open(arguments.pcap, "wb") if arguments.pcap is not None else None
+    relay = Relay(arguments.to, log=log, listen=arguments.listen, is_json=arguments.json, pcap=pcap)
+    relay.take_rules(rules, seed)
+    read_again = None if arguments.rules is None else lambda: set_again(relay, arguments, seed)
+    # Where the log is on standard output, its first line says where the relay listens.
+    run_until_signal(relay, log is not sys.stdout, read_again)
 
 
 def set_again(relay: Relay, arguments: argparse.Namespace, seed: int) -> None:
@@ -202,12 +181,6 @@ def set_again(relay: Relay, arguments: argparse.Namespace, seed: int) -> None:
         say("the rules were read again")
     except (RuleError, OSError) as fault:
         say(f"the rules stay as they were: {fault}")
-
-
-def announce(relay: Relay, log: object) -> None:
-    """Says where the relay listens, as psu does; where the log is on standard output, its first line says it."""
-    if log is not sys.stdout:
-        print(f"listening on {Endpoint(relay.listen.address, relay.port)}", flush=True)
 
 
 if __name__ == "__main__":

@@ -9,7 +9,6 @@ differs, and how many there were. The exit status is 1 where one differs or a se
 """
 from __future__ import annotations
 
-import argparse
 import base64
 import collections
 import datetime
@@ -19,8 +18,8 @@ import sys
 import time
 from typing import Any, Dict, Iterable, Iterator, List, NamedTuple, Optional
 
-from .build_note import Version
 from .channel import connected
+from .command_line import plain_parser
 from .errors import HislipError
 from .frames import Frame, FrameError, MessageType, SocketFrames, control_in_words, name_of
 from .listening import Endpoint, add_server_option
@@ -209,9 +208,7 @@ class Replay:
 
 def main(words: Optional[List[str]] = None) -> int:
     """Runs the program; returns its exit status: 1 where an answer differs, 2 where the log can't be read."""
-    form = argparse.RawDescriptionHelpFormatter
-    parser = argparse.ArgumentParser(prog="psu-replay", description=__doc__, formatter_class=form)
-    parser.add_argument("--version", action=Version)
+    parser = plain_parser(__doc__, "psu-replay")
     add_server_option(parser)
     parser.add_argument("--timeout", type=float, default=5.0, help="the longest wait for a response in seconds, beyond "
                         "what it took in the log (5)")

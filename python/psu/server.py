@@ -87,11 +87,8 @@ class Server:
     """
 
     def __init__(
-        self,
-        image: Union[str, "os.PathLike[str]", None] = None,
-        program: Optional[str] = None,
-        port: Optional[int] = None,
-        environment: Optional[Dict[str, str]] = None,
+        self, image: Union[str, "os.PathLike[str]", None] = None, program: Optional[str] = None,
+        port: Optional[int] = None, environment: Optional[Dict[str, str]] = None
     ) -> None:
         self.program = program or find_program()
         self._folder: Optional[str] = None

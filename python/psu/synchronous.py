@@ -6,17 +6,7 @@ from typing import NamedTuple
 
 from .channel import Channel, EndAll, closed_by_client
 from .errors import FatalError, ProtocolError, ServerError, Timeout
-from .frames import (
-    FIRST_MESSAGE_ID,
-    MESSAGE_ID_STEP,
-    Frame,
-    MessageType,
-    after,
-    before,
-    is_known,
-    name_of,
-    refusal_of,
-)
+from .frames import FIRST_MESSAGE_ID, MESSAGE_ID_STEP, Frame, MessageType, after, before, is_known, name_of, refusal_of
 
 
 class Response(NamedTuple):
@@ -149,19 +139,7 @@ class Synchronous:
     # Frames
 
     def send(self, frame: Frame, timeout: float) -> None:
-        message = frame.pack()
-        try:
-            self._channel.send(message, timeout)
-        except Timeout as fault:
-            # The rest of a message that was sent in part can't be sent later, so nothing more can follow it.
-            self._end_all(*closed_by_client("the server did not read"))
-            raise Timeout(fault.text, session_continues=False) from None
-        except ConnectionError:
-            raise
-        except BaseException:
-            # Ctrl-C, or a signal's handler that raises: as above.
-            self._end_all(*closed_by_client("a write was interrupted"))
-            raise
+        self._channel.send(frame.pack(), timeout)
 
     def receive(self, timeout: float, is_interrupted: bool = True) -> Frame:
         """Returns the next message; raises what an Error, a FatalError or the end of the connection is."""
