@@ -117,8 +117,11 @@ class Frame(NamedTuple):
     parameter: int = 0
     payload: bytes = b""
 
+    def header(self) -> Header:
+        return Header(self.kind, self.control, self.parameter, len(self.payload))
+
     def pack(self) -> bytes:
-        return Header(self.kind, self.control, self.parameter, len(self.payload)).pack() + self.payload
+        return self.header().pack() + self.payload
 
 
 def unpack_header(data: bytes) -> Header:

@@ -22,7 +22,7 @@ from .listening import (
 from .relay_connection import Connection
 from .relay_log import Entry, Event, LogWriter, RotatingFile, json_event, json_line, text_event, text_line
 from .relay_pcap import FILE_HEADER, Packets
-from .relay_rules import Rule, RuleError, Rules, RuleText, parse_rule, parse_rules, parsed_rules
+from .relay_rules import Rule, RuleError, RuleText, parse_rule, parse_rules, parsed_rules
 from .relay_summary import Summary
 from .relay_traffic import Traffic
 
@@ -50,15 +50,11 @@ class Relay(LoopServer):
             self._pcap.add(FILE_HEADER)
         self._traffic = Traffic(parsed_rules(rules, seed), self._write_entry, self._write_event)
         self._entry_line, self._event_line = (json_line, json_event) if is_json else (text_line, text_event)
-        self._log = LogWriter(log, say) if log is not None else None
+        self._log = LogWriter(log, say, self._missing_line) if log is not None else None
 
     def set_rules(self, rules: Iterable[RuleText], seed: int = 0) -> None:
         """Takes other rules, also while it runs: they are for the messages that come from now on, and count anew."""
         self._traffic.rules = parsed_rules(rules, seed)
-
-    def take_rules(self, rules: Iterable[Rule], seed: int) -> None:
-        """Takes rules that are read already, instead of those of the constructor."""
-        self._traffic.rules = Rules(rules, seed)
 
     def unused_rules(self) -> List[str]:
         """Returns the lines of the rules that never applied: often a word in them is wrong."""
@@ -102,19 +98,14 @@ class Relay(LoopServer):
         if self._pcap is not None:
             self._pcap.add(self._packets.of(entry))
         if self._log is not None:
-            self._write_missing()
             self._log.add(self._entry_line(entry))
 
     def _write_event(self, event: Event) -> None:
         if self._log is not None:
-            self._write_missing()
             self._log.add(self._event_line(event))
 
-    def _write_missing(self) -> None:
-        assert self._log is not None
-        missing = self._log.take_missing()
-        if missing:
-            self._log.add(self._event_line(Event(time.time(), 0, "missing", f"{missing} lines had no place here")))
+    def _missing_line(self, count: int) -> str:
+        return self._event_line(Event(time.time(), 0, "missing", f"{count} lines had no place here"))
 
 
 def make_parser() -> argparse.ArgumentParser:
@@ -167,8 +158,7 @@ def run(arguments: argparse.Namespace) -> None:
     rules = read_rules(arguments)
     log = open_log(arguments)
     pcap = open(arguments.pcap, "wb") if arguments.pcap is not None else None
-    relay = Relay(arguments.to, log=log, listen=arguments.listen, is_json=arguments.json, pcap=pcap)
-    relay.take_rules(rules, seed)
+    relay = Relay(arguments.to, rules, log, arguments.listen, seed, arguments.json, pcap)
     read_again = None if arguments.rules is None else lambda: set_again(relay, arguments, seed)
     # Where the log is on standard output, its first line says where the relay listens.
     run_until_signal(relay, log is not sys.stdout, read_again)
@@ -177,7 +167,7 @@ def run(arguments: argparse.Namespace) -> None:
 def set_again(relay: Relay, arguments: argparse.Namespace, seed: int) -> None:
     """Reads the rules again; where one is wrong those before stay."""
     try:
-        relay.take_rules(read_rules(arguments), seed)
+        relay.set_rules(read_rules(arguments), seed)
         say("the rules were read again")
     except (RuleError, OSError) as fault:
         say(f"the rules stay as they were: {fault}")

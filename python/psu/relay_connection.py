@@ -2,15 +2,14 @@
 from __future__ import annotations
 
 import asyncio
-import itertools
 import time
-from typing import Awaitable, Callable, Dict, List, Optional
+from typing import List, Optional, Set
 
 from .frames import HEADER_SIZE, Frame, FrameError, Header, MessageType, unpack_header
 from .listening import close_soon, reset
 from .relay_changes import CHANGES, changed, fault_text
 from .relay_log import MADE_BY_RELAY, Entry, payload_text
-from .relay_rules import Action, Rule, Seen, Side
+from .relay_rules import Rule, Seen, Side
 from .relay_session import Session, Transmissions
 from .relay_traffic import Outlet, Traffic
 
@@ -38,7 +37,7 @@ class Connection:
         self.is_async = False
         self.outlets = {Side.SERVER: Outlet(to_client), Side.CLIENT: Outlet(to_server)}  # by who sends
         self._tasks: "List[asyncio.Task[None]]" = []
-        self.timers: Dict[int, asyncio.TimerHandle] = {}  # of what is still to be repeated
+        self.timers: Set[asyncio.TimerHandle] = set()  # of what is still to be repeated
         self._is_ending = asyncio.Event()
 
     async def run(self, from_client: asyncio.StreamReader, from_server: asyncio.StreamReader) -> None:
@@ -81,7 +80,7 @@ class Connection:
                 task.cancel()
 
     def _end(self) -> None:
-        for timer in self.timers.values():
+        for timer in self.timers:
             timer.cancel()
         for outlet in self.outlets.values():
             close_soon(outlet.writer)
@@ -125,20 +124,6 @@ class Direction:
         self._outlet = connection.outlets[side]
         self._to_client = connection.outlets[Side.SERVER]
         self._transmissions = Transmissions()
-        self._repeats = itertools.count()
-        self._acts: Dict[Action, Callable[[Rule, Header, bytes], Awaitable[None]]] = {
-            Action.DELAY: self._delay,
-            Action.HOLD: self._hold,
-            Action.DROP_BEFORE: self._drop_before,
-            Action.DROP_AFTER: self._drop_after,
-            Action.CUT: self._cut,
-            Action.REFUSE: self._refuse,
-            Action.STOP_READING: self._stop_reading,
-            Action.FATAL_ERROR: self._fatal_error,
-            Action.ERROR: self._error,
-            Action.REPEAT: self._repeat,
-            Action.TRICKLE: self._trickle,
-        }
 
     async def run(self) -> None:
         """Passes frames on until the sender's end of the stream."""
@@ -177,12 +162,11 @@ class Direction:
             self._write(header, payload)
             self._log(header, payload, seconds, "")
             await self._finish(header, payload)
-            return
-        if action in CHANGES:
+        elif action in CHANGES:
             await self._pass_changed(rule, header, payload, seconds)
-            return
-        self._log(header, payload, seconds, f"{fault_text(rule, action)}: {rule.name}")
-        await self._acts[action](rule, header, payload)
+        else:
+            self._log(header, payload, seconds, f"{fault_text(rule, action)}: {rule.name}")
+            await getattr(self, f"_{action.name.lower()}")(rule, header, payload)
 
     # What is known of a message
 
@@ -231,12 +215,13 @@ class Direction:
             query = session.query_of(header.parameter) if is_response else b""
         return self._traffic.rules.choose(Seen(self._side, header.kind, payload, query, number), counts)
 
-    def _log(self, header: Header, payload: bytes, seconds: Optional[float], fault: str) -> None:
+    def _log(
+        self, header: Header, payload: bytes, seconds: Optional[float], fault: str, side: Optional[Side] = None
+    ) -> None:
         connection = self._connection
         number = connection.session.number if connection.session is not None else 0
-        entry = Entry(time.time(), number, connection.is_async, self._side is Side.CLIENT, header.kind,
-                      header.control, header.parameter, header.length, payload, seconds, fault)
-        self._traffic.write_entry(entry)
+        is_from_client = (side or self._side) is Side.CLIENT
+        self._traffic.write_entry(Entry(time.time(), number, connection.is_async, is_from_client, *header, payload, seconds, fault))
 
     # Passing on
 
@@ -290,7 +275,7 @@ class Direction:
             await self._outlet.writer.drain()
             piece = await self._reader.read(PIECE)
 
-    # Faults
+    # Faults: a method for each action that changes nothing
 
     async def _pass_changed(self, rule: Rule, header: Header, payload: bytes, seconds: Optional[float]) -> None:
         new = changed(rule, payload, self._traffic.rules.generator)
@@ -349,26 +334,22 @@ class Direction:
     async def _repeat(self, rule: Rule, header: Header, payload: bytes) -> None:
         await self._pass(header, payload)
         timers = self._connection.timers
-        if len(timers) < MOST_REPEATS:
-            number = next(self._repeats)
-            frame = Frame(header.kind, header.control, header.parameter, payload)
-            timers[number] = asyncio.get_running_loop().call_later(rule.value or 0, self._add_repeated, number, rule, frame)
 
-    def _add_repeated(self, number: int, rule: Rule, frame: Frame) -> None:
-        del self._connection.timers[number]
-        self._add(rule, frame)
+        def repeat() -> None:
+            timers.remove(timer)
+            self._add(rule, Frame(header.kind, header.control, header.parameter, payload))
+
+        if len(timers) < MOST_REPEATS:
+            timer = asyncio.get_running_loop().call_later(rule.value or 0, repeat)
+            timers.add(timer)
 
     def _answer(self, rule: Rule, kind: MessageType, code: int) -> None:
         self._add(rule, Frame(kind, code, 0, ERROR_TEXT))
 
     def _add(self, rule: Rule, frame: Frame) -> None:
         """Sends the client a frame that the server did not send."""
-        connection = self._connection
-        number = connection.session.number if connection.session is not None else 0
         self._to_client.add(frame)
-        self._traffic.write_entry(Entry(time.time(), number, connection.is_async, False, frame.kind, frame.control,
-                                        frame.parameter, len(frame.payload), frame.payload, None,
-                                        f"{MADE_BY_RELAY}: {rule.name}"))
+        self._log(frame.header(), frame.payload, None, f"{MADE_BY_RELAY}: {rule.name}", Side.SERVER)
 
     def _drop(self, rule: Rule) -> None:
         session = self._connection.session

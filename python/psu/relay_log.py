@@ -213,18 +213,22 @@ class RotatingFile(logging.handlers.RotatingFileHandler):
 
 
 class LogWriter(logging.handlers.QueueListener):
-    """Writes lines, or bytes, by a thread of its own. Where the file takes none, they wait, and beyond a limit are left out."""
+    """Writes lines, or bytes, by a thread of its own. Where the file takes none, they wait, and beyond a limit are left out.
+
+    `missing` returns the line that says of so many lines that they were left out; it comes once there is place again.
+    """
 
     def __init__(
-        self, file: Union[IO[Any], RotatingFile], report: Callable[[str], None], limit: int = WAITING_LINES
+        self, file: Union[IO[Any], RotatingFile], report: Callable[[str], None],
+        missing: Optional[Callable[[int], str]] = None, limit: int = WAITING_LINES
     ) -> None:
         super().__init__(queue.SimpleQueue())
         self._file = file
         self._report = report
-        self._limit = limit
+        self._missing_line = missing
         self._missing = 0
-        self._added = 0
-        self._written = 0
+        self._limit = limit
+        self._added = self._written = 0
         self.start()
 
     def add(self, line: Union[str, bytes]) -> bool:
@@ -232,16 +236,15 @@ class LogWriter(logging.handlers.QueueListener):
         if self.queue.qsize() >= self._limit:
             self._missing += 1
             return False
-        self._added += 1
-        self.queue.put(line)
+        if self._missing and self._missing_line is not None:
+            self._put(self._missing_line(self._missing))
+            self._missing = 0
+        self._put(line)
         return True
 
-    def take_missing(self) -> int:
-        """Returns how many lines were left out since the last call; 0 while there is no place to say so."""
-        if not self._missing or self.queue.qsize() >= self._limit:
-            return 0
-        missing, self._missing = self._missing, 0
-        return missing
+    def _put(self, line: Union[str, bytes]) -> None:
+        self._added += 1
+        self.queue.put(line)
 
     def flush(self, seconds: float) -> None:
         """Returns once all lines that were added are written, or after so many seconds."""

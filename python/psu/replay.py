@@ -21,7 +21,7 @@ from typing import Any, Dict, Iterable, Iterator, List, NamedTuple, Optional
 from .channel import connected
 from .command_line import plain_parser
 from .errors import HislipError
-from .frames import Frame, FrameError, MessageType, SocketFrames, control_in_words, name_of
+from .frames import CutShort, Frame, FrameError, MessageType, SocketFrames, control_in_words, name_of
 from .listening import Endpoint, add_server_option
 from .relay_changes import KEPT_BACK
 from .relay_log import MADE_BY_RELAY, payload_text
@@ -29,10 +29,6 @@ from .relay_log import MADE_BY_RELAY, payload_text
 REFUSALS = (MessageType.ERROR, MessageType.FATAL_ERROR)
 KINDS = {name_of(kind): int(kind) for kind in MessageType}
 END = -1  # the type of what ends a session of the log
-
-
-class Unreadable(Exception):
-    """A line that is none of a log of `psu-relay --json`."""
 
 
 class Logged(NamedTuple):
@@ -58,7 +54,7 @@ def logged_messages(lines: Iterable[str]) -> Iterator[Logged]:
             elif "type" in item and not is_left_out(item):
                 yield message_of(number, moment, item)
         except (ValueError, KeyError, AttributeError, TypeError):
-            raise Unreadable(f"line {number} is none of a log of psu-relay --json") from None
+            raise ValueError(f"line {number} is none of a log of psu-relay --json") from None
 
 
 def is_left_out(item: Dict[str, Any]) -> bool:
@@ -70,7 +66,7 @@ def is_left_out(item: Dict[str, Any]) -> bool:
 def message_of(number: int, moment: float, item: Dict[str, Any]) -> Logged:
     payload = base64.b64decode(item.get("data", ""))
     if len(payload) != item["length"]:
-        raise Unreadable(f"line {number}: of {item['length']} bytes the log has {len(payload)}")
+        raise CutShort(f"line {number}: of {item['length']} bytes the log has {len(payload)}")
     kind = KINDS.get(item["type"])
     parameter = item["message_id"] if "message_id" in item else item["parameter"]
     frame = Frame(int(item["type"].split()[-1]) if kind is None else kind, item["control"], parameter, payload)
@@ -219,7 +215,7 @@ def main(words: Optional[List[str]] = None) -> int:
     try:
         with open(arguments.log, encoding="utf-8") as file:
             replay.run(file)
-    except (Unreadable, HislipError, OSError) as fault:
+    except (CutShort, HislipError, OSError, ValueError) as fault:
         print(f"psu-replay: {fault}", file=sys.stderr)
         return 2
     return 1 if replay.differing else 0

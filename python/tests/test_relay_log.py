@@ -100,18 +100,19 @@ class WriterTest(unittest.TestCase):
 
     def test_a_file_that_takes_nothing_holds_up_nobody(self):
         file = BlockedFile()
-        writer = LogWriter(file, self.fail, limit=100)
+        writer = LogWriter(file, self.fail, "{} are missing\n".format, limit=100)
         begun = time.monotonic()
         taken = [writer.add(f"{number}\n") for number in range(1000)]
         self.assertLess(time.monotonic() - begun, 1)
         self.assertTrue(all(taken[:100]))
         self.assertFalse(all(taken))
-        self.assertEqual(writer.take_missing(), 0)  # there is no place to say so yet
         file.go.set()
+        writer.flush(10)
+        self.assertTrue(writer.add("next\n"))
+        self.assertTrue(writer.add("last\n"))
         writer.end(10)
-        self.assertEqual(len(file.getvalue().splitlines()), taken.count(True))
-        self.assertEqual(writer.take_missing(), taken.count(False))
-        self.assertEqual(writer.take_missing(), 0)
+        written = [f"{number}" for number, had_place in enumerate(taken) if had_place]
+        self.assertEqual(file.getvalue().splitlines(), [*written, f"{taken.count(False)} are missing", "next", "last"])
 
     def test_a_fault_is_reported_once(self):
         reports = []
