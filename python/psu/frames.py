@@ -61,16 +61,10 @@ class MessageType(enum.IntEnum):
 
 
 # The types whose parameter is a MessageID.
-WITH_MESSAGE_ID = frozenset(
-    (
-        MessageType.DATA,
-        MessageType.DATA_END,
-        MessageType.TRIGGER,
-        MessageType.INTERRUPTED,
-        MessageType.ASYNC_INTERRUPTED,
-        MessageType.ASYNC_STATUS_QUERY,
-    )
-)
+WITH_MESSAGE_ID = frozenset((
+    MessageType.DATA, MessageType.DATA_END, MessageType.TRIGGER, MessageType.INTERRUPTED, MessageType.ASYNC_INTERRUPTED,
+    MessageType.ASYNC_STATUS_QUERY,
+))
 # The responses of the asynchronous connection, and of the synchronous one but for Data and DataEnd.
 REQUEST_OF: Dict[int, MessageType] = {
     MessageType.INITIALIZE_RESPONSE: MessageType.INITIALIZE,
@@ -274,20 +268,15 @@ LOCK_INFO: Dict[int, str] = {0: "no exclusive lock", 1: "exclusive lock held"}
 STATUS_BITS = ("bit 0", "bit 1", "error queue", "QUES", "MAV", "ESB", "RQS", "OPER")
 
 _CONTROL_WORDS: Dict[int, Dict[int, str]] = {
-    MessageType.INITIALIZE_RESPONSE: MODES,
     MessageType.FATAL_ERROR: FATAL_ERRORS,
     MessageType.ERROR: ERRORS,
     MessageType.ASYNC_LOCK: LOCK_REQUESTS,
     MessageType.ASYNC_LOCK_RESPONSE: LOCK_RESPONSES,
-    MessageType.DATA: DELIVERED,
-    MessageType.DATA_END: DELIVERED,
-    MessageType.TRIGGER: DELIVERED,
-    MessageType.DEVICE_CLEAR_COMPLETE: MODES,
-    MessageType.DEVICE_CLEAR_ACKNOWLEDGE: MODES,
-    MessageType.ASYNC_DEVICE_CLEAR_ACKNOWLEDGE: MODES,
     MessageType.ASYNC_REMOTE_LOCAL_CONTROL: REMOTE_LOCAL,
-    MessageType.ASYNC_STATUS_QUERY: DELIVERED,
     MessageType.ASYNC_LOCK_INFO_RESPONSE: LOCK_INFO,
+    **dict.fromkeys((MessageType.DATA, MessageType.DATA_END, MessageType.TRIGGER, MessageType.ASYNC_STATUS_QUERY), DELIVERED),
+    **dict.fromkeys((MessageType.INITIALIZE_RESPONSE, MessageType.DEVICE_CLEAR_COMPLETE, MessageType.DEVICE_CLEAR_ACKNOWLEDGE,
+                     MessageType.ASYNC_DEVICE_CLEAR_ACKNOWLEDGE), MODES),
 }
 _STATUS_BYTES = (MessageType.ASYNC_SERVICE_REQUEST, MessageType.ASYNC_STATUS_RESPONSE)
 
