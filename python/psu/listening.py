@@ -13,7 +13,7 @@ from typing import Callable, List, NamedTuple, Optional, Set, Tuple, TypeVar, Un
 
 from .command_line import plain_parser
 from .errors import ServerNotStarted
-from .frames import DEFAULT_PORT, HEADER_SIZE, LARGEST_PAYLOAD, CutShort, Frame, Header, allowed_length, unpack_header
+from .frames import DEFAULT_PORT, HEADER_SIZE, LARGEST_PAYLOAD, CutShort, Frame, allowed_length, unpack_header
 from .relay_rules import RuleError
 
 SERVER_ADDRESS = "127.0.0.1"
@@ -35,29 +35,27 @@ class Endpoint(NamedTuple):
 
 def parse_endpoint(text: str) -> Endpoint:
     """Reads `ADDRESS:PORT`, `[ADDRESS]:PORT` for IPv6, or `PORT` alone, which means 127.0.0.1."""
-    address, _, port = text.rpartition(":")
-    address = address[1:-1] if address.startswith("[") and address.endswith("]") else address
     try:
-        return Endpoint(str(ipaddress.ip_address(address or SERVER_ADDRESS)), parse_port(port, least=0))
+        address, port = split_endpoint(text, least_port=0)
+        return Endpoint(str(ipaddress.ip_address(address)), port)
     except ValueError:
         raise argparse.ArgumentTypeError(f"{text!r} is not ADDRESS:PORT, as 127.0.0.1:4881") from None
 
 
-def parse_port(text: str, least: int = 1) -> int:
-    port = int(text)
-    if not least <= port <= 65535:
-        raise ValueError(f"{port} is not a port")
-    return port
-
-
 def parse_server(text: str) -> Endpoint:
     """Reads where a server is: `PORT` on 127.0.0.1, or `HOST:PORT` with a name or an address."""
-    host, _, port = text.rpartition(":")
-    host = host[1:-1] if host.startswith("[") and host.endswith("]") else host
     try:
-        return Endpoint(host or SERVER_ADDRESS, parse_port(port))
+        return split_endpoint(text, least_port=1)
     except ValueError:
         raise argparse.ArgumentTypeError(f"{text!r} is not a port, or HOST:PORT") from None
+
+
+def split_endpoint(text: str, least_port: int) -> Endpoint:
+    host, _, port = text.rpartition(":")
+    host = host[1:-1] if host.startswith("[") and host.endswith("]") else host
+    if not least_port <= int(port) <= 65535:
+        raise ValueError(f"{port} is not a port")
+    return Endpoint(host or SERVER_ADDRESS, int(port))
 
 
 Target = Union[int, Endpoint]  # where a server is; a port alone is one of this machine
@@ -202,25 +200,17 @@ class LoopServer:
             ready.set()
 
 
-async def read_header(reader: asyncio.StreamReader) -> Optional[Header]:
-    """Returns the next header, None where the stream ends before its first byte."""
-    try:
-        return unpack_header(await reader.readexactly(HEADER_SIZE))
-    except asyncio.IncompleteReadError as end:
-        if end.partial:
-            raise CutShort("the stream ended in the middle of a header") from None
-        return None
-
-
 async def read_frame(reader: asyncio.StreamReader, largest: int = LARGEST_PAYLOAD) -> Optional[Frame]:
     """Returns the next frame of an asyncio stream, None where the stream ends before it."""
-    header = await read_header(reader)
-    if header is None:
-        return None
+    head = b""
     try:
+        head = await reader.readexactly(HEADER_SIZE)
+        header = unpack_header(head)
         payload = await reader.readexactly(allowed_length(header, largest))
-    except asyncio.IncompleteReadError:
-        raise CutShort("the stream ended in the middle of a payload") from None
+    except asyncio.IncompleteReadError as end:
+        if not head and not end.partial:
+            return None
+        raise CutShort("the stream ended in the middle of a frame") from None
     return Frame(header.kind, header.control, header.parameter, payload)
 
 

@@ -108,20 +108,16 @@ def _escaped(data: bytes) -> str:
 
 
 ARROWS = {(False, True): "-->", (False, False): "<--", (True, True): "..>", (True, False): "<.."}
-ERRORS = (int(MessageType.FATAL_ERROR), int(MessageType.ERROR))
-
-
-SIZES = (int(MessageType.ASYNC_MAXIMUM_MESSAGE_SIZE), int(MessageType.ASYNC_MAXIMUM_MESSAGE_SIZE_RESPONSE))
+ERRORS = (MessageType.FATAL_ERROR, MessageType.ERROR)
+SIZES = (MessageType.ASYNC_MAXIMUM_MESSAGE_SIZE, MessageType.ASYNC_MAXIMUM_MESSAGE_SIZE_RESPONSE)
+MARKED_EVENTS = ("unanswered", "missing", "no server", "no HiSLIP", "too many")
+USUAL_ENDS = ("closed by the client", "the relay stopped")  # how a session may end without a mark
 
 
 def _shown_payload(entry: Entry) -> str:
     if entry.kind in SIZES and len(entry.payload) == 8:
         return f"{int.from_bytes(entry.payload, 'big')} bytes"
     return payload_text(entry.payload, entry.length)
-
-
-def _has_message_id(entry: Entry) -> bool:
-    return entry.kind in WITH_MESSAGE_ID
 
 
 @functools.lru_cache(maxsize=4)
@@ -133,18 +129,14 @@ def _clock(moment: float) -> str:
     return f"{_second(int(moment))}.{int(moment % 1 * 1e6):06d}"
 
 
-def _session(number: int) -> str:
-    return str(number) if number else "-"
-
-
 def text_line(entry: Entry) -> str:
     """Returns the line of a message. `!` marks the lines of faults and errors."""
     mark = "!" if entry.fault or entry.kind in ERRORS else " "
     arrow = ARROWS[entry.is_async, entry.is_from_client]
-    parameter = f"{entry.parameter:08x}" if _has_message_id(entry) or entry.parameter else ""
+    parameter = f"{entry.parameter:08x}" if entry.kind in WITH_MESSAGE_ID or entry.parameter else ""
     seconds = f"+{entry.seconds * 1000:.1f} ms" if entry.seconds is not None else ""
     what = [words for words in (control_in_words(entry.kind, entry.control), _shown_payload(entry)) if words]
-    line = (f"{_clock(entry.time)} {mark}{_session(entry.session):>3} {arrow} {name_of(entry.kind):<19} "
+    line = (f"{_clock(entry.time)} {mark}{entry.session or '-':>3} {arrow} {name_of(entry.kind):<19} "
             f"{parameter:<8} {seconds:>11}  {'  '.join(what)}")
     return (line + f"  [{entry.fault}]" if entry.fault else line).rstrip() + "\n"
 
@@ -152,11 +144,7 @@ def text_line(entry: Entry) -> str:
 def text_event(event: Event) -> str:
     is_unusual_end = event.name == "ended" and not event.text.startswith(USUAL_ENDS)
     mark = "!" if event.name in MARKED_EVENTS or is_unusual_end else " "
-    return f"{_clock(event.time)} {mark}{_session(event.session):>3} --- {event.name}: {event.text}\n"
-
-
-MARKED_EVENTS = ("unanswered", "missing", "no server", "no HiSLIP", "too many")
-USUAL_ENDS = ("closed by the client", "the relay stopped")  # how a session may end without a mark
+    return f"{_clock(event.time)} {mark}{event.session or '-':>3} --- {event.name}: {event.text}\n"
 
 
 def _moment(moment: float) -> str:
@@ -173,7 +161,7 @@ def json_line(entry: Entry) -> str:
         "type": name_of(entry.kind),
         "control": entry.control,
         "control_words": control_in_words(entry.kind, entry.control),
-        "message_id" if _has_message_id(entry) else "parameter": entry.parameter,
+        "message_id" if entry.kind in WITH_MESSAGE_ID else "parameter": entry.parameter,
         "length": entry.length,
         "payload": _shown_payload(entry),
     }

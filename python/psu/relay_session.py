@@ -6,10 +6,13 @@ from __future__ import annotations
 
 import collections
 import re
-from typing import Deque, Dict, List, NamedTuple, Optional, Protocol
+from typing import TYPE_CHECKING, Deque, Dict, List, NamedTuple, Optional
 
 from .frames import REQUEST_OF, Header, MessageType
 from .relay_rules import Action, Counts, Rule
+
+if TYPE_CHECKING:
+    from .relay_connection import Connection
 
 KEPT_QUERIES = 64  # of a session; beyond it the oldest are no longer known
 KEPT_TEXT = 200  # bytes of a query's text
@@ -46,16 +49,6 @@ def asks(text: bytes) -> bool:
     return False
 
 
-class Joined(Protocol):
-    """What a session knows of a connection."""
-
-    def close(self) -> None:
-        """Closes it to the client and to the server."""
-
-    def wake(self) -> None:
-        """Ends the wait of a rule: the session ends."""
-
-
 class Session:
     """A session: its number in the log, and its messages that wait for a response."""
 
@@ -64,7 +57,7 @@ class Session:
         self.counts: Dict[int, Counts] = {}
         self.messages = 0
         self.end_reason = ""
-        self._connections: List[Joined] = []
+        self._connections: List[Connection] = []
         self._parts = b""  # the begin of a transmission that is not whole yet
         self._queries: "collections.OrderedDict[int, Query]" = collections.OrderedDict()
         self._unanswered: Dict[int, Query] = {}
@@ -76,10 +69,10 @@ class Session:
         for connection in self._connections:
             connection.wake()
 
-    def join(self, connection: Joined) -> None:
+    def join(self, connection: Connection) -> None:
         self._connections.append(connection)
 
-    def leave(self, connection: Joined) -> bool:
+    def leave(self, connection: Connection) -> bool:
         """Removes a connection; returns whether it was the last one."""
         self._connections.remove(connection)
         return not self._connections

@@ -157,7 +157,8 @@ class Server:
 
     def connect(self, timeout: Optional[float] = 5.0, check_errors: bool = False) -> Instrument:
         """Returns a new session."""
-        return Instrument(port=self._used_port(), timeout=timeout, check_errors=check_errors)
+        assert self.port is not None, "the server was started"
+        return Instrument(port=self.port, timeout=timeout, check_errors=check_errors)
 
     def wait(self, timeout: Optional[float] = None) -> int:
         """Waits until the process has ended by itself and returns its exit status, as subprocess.Popen.wait."""
@@ -216,10 +217,6 @@ class Server:
             why = made.stderr.strip() or f"status {made.returncode}, without a message"
             raise ServerNotStarted(f"{self.program} make {self.image}: {why}")
 
-    def _used_port(self) -> int:
-        assert self.port is not None, "the server was started"
-        return self.port
-
     def _start_at_a_free_port(self) -> None:
         for _ in range(TRIES):
             self._port = self._port or free_port()
@@ -239,14 +236,8 @@ class Server:
         command = [self.program, "serve", self.image, "--port", str(port)]
         self._lifeline = Lifeline()
         try:
-            process = subprocess.Popen(
-                command,
-                stdin=self._lifeline.far.fileno(),
-                stdout=subprocess.PIPE,
-                stderr=self._messages,
-                universal_newlines=True,
-                env=self._environment,
-            )
+            process = subprocess.Popen(command, stdin=self._lifeline.far.fileno(), stdout=subprocess.PIPE,
+                                       stderr=self._messages, universal_newlines=True, env=self._environment)
         except OSError as fault:
             raise ServerNotStarted(f"{self.program} can't be run: {fault.strerror}") from None
         self.process = process
