@@ -57,7 +57,6 @@ class Instrument:
         self._lock_call = threading.Lock()  # of the thread that asks for a lock or a release
         self._has_exclusive = False
         self._has_shared = False
-        self._asynchronous: Optional[Asynchronous] = None
         self._channels: List[Channel] = []
         self._end_all = ender(self._channels)
         try:
@@ -95,7 +94,7 @@ class Instrument:
     def close(self) -> None:
         """Ends the session, also while other threads wait. Its locks are released, its waiting messages discarded."""
         self._end_all(*closed_by_client("close() was called"))
-        if self._asynchronous is not None:
+        if hasattr(self, "_asynchronous"):
             self._asynchronous.join()
         # The sockets are given back once the thread that was woken has left them.
         with self._turn.for_a_while(1.0) as is_taken:
@@ -173,15 +172,15 @@ class Instrument:
         A thread of its own calls it, one request at a time, so it may use this session. What it raises goes to
         `threading.excepthook`. Read the status byte in it: the next request comes only after that.
         """
-        self._background.set_callback(callback)
+        self._asynchronous.set_callback(callback)
 
     def wait_for_service_request(self, timeout: Optional[float]) -> int:
         """Returns the status byte of the oldest service request; raises Timeout where none comes in so many seconds."""
-        return self._background.wait_for_request(math.inf if timeout is None else timeout)
+        return self._asynchronous.wait_for_request(math.inf if timeout is None else timeout)
 
     def drop_service_requests(self) -> int:
         """Forgets the service requests that came and were not fetched, and returns how many they were."""
-        return self._background.drop_requests()
+        return self._asynchronous.drop_requests()
 
     # Locks
 
@@ -291,10 +290,5 @@ class Instrument:
     def _patience(self) -> float:
         return math.inf if self.timeout is None else max(self.timeout, LEAST_WAIT)
 
-    @property
-    def _background(self) -> Asynchronous:
-        assert self._asynchronous is not None, "the session has begun"
-        return self._asynchronous
-
     def _ask(self, frame: Frame, response_kind: int, more: float = 0.0) -> Frame:
-        return self._background.ask(frame, response_kind, self._patience, self._patience + more)
+        return self._asynchronous.ask(frame, response_kind, self._patience, self._patience + more)

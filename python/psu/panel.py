@@ -14,7 +14,7 @@ import argparse
 import collections
 import http.server
 import json
-import os
+import pkgutil
 import sys
 import threading
 import time
@@ -205,28 +205,22 @@ class Watch(threading.Thread):
         ask(supply, f":SIM:LOAD{output} {milliohms};:SIM:LOAD{output}?")
 
     def _read(self) -> Optional[Values]:
+        """Returns the values; where they can't be read, notes why."""
         try:
             if self._supply is None:
                 self._supply = Instrument(port=self._port, timeout=1.0)
             values = look(self._supply)
         except Locked as fault:
-            self._change("locked", str(fault))
+            self._state = ("locked", str(fault))
             return None
         except (HislipError, OSError) as fault:
-            self._disconnect()
-            self._change("lost", str(fault))
+            if self._supply is not None:
+                self._supply.close()
+                self._supply = None
+            self._state = ("lost", str(fault))
             return None
-        self._change("live", "")
+        self._state = ("live", "")
         return values
-
-    def _disconnect(self) -> None:
-        if self._supply is not None:
-            self._supply.close()
-            self._supply = None
-
-    def _change(self, state: str, note: str) -> None:
-        with self._guard:
-            self._state = (state, note)
 
     def _keep(self, values: Values) -> None:
         outputs = values["outputs"]
@@ -309,9 +303,8 @@ class Handler(http.server.BaseHTTPRequestHandler):
 
 
 def file_of(name: str) -> str:
-    """Returns a file of the page."""
-    with open(os.path.join(os.path.dirname(os.path.abspath(__file__)), name), encoding="utf-8") as file:
-        return file.read()
+    """Returns a file of the page, which is beside this module."""
+    return (pkgutil.get_data("psu", name) or b"").decode()
 
 
 def number_in(query: str, name: str) -> int:

@@ -61,8 +61,7 @@ class Session:
         self._to = to
         self._writers: List[asyncio.StreamWriter] = []
         self._next_id = FIRST_MESSAGE_ID
-        # RMT-delivered: a response was passed on whole since the last message was sent.
-        self._is_delivered = False
+        self.is_delivered = False  # RMT-delivered: a response was passed on whole since the last message was sent
 
     async def begin(self) -> None:
         self._sync = await self._connect()
@@ -81,8 +80,8 @@ class Session:
         kind = MessageType.DATA_END if is_end else MessageType.DATA
         message_id, self._next_id = self._next_id, after(self._next_id)
         writer = self._sync[1]
-        writer.write(Frame(kind, int(self._is_delivered), message_id, data).pack())
-        self._is_delivered = False
+        writer.write(Frame(kind, int(self.is_delivered), message_id, data).pack())
+        self.is_delivered = False
         await writer.drain()
         return message_id
 
@@ -97,9 +96,6 @@ class Session:
             if frame.kind == MessageType.FATAL_ERROR:
                 raise Refused(control_in_words(frame.kind, frame.control))
             say(f"{name_of(frame.kind)} of the server: {control_in_words(frame.kind, frame.control)}")
-
-    def note_delivered(self) -> None:
-        self._is_delivered = True
 
     async def discard_requests(self) -> None:
         """Reads the asynchronous connection until it ends: a raw socket has no place for service requests."""
@@ -168,19 +164,13 @@ class Client:
             frame = await self._session.receive()
             if frame.parameter == self._last_id:
                 return
-            await self._pass_response(frame)
-            if frame.kind == MessageType.DATA_END:
-                self._session.note_delivered()
-
-    async def _pass_response(self, frame: Frame) -> None:
-        # A client that has gone without reading its responses has its messages executed all the same.
-        if self._is_gone:
-            return
-        try:
             is_end = frame.kind == MessageType.DATA_END
-            await self._faults.take_response(self._writer, frame.parameter, frame.payload, is_end)
-        except ConnectionError:
-            self._is_gone = True
+            try:
+                if not self._is_gone:
+                    await self._faults.take_response(self._writer, frame.parameter, frame.payload, is_end)
+            except ConnectionError:
+                self._is_gone = True  # its messages are executed all the same
+            self._session.is_delivered |= is_end
 
 
 class RawSocket(LoopServer):

@@ -51,16 +51,11 @@ def logged_messages(lines: Iterable[str]) -> Iterator[Logged]:
             moment = datetime.datetime.fromisoformat(item["time"]).timestamp()
             if item.get("event") == "ended":
                 yield Logged(number, moment, item["session"], False, True, 0, Frame(END))
-            elif "type" in item and not is_left_out(item):
+            # What the server did not get, or did not send, is left out.
+            elif "type" in item and not item.get("fault", "").startswith(KEPT_BACK if item["from"] == "client" else MADE_BY_RELAY):
                 yield message_of(number, moment, item)
         except (ValueError, KeyError, AttributeError, TypeError):
             raise ValueError(f"line {number} is none of a log of psu-relay --json") from None
-
-
-def is_left_out(item: Dict[str, Any]) -> bool:
-    """Whether the server did not get a message, or did not send it."""
-    fault = item.get("fault", "")
-    return bool(fault.startswith(MADE_BY_RELAY) or item["from"] == "client" and fault.startswith(KEPT_BACK))
 
 
 def message_of(number: int, moment: float, item: Dict[str, Any]) -> Logged:
@@ -81,7 +76,7 @@ class Session:
         self._to = to
         self._timeout = timeout
         self._connections = {False: self._connected()}
-        self._early: Dict[bool, List[Frame]] = collections.defaultdict(list)  # that came before the log has them
+        self.early: Dict[bool, List[Frame]] = collections.defaultdict(list)  # that came before the log has them
         self._expected = b""  # of a response in several frames
         self._number = 0
 
@@ -107,10 +102,6 @@ class Session:
             now = now._replace(parameter=frame.parameter)
         return None if now == frame else f"{shown(frame)} in the log, {shown(now)} now"
 
-    def left(self) -> List[Frame]:
-        """Returns what came that the log does not have."""
-        return [*self._early[False], *self._early[True]]
-
     def close(self) -> None:
         for it in self._connections.values():
             it.connection.close()
@@ -120,7 +111,7 @@ class Session:
 
     def _answer_like(self, is_async: bool, frame: Frame, deadline: float) -> Frame:
         """Returns what comes of the same type, and of a response with the same MessageID, or a refusal in its place."""
-        early, payload = self._early[is_async], b""
+        early, payload = self.early[is_async], b""
         while True:
             for it in early:
                 if it.kind == frame.kind and (it.kind != MessageType.DATA_END or it.parameter == frame.parameter):
@@ -182,20 +173,18 @@ class Replay:
                 session.send(logged.is_async, logged.frame)
             else:
                 self.compared += logged.frame.kind != MessageType.DATA
-                self._report(logged, session.answer(logged.is_async, logged.frame, logged.seconds))
+                difference = session.answer(logged.is_async, logged.frame, logged.seconds)
+                if difference is not None:
+                    self._say(f"line {logged.line}, session {logged.session}: {difference}")
         except (OSError, FrameError) as fault:
-            self._report(logged, f"the session was lost: {fault}")
+            self._say(f"line {logged.line}, session {logged.session} was lost: {fault}")
             self._sessions.pop(logged.session).close()
 
     def _close(self, number: int) -> None:
         session = self._sessions.pop(number)
         session.close()
-        for frame in session.left():
+        for frame in [*session.early[False], *session.early[True]]:
             self._say(f"session {number}: not in the log: {shown(frame)}")
-
-    def _report(self, logged: Logged, difference: Optional[str]) -> None:
-        if difference is not None:
-            self._say(f"line {logged.line}, session {logged.session}: {difference}")
 
     def _say(self, text: str) -> None:
         self.differing += 1
