@@ -14,16 +14,11 @@ import sys
 import threading
 from typing import List, Optional
 
+from . import panel, raw_socket, relay
 from .command_line import plain_parser
 from .errors import ServerNotStarted
 from .frames import DEFAULT_PORT
 from .listening import SERVER_ADDRESS, Endpoint, status_of
-from .panel import DEFAULT_PORT as PANEL_PORT
-from .panel import Panel
-from .raw_socket import DEFAULT_PORT as RAW_PORT
-from .raw_socket import RawSocket
-from .relay import DEFAULT_PORT as RELAY_PORT
-from .relay import Relay
 from .relay_log import RotatingFile
 from .resource import Resource
 from .server import Server
@@ -31,45 +26,35 @@ from .server import Server
 LOOK_SECONDS = 0.2  # between two looks whether the server runs
 
 
-class Bench:
+class Bench(contextlib.ExitStack):
     """What runs, in a `with` block."""
 
     def __init__(self, arguments: argparse.Namespace) -> None:
+        super().__init__()
         self._arguments = arguments
-        self._parts = contextlib.ExitStack()
         self._changing = threading.Lock()  # while the server is killed and started again
         self._shown = ""  # of what it wrote to standard error
         self._server = Server(arguments.image, port=arguments.port)
 
-    def __enter__(self) -> Bench:
-        try:
-            self._start()
-        except BaseException:
-            self._parts.close()
-            raise
-        return self
-
-    def __exit__(self, *_: object) -> None:
-        self._parts.close()
-
-    def _start(self) -> None:
-        given, enter = self._arguments, self._parts.enter_context
+    def start(self) -> None:
+        """Starts all parts, and prints their addresses."""
+        given, enter = self._arguments, self.enter_context
         port = enter(self._server).port
         assert port is not None
         say("server", port, str(Resource(SERVER_ADDRESS, port)))
         before = port
         if given.relay is not None:
             log = RotatingFile(given.log) if given.log is not None else None
-            before = enter(Relay(port, given.rule, log, Endpoint(SERVER_ADDRESS, given.relay), given.seed)).port
+            before = enter(relay.Relay(port, given.rule, log, Endpoint(SERVER_ADDRESS, given.relay), given.seed)).port
             say("relay", before, str(Resource(SERVER_ADDRESS, before)))
         if given.socket is not None:
-            raw = enter(RawSocket(before, Endpoint(SERVER_ADDRESS, given.socket))).port
+            raw = enter(raw_socket.RawSocket(before, Endpoint(SERVER_ADDRESS, given.socket))).port
             say("socket", raw, f"TCPIP::{SERVER_ADDRESS}::{raw}::SOCKET")
         if given.panel is not None:
-            panel = enter(Panel(port, given.panel, cut_power=self._cut_power))
-            threading.Thread(target=panel.serve_forever, daemon=True).start()
-            self._parts.callback(panel.shutdown)
-            say("panel", panel.server_port, panel.address)
+            page = enter(panel.Panel(port, given.panel, cut_power=self._cut_power))
+            threading.Thread(target=page.serve_forever, daemon=True).start()
+            self.callback(page.shutdown)
+            say("panel", page.server_port, page.address)
 
     def _cut_power(self) -> None:
         with self._changing:
@@ -98,9 +83,9 @@ def made_parser() -> argparse.ArgumentParser:
     made = plain_parser(__doc__, "python3 -m psu")
     made.add_argument("image", metavar="IMAGE", help="the image, as bench.psu")
     made.add_argument("--port", type=int, default=DEFAULT_PORT, help=f"the server's port ({DEFAULT_PORT})")
-    for name, port, what in (("relay", RELAY_PORT, "a relay"), ("socket", RAW_PORT, "raw sockets"),
-                             ("panel", PANEL_PORT, "a panel")):
-        made.add_argument(f"--{name}", type=int, nargs="?", const=port, metavar="PORT", help=f"{what}, at this port ({port})")
+    for name, of in (("relay", relay), ("socket", raw_socket), ("panel", panel)):
+        what = f"psu-{name}, at this port ({of.DEFAULT_PORT})"
+        made.add_argument(f"--{name}", type=int, nargs="?", const=of.DEFAULT_PORT, metavar="PORT", help=what)
     made.add_argument("--rule", action="append", default=[], help="a rule of the relay, as `psu-relay --rule`")
     made.add_argument("--log", metavar="FILE", help="where the relay writes the traffic")
     made.add_argument("--seed", type=int, default=0, help="the seed of the rules with a probability (0)")
@@ -119,6 +104,7 @@ def main(words: Optional[List[str]] = None) -> int:
 
     def run() -> None:
         with Bench(arguments) as bench:
+            bench.start()
             bench.run(stopping)
 
     return status_of("psu", run)

@@ -3,6 +3,7 @@ from __future__ import annotations
 
 import collections
 import concurrent.futures
+import math
 import sys
 import threading
 import time
@@ -12,7 +13,6 @@ from .channel import Channel, EndAll, closed_by_client, finite
 from .errors import FatalError, HislipError, ProtocolError, ServerError, Timeout
 from .frames import Frame, MessageType, is_known, name_of, refusal_of
 
-WITHOUT_END = 3600.0  # seconds that the reading thread waits at once
 JOIN_TIMEOUT = 1.0  # seconds
 REFUSAL_TIMEOUT = 1.0  # seconds in which a server reads that one of its messages is unknown
 MOST_REQUESTS = 1000  # service requests that are kept; of more the oldest are forgotten
@@ -123,7 +123,7 @@ class Asynchronous:
     def _read(self) -> None:
         try:
             while True:
-                self._take(self._receive())
+                self._take(self._channel.receive(math.inf))
         except (HislipError, OSError) as end:
             with self._changed:
                 self._end = end
@@ -132,13 +132,6 @@ class Asynchronous:
                 self._changed.notify_all()
             if isinstance(end, (FatalError, ProtocolError)):
                 self._end_all(*closed_by_client(str(end)))
-
-    def _receive(self) -> Frame:
-        while True:
-            try:
-                return self._channel.receive(WITHOUT_END)
-            except Timeout:
-                continue
 
     def _take(self, frame: Frame) -> None:
         text = frame.payload.decode("utf-8", "replace")

@@ -14,7 +14,7 @@ import queue
 import re
 import threading
 import time
-from typing import IO, Any, Callable, Dict, List, NamedTuple, Optional, Union
+from typing import IO, Any, Callable, Dict, NamedTuple, Optional, Union
 
 from .frames import WITH_MESSAGE_ID, MessageType, control_in_words, name_of
 
@@ -53,7 +53,8 @@ class Event(NamedTuple):
 # Payloads
 
 
-BLOCK = re.compile(rb"#([1-9])")
+# How a definite block begins; the group that is found has its length.
+BLOCK = re.compile(b"#(?:%b)" % b"|".join(b"%d([0-9]{%d})" % (digits, digits) for digits in range(1, 10)))
 
 
 def payload_text(payload: bytes, length: int) -> str:
@@ -61,39 +62,22 @@ def payload_text(payload: bytes, length: int) -> str:
 
     `payload` has the first bytes, and `length` is the number of all.
     """
-    pieces: List[str] = []
-    at = 0
-    while at < len(payload) and len(pieces) < 8:
+    text, at = "", 0
+    found = BLOCK.search(payload)
+    while found is not None and len(text) <= SHOWN_PAYLOAD:
+        size = int(found[found.lastindex or 0])
+        content = payload[found.end() : found.end() + size]
+        is_whole = size <= SHOWN_BLOCK and len(content) == size
+        text += _escaped(payload[at : found.end()] + (content if is_whole else b"%b..(%d bytes)" % (content[:SHOWN_BLOCK], size)))
+        at = found.end() + size
         found = BLOCK.search(payload, at)
-        begin, size = _block_in(payload, found)
-        if begin < 0:
-            break
-        pieces.append(_escaped(payload[at:begin]) + _block_text(payload[begin : begin + size], size))
-        at = begin + size
     rest = payload[at : at + SHOWN_PAYLOAD]
-    text = "".join(pieces) + _escaped(rest)
+    text += _escaped(rest)
     shown = at + len(rest)
     is_last_byte_alone = len(payload) < shown == length - 1  # the line feed after a block, whose bytes are left out
     if len(text) > SHOWN_PAYLOAD or shown < length and not is_last_byte_alone:
         return f"{text[:SHOWN_PAYLOAD]}..({length} bytes)"
     return text
-
-
-def _block_in(payload: bytes, found: Optional["re.Match[bytes]"]) -> "tuple[int, int]":
-    """Returns where the content of a block begins and its size; -1 where no block was found."""
-    if found is None:
-        return -1, 0
-    begin = found.end() + int(found.group(1))
-    digits = payload[found.end() : begin]
-    if len(digits) != int(found.group(1)) or not digits.isdigit():
-        return -1, 0
-    return begin, int(digits)
-
-
-def _block_text(content: bytes, size: int) -> str:
-    if size <= SHOWN_BLOCK and len(content) == size:
-        return _escaped(content)
-    return f"{_escaped(content[:SHOWN_BLOCK])}..({size} bytes)"
 
 
 _ESCAPES: Dict[int, str] = {byte: f"\\x{byte:02x}" for byte in [*range(32), *range(127, 256)]}

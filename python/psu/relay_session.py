@@ -9,6 +9,7 @@ import re
 from typing import TYPE_CHECKING, Deque, Dict, List, NamedTuple, Optional
 
 from .frames import REQUEST_OF, Header, MessageType
+from .relay_log import BLOCK
 from .relay_rules import Action, Counts, Rule
 
 if TYPE_CHECKING:
@@ -30,23 +31,17 @@ class Query(NamedTuple):
     moment: float
 
 
-STRING_OR_BLOCK = re.compile(rb"\"[^\"]*\"|'[^']*'|#([1-9])")
+STRING_OR_BLOCK = re.compile(b"\"[^\"]*\"|'[^']*'|" + BLOCK.pattern)
 
 
 def asks(text: bytes) -> bool:
     """Returns whether a message has a `?` outside of strings and blocks, as queries have."""
     at = 0
-    while at < len(text):
+    found = STRING_OR_BLOCK.search(text)
+    while found is not None and b"?" not in text[at : found.start()]:
+        at = found.end() + int(found[found.lastindex] if found.lastindex else 0)
         found = STRING_OR_BLOCK.search(text, at)
-        if b"?" in text[at : found.start() if found else len(text)]:
-            return True
-        if found is None:
-            return False
-        at = found.end()
-        if found.group(1):
-            length = text[at : at + int(found.group(1))]
-            at += len(length) + (int(length) if length.isdigit() else 0)
-    return False
+    return b"?" in text[at : found.start() if found else len(text)]
 
 
 class Session:

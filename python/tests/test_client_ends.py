@@ -220,7 +220,7 @@ class Locks(ScriptCase):
     def test_what_can_t_be_sent_leaves_nothing_that_waits(self):
         self.begin()
         with self.assertRaises(struct.error):
-            self.client._background.ask(Frame(MessageType.ASYNC_LOCK, 1, -1), MessageType.ASYNC_LOCK_RESPONSE, 1, 1)
+            self.client._asynchronous.ask(Frame(MessageType.ASYNC_LOCK, 1, -1), MessageType.ASYNC_LOCK_RESPONSE, 1, 1)
         self.serve(1)
         self.client.lock(1)
 
