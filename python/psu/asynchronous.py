@@ -9,7 +9,7 @@ import threading
 import time
 from typing import Callable, Deque, List, NamedTuple, Optional
 
-from .channel import Channel, EndAll, closed_by_client, finite
+from .channel import Channel, EndAll, closed_by_client, finite, unanswered
 from .errors import FatalError, HislipError, ProtocolError, ServerError, Timeout
 from .frames import Frame, MessageType, is_known, name_of, refusal_of
 
@@ -60,9 +60,7 @@ class Asynchronous:
             if ask.answer.done():
                 raise
             # The response, if it came later, would be taken for the response to the next message.
-            name = name_of(frame.kind)
-            self._end_all(*closed_by_client(f"the server did not answer {name} in time"))
-            raise Timeout(f"no response to {name} in {timeout:g} s", session_continues=False) from None
+            raise unanswered(name_of(frame.kind), timeout, self._end_all) from None
 
     def wait_for_request(self, timeout: float) -> int:
         """Returns the status byte of the oldest service request."""

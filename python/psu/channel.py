@@ -142,3 +142,9 @@ def ender(channels: List[Channel]) -> EndAll:
 
 def closed_by_client(why: str) -> End:
     return SessionClosed, f"this client closed the session: {why}"
+
+
+def unanswered(name: str, timeout: float, end_all: EndAll) -> Timeout:
+    """Ends the session; returns the exception for a message that has no response, without which it can't continue."""
+    end_all(*closed_by_client(f"the server did not answer {name} in time"))
+    return Timeout(f"no response to {name} in {timeout:g} s", session_continues=False)

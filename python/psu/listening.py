@@ -3,6 +3,7 @@ from __future__ import annotations
 
 import argparse
 import asyncio
+import concurrent.futures
 import ipaddress
 import signal
 import socket
@@ -120,7 +121,6 @@ class LoopServer:
         self._thread: Optional[threading.Thread] = None
         self._loop: Optional[asyncio.AbstractEventLoop] = None
         self._stopping: Optional[asyncio.Event] = None
-        self._fault: Optional[BaseException] = None
 
     async def serve(self, reader: asyncio.StreamReader, writer: asyncio.StreamWriter) -> None:
         """Serves one connection until it ends."""
@@ -173,12 +173,10 @@ class LoopServer:
     # In a thread
 
     def __enter__(self: Self) -> Self:
-        ready = threading.Event()
+        ready: "concurrent.futures.Future[None]" = concurrent.futures.Future()
         self._thread = threading.Thread(target=self._run_thread, args=(ready,), daemon=True)
         self._thread.start()
-        ready.wait()
-        if self._fault is not None:
-            raise self._fault
+        ready.result()
         return self
 
     def __exit__(self, *_: object) -> None:
@@ -187,17 +185,15 @@ class LoopServer:
             self._thread.join()
             self._thread = None
 
-    def _run_thread(self, ready: threading.Event) -> None:
+    def _run_thread(self, ready: "concurrent.futures.Future[None]") -> None:
         async def run() -> None:
             self._loop, self._stopping = asyncio.get_running_loop(), asyncio.Event()
-            await self.run(ready.set, self._stopping)
+            await self.run(lambda: ready.set_result(None), self._stopping)
 
         try:
             asyncio.run(run())
         except OSError as fault:
-            self._fault = fault
-        finally:
-            ready.set()
+            ready.set_exception(fault)
 
 
 async def read_frame(reader: asyncio.StreamReader, largest: int = LARGEST_PAYLOAD) -> Optional[Frame]:

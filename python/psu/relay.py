@@ -22,7 +22,7 @@ from .listening import (
 from .relay_connection import Connection
 from .relay_log import Entry, Event, LogWriter, RotatingFile, json_event, json_line, text_event, text_line
 from .relay_pcap import FILE_HEADER, Packets
-from .relay_rules import Rule, RuleError, RuleText, parse_rule, parse_rules, parsed_rules
+from .relay_rules import Rule, RuleError, RuleText, parse_rules, parsed_rules
 from .relay_summary import Summary
 from .relay_traffic import Traffic
 
@@ -123,19 +123,11 @@ def make_parser() -> argparse.ArgumentParser:
 
 
 def read_rules(arguments: argparse.Namespace) -> List[Rule]:
-    rules: List[Rule] = []
-    if arguments.rules is not None:
-        with open(arguments.rules, encoding="utf-8") as file:
-            try:
-                rules = parse_rules(file.read())
-            except RuleError as fault:
-                raise RuleError(f"{arguments.rules}, {fault}") from None
-    for number, line in enumerate(arguments.rule, 1):
-        try:
-            rules.append(parse_rule(line, f"option {number}"))
-        except RuleError as fault:
-            raise RuleError(f"--rule {line!r}: {fault}") from None
-    return rules
+    rules = parse_rules(arguments.rule, "option", lambda _, line: f"--rule {line!r}")
+    if arguments.rules is None:
+        return rules
+    with open(arguments.rules, encoding="utf-8") as file:
+        return parse_rules(file, "rule", lambda number, _: f"{arguments.rules}, line {number}") + rules
 
 
 def open_log(arguments: argparse.Namespace) -> Union[TextIO, RotatingFile, None]:

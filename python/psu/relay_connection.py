@@ -181,7 +181,7 @@ class Direction:
         session.messages += 1
         if self._side is Side.SERVER:
             if header.kind == MessageType.INITIALIZE_RESPONSE:
-                self._traffic.sessions.name(header.parameter & 0xFFFF, session)
+                self._traffic.sessions[header.parameter & 0xFFFF] = session
             if header.kind == MessageType.DEVICE_CLEAR_ACKNOWLEDGE:
                 # Up to here a response may have been under way.
                 self._traffic.report_unanswered(session)
@@ -200,7 +200,7 @@ class Direction:
             peer = self._to_client.writer.get_extra_info("peername") or ("?", 0)
             self._traffic.event(connection.session, "began", f"a client at {peer[0]} port {peer[1]}")
         elif header.kind == MessageType.ASYNC_INITIALIZE:
-            session = self._traffic.sessions.find(header.parameter)
+            session = self._traffic.sessions.get(header.parameter)
             if session is not None:
                 connection.join(session, is_async=True)
 

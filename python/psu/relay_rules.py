@@ -354,13 +354,13 @@ def parsed_rules(rules: Iterable[RuleText], seed: int) -> Rules:
     return Rules(parsed, seed)
 
 
-def parse_rules(text: str) -> List[Rule]:
-    """Reads a rule file: a rule a line, empty lines, and comments that begin with `#`."""
+def parse_rules(lines: Iterable[str], name: str = "rule", where: Callable[[int, str], str] = "line {}".format) -> List[Rule]:
+    """Reads rules, of which a line may be empty or a comment that begins with `#`; `where` says which line is wrong."""
     rules = []
-    for number, line in enumerate(text.splitlines(), 1):
+    for number, line in enumerate(lines, 1):
         try:
             if Words(line):
-                rules.append(parse_rule(line, f"rule {number}"))
+                rules.append(parse_rule(line, f"{name} {number}"))
         except RuleError as fault:
-            raise RuleError(f"line {number}: {fault}") from None
+            raise RuleError(f"{where(number, line)}: {fault}") from None
     return rules

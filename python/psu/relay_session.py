@@ -5,6 +5,7 @@ Nothing here sends or receives: relay.py does.
 from __future__ import annotations
 
 import collections
+import itertools
 import re
 from typing import TYPE_CHECKING, Deque, Dict, List, NamedTuple, Optional
 
@@ -153,25 +154,16 @@ class Transmissions:
         return action if action in ON_EACH_FRAME else None
 
 
-class Sessions:
-    """All sessions that are open: a second connection finds its own by the number that the server gave it."""
+class Sessions(Dict[int, Session]):
+    """All sessions that are open, by the number that the server gave each: a second connection finds its own by that."""
 
     def __init__(self) -> None:
-        self._last = 0
-        self._by_server_number: Dict[int, Session] = {}
+        super().__init__()
+        self._numbers = itertools.count(1)
 
     def open(self) -> Session:
-        self._last += 1
-        return Session(self._last)
-
-    def name(self, server_number: int, session: Session) -> None:
-        """Notes the number that InitializeResponse gave a session."""
-        self._by_server_number[server_number] = session
-
-    def find(self, server_number: int) -> Optional[Session]:
-        return self._by_server_number.get(server_number)
+        return Session(next(self._numbers))
 
     def remove(self, session: Session) -> None:
-        for number in [number for number, one in self._by_server_number.items() if one is session]:
-            del self._by_server_number[number]
-
+        for number in [number for number, one in self.items() if one is session]:
+            del self[number]

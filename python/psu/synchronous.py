@@ -4,7 +4,7 @@ from __future__ import annotations
 import time
 from typing import NamedTuple
 
-from .channel import Channel, EndAll, closed_by_client
+from .channel import Channel, EndAll, closed_by_client, unanswered
 from .errors import FatalError, ProtocolError, ServerError, Timeout
 from .frames import FIRST_MESSAGE_ID, MESSAGE_ID_STEP, Frame, MessageType, after, before, is_known, name_of, refusal_of
 
@@ -31,7 +31,6 @@ class Synchronous:
 
     def reset(self) -> None:
         """Both sides begin with the same MessageID, at the start and after a device clear."""
-        self._next_id = FIRST_MESSAGE_ID
         self.sent_id = before(FIRST_MESSAGE_ID)
         self._frames = 0  # that were sent
         self._frames_before = 0  # that were sent before the message whose response is read
@@ -44,7 +43,7 @@ class Synchronous:
         try:
             response = self.receive(timeout)
         except Timeout:
-            raise Timeout(f"no response to Initialize in {timeout:g} s", session_continues=False) from None
+            raise unanswered("Initialize", timeout, self._end_all) from None
         if response.kind != MessageType.INITIALIZE_RESPONSE:
             raise ProtocolError("the server begins no session")
         return response
@@ -99,11 +98,12 @@ class Synchronous:
         return float("inf") if rest else steps
 
     def _send_data(self, kind: int, payload: bytes, timeout: float) -> None:
-        self.send(Frame(kind, int(self.is_delivered), self._next_id, payload), timeout)
+        message_id = after(self.sent_id)
+        self.send(Frame(kind, int(self.is_delivered), message_id, payload), timeout)
+        self.sent_id = message_id
         self._frames += 1
         self.is_delivered = False
         self._response.clear()
-        self.sent_id, self._next_id = self._next_id, after(self._next_id)
 
     def _refuse(self, frame: Frame) -> None:
         if is_known(frame.kind):
@@ -116,25 +116,18 @@ class Synchronous:
         """Completes a device clear; returns whether the server agrees to synchronized mode."""
         self.send(Frame(MessageType.DEVICE_CLEAR_COMPLETE), timeout)
         deadline = time.monotonic() + timeout
-        try:
-            frame = self._receive_discarded(deadline)
-            while frame.kind != MessageType.DEVICE_CLEAR_ACKNOWLEDGE:
-                frame = self._receive_discarded(deadline)
-        except Timeout:
-            # The acknowledgement, if it came later, would end the next device clear too early.
-            self._end_all(*closed_by_client("the server did not answer DeviceClearComplete in time"))
-            raise Timeout(f"no response to DeviceClearComplete in {timeout:g} s", session_continues=False) from None
+        frame = Frame(MessageType.ERROR)
+        while frame.kind != MessageType.DEVICE_CLEAR_ACKNOWLEDGE:
+            try:
+                frame = self.receive(deadline - time.monotonic(), is_interrupted=False)
+            except Timeout:
+                # The acknowledgement, if it came later, would end the next device clear too early.
+                raise unanswered("DeviceClearComplete", timeout, self._end_all) from None
+            except ServerError as error:
+                if isinstance(error, FatalError):
+                    raise  # any other is that of a message that is discarded
         self.reset()
         return not frame.control & 1
-
-    def _receive_discarded(self, deadline: float) -> Frame:
-        """Receives a message before the end of a device clear. An Error is that of a message that is discarded."""
-        try:
-            return self.receive(deadline - time.monotonic(), is_interrupted=False)
-        except FatalError:
-            raise
-        except ServerError as error:
-            return Frame(MessageType.ERROR, error.code)
 
     # Frames
 

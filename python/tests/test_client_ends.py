@@ -188,7 +188,7 @@ class MessageIds(ScriptCase):
 
     def test_one_to_an_earlier_message_is_dropped_also_after_the_ids_wrapped(self):
         self.begin()
-        self.client._messages._next_id = 0xFFFF_FFFE
+        self.client._messages.sent_id = 0xFFFF_FFFC
         self.client._messages._frames = 127  # so many frames lead there
         for _ in range(2):
             self.client.write("A?")
