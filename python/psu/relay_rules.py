@@ -29,23 +29,44 @@ class Side(enum.Enum):
     SERVER = "server"
 
 
-class Action(enum.Enum):
-    """What happens to a message to which a rule applies."""
+class Value(NamedTuple):
+    """The value of an action: its limits, and whether it may be missing."""
 
-    DELAY = "delay"
-    HOLD = "hold"
-    DROP_BEFORE = "drop-before"
-    DROP_AFTER = "drop-after"
-    CUT = "cut"
-    REFUSE = "refuse"
-    STOP_READING = "stop-reading"
-    FATAL_ERROR = "fatal-error"
-    ERROR = "error"
-    REPEAT = "repeat"
-    CORRUPT = "corrupt"
+    what: str
+    least: float
+    most: float
+    is_optional: bool = False
+
+
+SECONDS = Value("seconds", 0, 86400)
+CODE = Value("a code", 0, 255, True)
+
+
+class Action(enum.Enum):
+    """What happens to a message to which a rule applies: the word in the rule, its value, and what the log says."""
+
+    needs: Optional[Value]
+    text: str
+
+    def __new__(cls, word: str, needs: Optional[Value] = None, text: str = "") -> Action:
+        made = object.__new__(cls)
+        made._value_, made.needs, made.text = word, needs, text
+        return made
+
+    DELAY = "delay", SECONDS, "delayed {} s"
+    HOLD = "hold", None, "held back"
+    DROP_BEFORE = "drop-before", None, "connection dropped before it"
+    DROP_AFTER = "drop-after", None, "connection dropped after it"
+    CUT = "cut", Value("a number of bytes", 0, 1 << 32, True), "cut after {} bytes, connection dropped"
+    REFUSE = "refuse", None, "session refused"
+    STOP_READING = "stop-reading", SECONDS._replace(is_optional=True), "nothing more is read"
+    FATAL_ERROR = "fatal-error", CODE, "FatalError instead, connection dropped"
+    ERROR = "error", CODE, "Error instead"
+    REPEAT = "repeat", SECONDS, "repeated after {} s"
+    CORRUPT = "corrupt", Value("a number of bytes", 1, 65536, True)
     REPLACE = "replace"
-    NOISE = "noise"
-    TRICKLE = "trickle"
+    NOISE = "noise", Value("a standard deviation", 0, 1e9)
+    TRICKLE = "trickle", None, "in pieces, each after {} s"
 
 
 class Seen(NamedTuple):
@@ -188,28 +209,6 @@ ONLY_KIND: Dict[Action, MessageType] = {
 }
 
 
-class Value(NamedTuple):
-    """The value of an action: its limits, and whether it may be missing."""
-
-    what: str
-    least: float
-    most: float
-    is_optional: bool
-
-
-CODES = Value("a code", 0, 255, True)
-VALUES: Dict[Action, Value] = {
-    Action.DELAY: Value("seconds", 0, 86400, False),
-    Action.REPEAT: Value("seconds", 0, 86400, False),
-    Action.STOP_READING: Value("seconds", 0, 86400, True),
-    Action.CUT: Value("a number of bytes", 0, 1 << 32, True),
-    Action.FATAL_ERROR: CODES,
-    Action.ERROR: CODES,
-    Action.CORRUPT: Value("a number of bytes", 1, 65536, True),
-    Action.NOISE: Value("a standard deviation", 0, 1e9, False),
-}
-
-
 class Words:
     """The words of a line, read one after another."""
 
@@ -300,8 +299,8 @@ def _read_value(rule: Rule, words: Words) -> None:
         rule.new = words.text("the new text")
     elif rule.action is Action.TRICKLE:
         rule.size = words.count("a number of bytes")
-        rule.value = words.number("seconds", 0, 86400)
-    value = VALUES.get(rule.action)
+        rule.value = words.number(*SECONDS[:3])
+    value = rule.action.needs
     if value is not None and (re.fullmatch(r"[0-9.]+", words.next()) or not value.is_optional):
         rule.value = words.number(value.what, value.least, value.most)
 
