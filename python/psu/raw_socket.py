@@ -8,6 +8,7 @@ requests.
 from __future__ import annotations
 
 import asyncio
+import functools
 import sys
 from typing import Iterable, List, Optional, Tuple
 
@@ -20,7 +21,7 @@ from .listening import (
 )
 from .raw_faults import Disconnected, RawFaults, check_rules
 from .raw_messages import LARGEST_PART, Divider
-from .relay_rules import RuleText, parsed_rules
+from .relay_rules import RuleText, Side, parsed_rules
 
 PROGRAM = "psu-socket"
 DEFAULT_PORT = 5025
@@ -28,16 +29,13 @@ VENDOR = int.from_bytes(b"PY", "big")  # two letters by which a client names its
 BEGIN_SECONDS = 10.0  # the longest wait for the server to begin a session
 # It changes nothing, and its response comes after those to all messages before it.
 LAST_MESSAGE = b"*STB?\n"
+say = functools.partial(report, PROGRAM)
 
 Stream = Tuple[asyncio.StreamReader, asyncio.StreamWriter]
 
 
 class Refused(Exception):
     """The server begins no session, or ended it."""
-
-
-def say(text: str) -> None:
-    report(PROGRAM, text)
 
 
 async def ask(stream: Stream, frame: Frame, response: MessageType) -> Frame:
@@ -153,11 +151,11 @@ class Client:
         self._last_id = await self._session.send(LAST_MESSAGE, True)
 
     async def _pass_message(self, data: bytes, is_end: bool) -> None:
-        passed = await self._faults.take_command(data, is_end)
+        passed = await self._faults.take_command(data)
         if passed is not None:
             self._faults.note_text(await self._session.send(passed, is_end), passed)
         if is_end:
-            self._faults.end_command()
+            self._faults.end_message(Side.CLIENT)
 
     async def _pass_responses(self) -> None:
         while True:
@@ -167,10 +165,12 @@ class Client:
             is_end = frame.kind == MessageType.DATA_END
             try:
                 if not self._is_gone:
-                    await self._faults.take_response(self._writer, frame.parameter, frame.payload, is_end)
+                    await self._faults.take_response(self._writer, frame.parameter, frame.payload)
             except ConnectionError:
                 self._is_gone = True  # its messages are executed all the same
-            self._session.is_delivered |= is_end
+            if is_end:
+                self._faults.end_message(Side.SERVER)
+                self._session.is_delivered = True
 
 
 class RawSocket(LoopServer):

@@ -9,6 +9,7 @@ from __future__ import annotations
 import argparse
 import asyncio
 import atexit
+import functools
 import logging
 import random
 import sys
@@ -28,10 +29,7 @@ from .relay_traffic import Traffic
 
 PROGRAM = "psu-relay"
 DEFAULT_PORT = 4881
-
-
-def say(text: str) -> None:
-    report(PROGRAM, text)
+say = functools.partial(report, PROGRAM)
 
 
 class Relay(LoopServer):
