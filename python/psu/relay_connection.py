@@ -128,36 +128,27 @@ class Direction:
     async def run(self) -> None:
         """Passes frames on until the sender's end of the stream."""
         while True:
-            head = await self._read(HEADER_SIZE)
-            if len(head) < HEADER_SIZE:
-                return await self._pass_end(head)
+            head = b""
             try:
+                head = await self._reader.readexactly(HEADER_SIZE)
                 header = unpack_header(head)
+                size = header.length if header.length <= WHOLE_PAYLOAD else 0
+                await self._take(header, await self._reader.readexactly(size) if size else b"")
+            except asyncio.IncompleteReadError as end:
+                return await self._pass_end(head + end.partial)
             except FrameError:
                 return await self._pass_raw(head)
-            size = header.length if header.length <= WHOLE_PAYLOAD else 0
-            payload = await self._read(size)
-            if len(payload) < size:
-                return await self._pass_end(head + payload)
-            try:
-                await self._take(header, payload)
             except EndOfStream:
                 return
-
-    async def _read(self, size: int) -> bytes:
-        """Returns so many bytes, or fewer where the stream ends before."""
-        try:
-            return await self._reader.readexactly(size)
-        except asyncio.IncompleteReadError as end:
-            return end.partial
 
     async def _take(self, header: Header, payload: bytes) -> None:
         begins = self._transmissions.begins_message(header)
         seconds = self._note(header, payload)
-        rule, action = self._transmissions.rule, self._transmissions.rest_action()
         if begins:
             rule = self._transmissions.rule = self._choose(header, payload)
             action = rule.action if rule is not None else None
+        else:
+            rule, action = self._transmissions.rule, self._transmissions.rest_action()
         if rule is None or action is None:
             self._write(header, payload)
             self._log(header, payload, seconds, "")
@@ -215,13 +206,12 @@ class Direction:
             query = session.query_of(header.parameter) if is_response else b""
         return self._traffic.rules.choose(Seen(self._side, header.kind, payload, query, number), counts)
 
-    def _log(
-        self, header: Header, payload: bytes, seconds: Optional[float], fault: str, side: Optional[Side] = None
-    ) -> None:
-        connection = self._connection
+    def _log(self, header: Header, payload: bytes, seconds: Optional[float], fault: str, side: Optional[Side] = None) -> None:
+        connection, is_from_client = self._connection, (side or self._side) is Side.CLIENT
         number = connection.session.number if connection.session is not None else 0
-        is_from_client = (side or self._side) is Side.CLIENT
-        self._traffic.write_entry(Entry(time.time(), number, connection.is_async, is_from_client, *header, payload, seconds, fault))
+        kind, control, parameter, length = header
+        self._traffic.write_entry(Entry(time.time(), number, connection.is_async, is_from_client, kind, control, parameter,
+                                        length, payload, seconds, fault))
 
     # Passing on
 
@@ -247,7 +237,8 @@ class Direction:
             self._outlet.write(piece)
             await self._outlet.writer.drain()
             left -= len(piece)
-        self._outlet.end()
+        if self._outlet.is_inside:
+            self._outlet.end()
 
     async def _pass(self, header: Header, payload: bytes) -> None:
         self._write(header, payload)

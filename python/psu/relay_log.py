@@ -119,9 +119,9 @@ def text_line(entry: Entry) -> str:
     arrow = ARROWS[entry.is_async, entry.is_from_client]
     parameter = f"{entry.parameter:08x}" if entry.kind in WITH_MESSAGE_ID or entry.parameter else ""
     seconds = f"+{entry.seconds * 1000:.1f} ms" if entry.seconds is not None else ""
-    what = [words for words in (control_in_words(entry.kind, entry.control), _shown_payload(entry)) if words]
+    what = "  ".join(filter(None, (control_in_words(entry.kind, entry.control), _shown_payload(entry))))
     line = (f"{_clock(entry.time)} {mark}{entry.session or '-':>3} {arrow} {name_of(entry.kind):<19} "
-            f"{parameter:<8} {seconds:>11}  {'  '.join(what)}")
+            f"{parameter:<8} {seconds:>11}  {what}")
     return (line + f"  [{entry.fault}]" if entry.fault else line).rstrip() + "\n"
 
 
@@ -209,14 +209,11 @@ class LogWriter(logging.handlers.QueueListener):
             self._missing += 1
             return False
         if self._missing and self._missing_line is not None:
-            self._put(self._missing_line(self._missing))
-            self._missing = 0
-        self._put(line)
-        return True
-
-    def _put(self, line: Union[str, bytes]) -> None:
+            missing, self._missing = self._missing, 0
+            self.add(self._missing_line(missing))
         self._added += 1
         self.queue.put(line)
+        return True
 
     def flush(self, seconds: float) -> None:
         """Returns once all lines that were added are written, or after so many seconds."""

@@ -42,7 +42,7 @@ class Outlet:
 
     def __init__(self, writer: asyncio.StreamWriter) -> None:
         self.writer = writer
-        self._is_inside = False
+        self.is_inside = False
         self._added: List[bytes] = []
 
     def write(self, data: bytes) -> None:
@@ -51,17 +51,17 @@ class Outlet:
 
     def begin(self) -> None:
         """A frame begins that is written in several pieces."""
-        self._is_inside = True
+        self.is_inside = True
 
     def end(self) -> None:
         """It has ended."""
-        self._is_inside = False
+        self.is_inside = False
         for data in self._added:
             self.write(data)
         self._added.clear()
 
     def add(self, frame: Frame) -> None:
-        if self._is_inside:
+        if self.is_inside:
             self._added.append(frame.pack())
         else:
             self.write(frame.pack())
