@@ -99,6 +99,11 @@ class Channel:
             self._end = end
 
     @property
+    def is_waiting(self) -> bool:
+        """Whether all that came is kept: a frame that `receive` returned is, once its caller waits for the next."""
+        return self._frames.is_waiting
+
+    @property
     def end(self) -> Optional[End]:
         """Why the connection has ended; None while it is open."""
         return self._end

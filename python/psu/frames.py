@@ -180,6 +180,7 @@ class SocketFrames:
         self.connection = connection
         self._largest = largest
         self._received = bytearray()
+        self.is_waiting = True  # for a signal that raises: whether all that was taken from the socket is kept
         self._ready, self._socket_alone = SELECTOR(), SELECTOR()
         self._ready.register(connection, selectors.EVENT_READ)
         self._socket_alone.register(connection, selectors.EVENT_READ)
@@ -218,6 +219,7 @@ class SocketFrames:
 
     def _wait(self, deadline: Optional[float], ready: selectors.BaseSelector) -> None:
         """Waits until the socket can be read. Its own timeout is that of a thread which sends."""
+        self.is_waiting = True
         files: List[object] = []
         while not files:
             left = LONGEST_SELECT if deadline is None else deadline - time.monotonic()
@@ -226,6 +228,7 @@ class SocketFrames:
                 raise TimeoutError("no frame in time")
         if files != [self.connection]:
             raise Interrupted
+        self.is_waiting = False
 
 
 # In words

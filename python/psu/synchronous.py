@@ -5,8 +5,10 @@ import time
 from typing import NamedTuple
 
 from .channel import Channel, EndAll, closed_by_client, unanswered
-from .errors import FatalError, ProtocolError, ServerError, Timeout
-from .frames import FIRST_MESSAGE_ID, MESSAGE_ID_STEP, Frame, MessageType, after, before, is_known, name_of, refusal_of
+from .errors import FatalError, HislipError, ProtocolError, ServerError, Timeout
+from .frames import (
+    FIRST_MESSAGE_ID, MESSAGE_ID_STEP, Frame, Interrupted, MessageType, after, before, is_known, name_of, refusal_of,
+)
 
 
 class Response(NamedTuple):
@@ -71,19 +73,27 @@ class Synchronous:
 
         After a Timeout what came of a response is kept, and the next call continues with it.
         """
-        while True:
-            frame = self.receive(deadline - time.monotonic())
-            if frame.kind == MessageType.INTERRUPTED:
-                self._response.clear()
-            elif frame.kind not in (MessageType.DATA, MessageType.DATA_END):
-                self._refuse(frame)
-            elif not self._is_of_earlier_message(frame.parameter):
-                self._response += frame.payload
-                if frame.kind == MessageType.DATA_END:
-                    response = Response(frame.parameter, bytes(self._response))
+        try:
+            while True:
+                frame = self.receive(deadline - time.monotonic())
+                if frame.kind == MessageType.INTERRUPTED:
                     self._response.clear()
-                    self.is_delivered = True
-                    return response
+                elif frame.kind not in (MessageType.DATA, MessageType.DATA_END):
+                    self._refuse(frame)
+                elif not self._is_of_earlier_message(frame.parameter):
+                    self._response += frame.payload
+                    if frame.kind == MessageType.DATA_END:
+                        response = Response(frame.parameter, bytes(self._response))
+                        self._response.clear()
+                        self.is_delivered = True
+                        return response
+        except (HislipError, OSError, Interrupted):
+            raise
+        except BaseException:
+            # Ctrl-C: while nothing comes it takes nothing away, but bytes that were just received would be lost.
+            if not self._channel.is_waiting:
+                self._end_all(*closed_by_client("a read was interrupted"))
+            raise
 
     def has_sent(self, message_id: int) -> bool:
         """Whether a frame with this MessageID was sent. A server may leave open to which message it responds."""

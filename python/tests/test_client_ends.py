@@ -1,9 +1,11 @@
 """Tests of how a session ends, or continues, where a server or a signal does what it seldom does."""
 import signal
+import socket
 import struct
 import threading
 import time
 import unittest
+from unittest import mock
 
 from psu import ConnectionLost, Instrument, LockInfo, ProtocolError, ServerError, SessionClosed, Timeout
 from psu.frames import FIRST_MESSAGE_ID, HEADER_SIZE, Frame, MessageType
@@ -108,6 +110,24 @@ class Signals(ScriptCase):
         self.interrupt(self.client.read)
         self.sync.sendall(CutShort.FRAME[20:])
         self.assertEqual(self.client.read(), "5.000")
+
+    def test_a_read_that_is_broken_with_bytes_in_hand_ends_the_session(self):
+        receive_bytes = socket.socket.recv
+
+        def broken(connection, size):
+            received = receive_bytes(connection, size)
+            if threading.current_thread() is threading.main_thread():
+                raise KeyboardInterrupt  # as where a signal falls before the next step of the interpreter
+            return received
+
+        self.begin()
+        self.client.write("A?")
+        self.sync.sendall(CutShort.FRAME[:20])
+        with mock.patch.object(socket.socket, "recv", broken), self.assertRaises(KeyboardInterrupt):
+            self.client.read()
+        self.sync.sendall(CutShort.FRAME[20:])
+        with self.assertRaisesRegex(SessionClosed, "this client closed the session: a read was interrupted"):
+            self.client.read()
 
 
 class Unknown(ScriptCase):
