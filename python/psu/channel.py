@@ -77,7 +77,9 @@ class Channel:
 
         Raises Interrupted where the channel's interrupt is set, unless `is_interrupted` is false.
         """
-        self._raise_end()
+        # What came before the server closed the other connection is still read.
+        if self._end is not None and (self._end[0] is SessionClosed or self._socket.fileno() < 0):
+            self._raise_end()
         try:
             frame = self._frames.receive(finite(timeout), is_interrupted)
         except TimeoutError:

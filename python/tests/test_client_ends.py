@@ -130,6 +130,25 @@ class Signals(ScriptCase):
             self.client.read()
 
 
+class OtherConnection(ScriptCase):
+    """Where the server closes one connection, what it sent on the other before is read first."""
+
+    def test_a_response_before_the_end_of_the_asynchronous_connection(self):
+        self.begin()
+        self.client.write("A?")
+        self.sync.sendall(CutShort.FRAME)
+        self.asynchronous.close()
+        while self.client._channels[0].end is None:
+            time.sleep(0.01)
+        self.assertEqual(self.client.read(), "5.000")
+        for call in (self.client.read, lambda: self.client.query("B?"), self.client.read_stb):
+            with self.assertRaisesRegex(ConnectionLost, "the server closed the connection"):
+                call()
+        self.client.close()
+        with self.assertRaises(ConnectionLost):
+            self.client.read()
+
+
 class Unknown(ScriptCase):
     """Messages that HiSLIP 1.0 does not have are answered with Error and ignored."""
 
