@@ -9,7 +9,7 @@ import threading
 import time
 from typing import Callable, Deque, List, NamedTuple, Optional
 
-from .channel import Channel, EndAll, closed_by_client, finite, unanswered
+from .channel import Channel, Ending, closed_by_client, finite, unanswered
 from .errors import FatalError, HislipError, ProtocolError, ServerError, Timeout
 from .frames import Frame, MessageType, is_known, name_of, refusal_of
 
@@ -33,7 +33,7 @@ class Asynchronous:
     `end_all` is called with the reason where the session can't continue.
     """
 
-    def __init__(self, channel: Channel, end_all: EndAll) -> None:
+    def __init__(self, channel: Channel, end_all: Ending) -> None:
         self._channel = channel
         self._end_all = end_all
         self._changed = threading.Condition()

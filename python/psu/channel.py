@@ -5,14 +5,32 @@ import errno
 import ipaddress
 import socket
 import threading
-from typing import Callable, List, Optional, Tuple, Type
+from typing import List, Optional, Tuple, Type
 
 from .errors import ConnectionLost, ProtocolError, SessionClosed, Timeout
 from .frames import CutShort, Frame, FrameError, Interrupt, SocketFrames
 
 LOST = "the server closed the connection"
 End = Tuple[Type[ConnectionError], str]  # why a connection has ended
-EndAll = Callable[[Type[ConnectionError], str], None]
+
+
+class Ending:
+    """How a session ends: all its connections at once, for one reason, the first. It does not hold the session itself."""
+
+    def __init__(self) -> None:
+        self.channels: List[Channel] = []
+        self.reason: Optional[End] = None
+
+    def __call__(self, kind: Type[ConnectionError], why: str) -> None:
+        self.reason = self.reason or (kind, why)
+        for channel in self.channels:
+            channel.shut()
+
+    def check(self) -> None:
+        """Raises the reason where the session has ended."""
+        if self.reason is not None:
+            kind, why = self.reason
+            raise kind(why)
 
 
 def finite(seconds: float) -> Optional[float]:
@@ -48,16 +66,15 @@ class Channel:
     """
 
     def __init__(
-        self, host: str, port: int, timeout: float, end_all: EndAll, interrupt: Optional[Interrupt] = None
+        self, host: str, port: int, timeout: float, end_all: Ending, interrupt: Optional[Interrupt] = None
     ) -> None:
         self._end_all = end_all
         self._socket = connected(host, port, timeout)
         self._frames = SocketFrames(self._socket, interrupt=interrupt)
-        self._end: Optional[End] = None
 
     def send(self, message: bytes, timeout: float) -> None:
         """Sends a packed message. Where that fails a part of it may be sent, which nothing can follow: the session ends."""
-        self._raise_end()
+        self._end_all.check()
         # With a timeout of 0 the socket would not wait, and would not raise the exception of a timeout.
         self._socket.settimeout(finite(max(timeout, 0.001)))
         try:
@@ -78,8 +95,9 @@ class Channel:
         Raises Interrupted where the channel's interrupt is set, unless `is_interrupted` is false.
         """
         # What came before the server closed the other connection is still read.
-        if self._end is not None and (self._end[0] is SessionClosed or self._socket.fileno() < 0):
-            self._raise_end()
+        reason = self._end_all.reason
+        if reason is not None and (reason[0] is SessionClosed or self._socket.fileno() < 0):
+            self._end_all.check()
         try:
             frame = self._frames.receive(finite(timeout), is_interrupted)
         except TimeoutError:
@@ -87,7 +105,7 @@ class Channel:
         except CutShort:
             raise self._lost(f"{LOST} in the middle of a message") from None
         except FrameError as fault:
-            self._raise_end()
+            self._end_all.check()
             raise ProtocolError(f"the server sent no HiSLIP message: {fault}") from None
         except OSError:
             raise self._lost(LOST) from None
@@ -95,20 +113,10 @@ class Channel:
             raise self._lost(LOST)
         return frame
 
-    def note_end(self, end: End) -> None:
-        """Notes why the connection ends, before it is ended from this side. The first reason stays."""
-        if self._end is None:
-            self._end = end
-
     @property
     def is_waiting(self) -> bool:
         """Whether all that came is kept: a frame that `receive` returned is, once its caller waits for the next."""
         return self._frames.is_waiting
-
-    @property
-    def end(self) -> Optional[End]:
-        """Why the connection has ended; None while it is open."""
-        return self._end
 
     def shut(self) -> None:
         """Ends the connection, and wakes a thread that waits in `receive`."""
@@ -124,34 +132,16 @@ class Channel:
     def _lost(self, why: str) -> ConnectionError:
         """Ends the session; returns why it has ended, which may have been noted before."""
         self._end_all(ConnectionLost, why)
-        assert self._end is not None
-        kind, why = self._end
+        assert self._end_all.reason is not None
+        kind, why = self._end_all.reason
         return kind(why)
-
-    def _raise_end(self) -> None:
-        if self._end is not None:
-            kind, why = self._end
-            raise kind(why)
-
-
-def ender(channels: List[Channel]) -> EndAll:
-    """Returns a function that ends all connections of a session. It does not hold the session itself."""
-
-    def end_all(kind: Type[ConnectionError], why: str) -> None:
-        # Once one connection has ended the server ends the other, for the same reason.
-        for channel in channels:
-            channel.note_end((kind, why))
-        for channel in channels:
-            channel.shut()
-
-    return end_all
 
 
 def closed_by_client(why: str) -> End:
     return SessionClosed, f"this client closed the session: {why}"
 
 
-def unanswered(name: str, timeout: float, end_all: EndAll) -> Timeout:
+def unanswered(name: str, timeout: float, end_all: Ending) -> Timeout:
     """Ends the session; returns the exception for a message that has no response, without which it can't continue."""
     end_all(*closed_by_client(f"the server did not answer {name} in time"))
     return Timeout(f"no response to {name} in {timeout:g} s", session_continues=False)

@@ -14,7 +14,7 @@ from typing import Iterator, List, NamedTuple, Optional
 
 from .asynchronous import Asynchronous, Callback
 from .blocks import block_content, definite_block, encoded
-from .channel import Channel, closed_by_client, ender
+from .channel import Channel, Ending, closed_by_client
 from .errors import HislipError, LockError, LockRefusal, ProtocolError, ScpiError, Timeout
 from .exchange import Exchange, Wait, wait_of
 from .frames import DEFAULT_PORT, HEADER_SIZE, LARGEST_PAYLOAD, PROTOCOL_1_0, Frame, Interrupt, MessageType
@@ -57,8 +57,7 @@ class Instrument:
         self._lock_call = threading.Lock()  # of the thread that asks for a lock or a release
         self._has_exclusive = False
         self._has_shared = False
-        self._channels: List[Channel] = []
-        self._end_all = ender(self._channels)
+        self._end_all = Ending()
         try:
             self._initialize()
         except BaseException:
@@ -78,7 +77,7 @@ class Instrument:
         self.close()
 
     def __repr__(self) -> str:
-        end = self._channels[0].end if self._channels else None
+        end = self._end_all.reason
         return f"<Instrument {self.resource}, {'open' if end is None else end[1]}>"
 
     def __del__(self) -> None:
@@ -98,7 +97,7 @@ class Instrument:
             self._asynchronous.join()
         # The sockets are given back once the thread that was woken has left them.
         with self._turn.for_a_while(1.0) as is_taken:
-            for channel in self._channels if is_taken else ():
+            for channel in self._end_all.channels if is_taken else ():
                 channel.release()
 
     # Messages
@@ -283,7 +282,7 @@ class Instrument:
 
     def _opened(self, interrupt: Optional[Interrupt] = None) -> Channel:
         channel = Channel(self._where.host, self._where.port, self._patience, self._end_all, interrupt)
-        self._channels.append(channel)
+        self._end_all.channels.append(channel)
         return channel
 
     @property

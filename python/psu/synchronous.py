@@ -4,7 +4,7 @@ from __future__ import annotations
 import time
 from typing import NamedTuple
 
-from .channel import Channel, EndAll, closed_by_client, unanswered
+from .channel import Channel, Ending, closed_by_client, unanswered
 from .errors import FatalError, HislipError, ProtocolError, ServerError, Timeout
 from .frames import (
     FIRST_MESSAGE_ID, MESSAGE_ID_STEP, Frame, Interrupted, MessageType, after, before, is_known, name_of, refusal_of,
@@ -24,7 +24,7 @@ class Synchronous:
     `end_all` is called with the reason where the session can't continue.
     """
 
-    def __init__(self, channel: Channel, end_all: EndAll) -> None:
+    def __init__(self, channel: Channel, end_all: Ending) -> None:
         self._channel = channel
         self._end_all = end_all
         self.room = 1  # bytes of payload that the server takes, once it has said so

@@ -138,7 +138,7 @@ class OtherConnection(ScriptCase):
         self.client.write("A?")
         self.sync.sendall(CutShort.FRAME)
         self.asynchronous.close()
-        while self.client._channels[0].end is None:
+        while self.client._end_all.reason is None:
             time.sleep(0.01)
         self.assertEqual(self.client.read(), "5.000")
         for call in (self.client.read, lambda: self.client.query("B?"), self.client.read_stb):
