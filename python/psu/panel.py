@@ -162,40 +162,25 @@ class Watch(threading.Thread):
 
     def __init__(self, port: int, interval: float, seconds: float) -> None:
         super().__init__(daemon=True)
-        self._port = port
-        self._interval = interval
-        self._seconds = seconds
         self._supply: Optional[Instrument] = None
         self._guard = threading.Lock()
-        self._state = ("lost", "not connected yet")
-        self._values: Optional[Values] = None
+        # What a page shows; `last` is the number of the newest point.
+        self._shown: Values = {"state": "lost", "note": "not connected yet", "values": None, "last": 0,
+                               "port": port, "seconds": seconds, "interval": interval}
         self._read_at = time.monotonic()
         self._points: Deque[Tuple[int, float, List[float]]] = collections.deque(maxlen=int(seconds / interval) + 1)
-        self._number = 0
 
     def run(self) -> None:
         while True:
-            values = self._read()
-            if values is not None:
-                self._keep(values)
-            time.sleep(self._interval)
+            self._read()
+            time.sleep(self._shown["interval"])
 
     def report(self, last: int) -> Values:
-        """Returns what a page shows that has the points up to number `last`."""
+        """Returns what a page shows that has the points up to number `last`: of each new point its age and its values."""
         now = time.monotonic()
         with self._guard:
-            return {
-                "state": self._state[0],
-                "note": self._state[1],
-                "age": now - self._read_at,
-                "port": self._port,
-                "seconds": self._seconds,
-                "interval": self._interval,
-                "values": self._values,
-                # The newest number and, of each new point, its age and its values.
-                "last": self._number,
-                "points": [[now - at, *point] for number, at, point in self._points if number > last],
-            }
+            points = [[now - at, *point] for number, at, point in self._points if number > last]
+            return {**self._shown, "age": now - self._read_at, "points": points}
 
     def set_load(self, output: int, milliohms: int) -> None:
         """Sets the load of an output; raises Locked, or what the session raises."""
@@ -204,32 +189,26 @@ class Watch(threading.Thread):
             raise Locked("not connected")
         ask(supply, f":SIM:LOAD{output} {milliohms};:SIM:LOAD{output}?")
 
-    def _read(self) -> Optional[Values]:
-        """Returns the values; where they can't be read, notes why."""
+    def _read(self) -> None:
+        """Reads the values; where they can't be read, notes why."""
         try:
             if self._supply is None:
-                self._supply = Instrument(port=self._port, timeout=1.0)
-            values = look(self._supply)
+                self._supply = Instrument(port=self._shown["port"], timeout=1.0)
+            self._keep(look(self._supply))
         except Locked as fault:
-            self._state = ("locked", str(fault))
-            return None
+            self._shown.update(state="locked", note=str(fault))
         except (HislipError, OSError) as fault:
             if self._supply is not None:
                 self._supply.close()
                 self._supply = None
-            self._state = ("lost", str(fault))
-            return None
-        self._state = ("live", "")
-        return values
+            self._shown.update(state="lost", note=str(fault))
 
     def _keep(self, values: Values) -> None:
-        outputs = values["outputs"]
-        point = [it[key] for key in ("volts", "amperes") for it in outputs]
         with self._guard:
-            self._values = values
             self._read_at = time.monotonic()
-            self._number += 1
-            self._points.append((self._number, self._read_at, point))
+            self._shown.update(state="live", note="", values=values, last=self._shown["last"] + 1)
+            point = [it[key] for key in ("volts", "amperes") for it in values["outputs"]]
+            self._points.append((self._shown["last"], self._read_at, point))
 
 
 class Panel(http.server.ThreadingHTTPServer):
