@@ -154,7 +154,8 @@ def metadata_text() -> bytes:
         "Classifier": "Private :: Do Not Upload",  # while no licence is chosen; indexes refuse it
         "Description-Content-Type": "text/markdown",
     }
-    return "".join(f"{key}: {value}\n" for key, value in fields.items()).encode() + b"\n" + Path(FOLDER, "README.md").read_bytes()
+    lines = "".join(f"{key}: {value}\n" for key, value in fields.items())
+    return f"{lines}\n".encode() + Path(FOLDER, "README.md").read_bytes()
 
 
 def entry_points() -> str:

@@ -2,8 +2,8 @@
 
     python3 -m psu bench.psu --socket --relay --panel --rule 'delay 2 response to "MEAS:VOLT?"'
 
-IMAGE is made where it is missing. Prints the address of each, and ends with all of them once the server ends, or at SIGTERM,
-SIGINT or SIGHUP. Raw sockets are before the relay, where there is one; the panel is not, and has a button for a power cut.
+IMAGE is made where it is missing. Prints the address of each, and ends with all of them once the server ends, or at
+SIGTERM, SIGINT or SIGHUP. Raw sockets are before the relay, where there is one; the panel has a button for a power cut.
 """
 from __future__ import annotations
 

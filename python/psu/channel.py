@@ -73,7 +73,7 @@ class Channel:
         self._frames = SocketFrames(self._socket, interrupt=interrupt)
 
     def send(self, message: bytes, timeout: float) -> None:
-        """Sends a packed message. Where that fails a part of it may be sent, which nothing can follow: the session ends."""
+        """Sends a packed message. Where that fails the session ends: nothing can follow a part of a message."""
         self._end_all.check()
         # With a timeout of 0 the socket would not wait, and would not raise the exception of a timeout.
         self._socket.settimeout(finite(max(timeout, 0.001)))

@@ -277,9 +277,10 @@ _CONTROL_WORDS: Dict[int, Dict[int, str]] = {
     MessageType.ASYNC_LOCK_RESPONSE: LOCK_RESPONSES,
     MessageType.ASYNC_REMOTE_LOCAL_CONTROL: REMOTE_LOCAL,
     MessageType.ASYNC_LOCK_INFO_RESPONSE: LOCK_INFO,
-    **dict.fromkeys((MessageType.DATA, MessageType.DATA_END, MessageType.TRIGGER, MessageType.ASYNC_STATUS_QUERY), DELIVERED),
-    **dict.fromkeys((MessageType.INITIALIZE_RESPONSE, MessageType.DEVICE_CLEAR_COMPLETE, MessageType.DEVICE_CLEAR_ACKNOWLEDGE,
-                     MessageType.ASYNC_DEVICE_CLEAR_ACKNOWLEDGE), MODES),
+    **dict.fromkeys((MessageType.DATA, MessageType.DATA_END, MessageType.TRIGGER,
+                     MessageType.ASYNC_STATUS_QUERY), DELIVERED),
+    **dict.fromkeys((MessageType.INITIALIZE_RESPONSE, MessageType.DEVICE_CLEAR_COMPLETE,
+                     MessageType.DEVICE_CLEAR_ACKNOWLEDGE, MessageType.ASYNC_DEVICE_CLEAR_ACKNOWLEDGE), MODES),
 }
 _STATUS_BYTES = (MessageType.ASYNC_SERVICE_REQUEST, MessageType.ASYNC_STATUS_RESPONSE)
 

@@ -61,7 +61,7 @@ class Divider:
         byte = yield from self._take(SPECIAL)
         while byte != b"\n":
             is_closed = yield from self._block() if byte == b"#" else self._string(byte)
-            # After a string or a block only `,`, `;` or the end may follow; what can't be read is one up to the line feed.
+            # Only `,`, `;` or the end may follow a string or a block. What can't be read is one up to the line feed.
             is_right = is_closed and (yield from self._look(NOT_WHITE)) in b",;"
             byte = yield from self._take(SPECIAL if is_right else LINE_FEED)
 

@@ -17,8 +17,8 @@ import time
 from typing import BinaryIO, Iterable, List, Optional, TextIO, Union
 
 from .listening import (
-    SERVER_ADDRESS, Endpoint, LoopServer, Target, connect, endpoint_of, listening_parser, parsed, report, run_until_signal,
-    status_of,
+    SERVER_ADDRESS, Endpoint, LoopServer, Target, connect, endpoint_of, listening_parser, parsed, report,
+    run_until_signal, status_of,
 )
 from .relay_connection import Connection
 from .relay_log import Entry, Event, LogWriter, RotatingFile, json_event, json_line, text_event, text_line
@@ -37,7 +37,8 @@ class Relay(LoopServer):
 
     def __init__(
         self, to: Target, rules: Iterable[RuleText] = (), log: Union[TextIO, RotatingFile, None] = None,
-        listen: Endpoint = Endpoint(SERVER_ADDRESS, 0), seed: int = 0, is_json: bool = False, pcap: Optional[BinaryIO] = None
+        listen: Endpoint = Endpoint(SERVER_ADDRESS, 0), seed: int = 0, is_json: bool = False,
+        pcap: Optional[BinaryIO] = None
     ) -> None:
         super().__init__(listen)
         self.to = to

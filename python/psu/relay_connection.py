@@ -206,12 +206,14 @@ class Direction:
             query = session.query_of(header.parameter) if is_response else b""
         return self._traffic.rules.choose(Seen(self._side, header.kind, payload, query, number), counts)
 
-    def _log(self, header: Header, payload: bytes, seconds: Optional[float], fault: str, side: Optional[Side] = None) -> None:
+    def _log(
+        self, header: Header, payload: bytes, seconds: Optional[float], fault: str, side: Optional[Side] = None
+    ) -> None:
         connection, is_from_client = self._connection, (side or self._side) is Side.CLIENT
         number = connection.session.number if connection.session is not None else 0
         kind, control, parameter, length = header
-        self._traffic.write_entry(Entry(time.time(), number, connection.is_async, is_from_client, kind, control, parameter,
-                                        length, payload, seconds, fault))
+        self._traffic.write_entry(Entry(time.time(), number, connection.is_async, is_from_client, kind, control,
+                                        parameter, length, payload, seconds, fault))
 
     # Passing on
 

@@ -67,8 +67,9 @@ def payload_text(payload: bytes, length: int) -> str:
     while found is not None and len(text) <= SHOWN_PAYLOAD:
         size = int(found[found.lastindex or 0])
         content = payload[found.end() : found.end() + size]
-        is_whole = size <= SHOWN_BLOCK and len(content) == size
-        text += _escaped(payload[at : found.end()] + (content if is_whole else b"%b..(%d bytes)" % (content[:SHOWN_BLOCK], size)))
+        if size > SHOWN_BLOCK or len(content) < size:
+            content = b"%b..(%d bytes)" % (content[:SHOWN_BLOCK], size)
+        text += _escaped(payload[at : found.end()] + content)
         at = found.end() + size
         found = BLOCK.search(payload, at)
     rest = payload[at : at + SHOWN_PAYLOAD]
@@ -185,7 +186,7 @@ class RotatingFile(logging.handlers.RotatingFileHandler):
 
 
 class LogWriter(logging.handlers.QueueListener):
-    """Writes lines, or bytes, by a thread of its own. Where the file takes none, they wait, and beyond a limit are left out.
+    """Writes lines, or bytes, by a thread of its own. Where the file takes none, so many wait; others are left out.
 
     `missing` returns the line that says of so many lines that they were left out; it comes once there is place again.
     """

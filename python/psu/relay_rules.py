@@ -353,7 +353,9 @@ def parsed_rules(rules: Iterable[RuleText], seed: int) -> Rules:
     return Rules(parsed, seed)
 
 
-def parse_rules(lines: Iterable[str], name: str = "rule", where: Callable[[int, str], str] = "line {}".format) -> List[Rule]:
+def parse_rules(
+    lines: Iterable[str], name: str = "rule", where: Callable[[int, str], str] = "line {}".format
+) -> List[Rule]:
     """Reads rules, of which a line may be empty or a comment that begins with `#`; `where` says which line is wrong."""
     rules = []
     for number, line in enumerate(lines, 1):

@@ -52,7 +52,8 @@ def logged_messages(lines: Iterable[str]) -> Iterator[Logged]:
             if item.get("event") == "ended":
                 yield Logged(number, moment, item["session"], False, True, 0, Frame(END))
             # What the server did not get, or did not send, is left out.
-            elif "type" in item and not item.get("fault", "").startswith(KEPT_BACK if item["from"] == "client" else MADE_BY_RELAY):
+            left_out = KEPT_BACK if item.get("from") == "client" else MADE_BY_RELAY
+            if "type" in item and not item.get("fault", "").startswith(left_out):
                 yield message_of(number, moment, item)
         except (ValueError, KeyError, AttributeError, TypeError):
             raise ValueError(f"line {number} is none of a log of psu-relay --json") from None

@@ -199,7 +199,7 @@ def in_a_query(
 
 
 in_a_query("a slow response, in time", lambda timeout: [f"delay {timeout * 0.15} response times 3"], is_survivable=True)
-in_a_query("a response in small pieces, in time", lambda timeout: ["trickle 3 0.005 response times 3"], is_survivable=True)
+in_a_query("a response in small pieces, in time", lambda _: ["trickle 3 0.005 response times 3"], is_survivable=True)
 in_a_query("two responses", lambda timeout: ["repeat 0 response times 1"], is_survivable=True)
 in_a_query("two responses, the second one late", lambda timeout: ["repeat 0.1 response times 1"], is_survivable=True)
 in_a_query("a late response", lambda timeout: [f"delay {timeout * 1.5} response times 1"])
