@@ -145,15 +145,12 @@ class Asynchronous:
             elif frame.kind == MessageType.ERROR:
                 self._take_error(ServerError(frame.control, text))
             elif frame.kind != MessageType.ASYNC_INTERRUPTED:
-                self._take_response(frame)
+                asked = next((it for it in self._asks if it.response_kind == frame.kind), None)
+                if asked is None:
+                    raise ProtocolError(f"{name_of(frame.kind)} on the asynchronous connection, to which nothing was asked")
+                self._asks.remove(asked)
+                asked.answer.set_result(frame)
             self._changed.notify_all()
-
-    def _take_response(self, frame: Frame) -> None:
-        for ask in self._asks:
-            if ask.response_kind == frame.kind:
-                self._asks.remove(ask)
-                return ask.answer.set_result(frame)
-        raise ProtocolError(f"{name_of(frame.kind)} on the asynchronous connection, to which nothing was asked")
 
     def _take_error(self, error: ServerError) -> None:
         # A lock request may wait for long, so the error is that of another message where there is one.

@@ -16,7 +16,6 @@ Prints nothing where all is well, else one line on standard error with status 1.
 """
 from __future__ import annotations
 
-import argparse
 import contextlib
 import errno
 import fcntl
@@ -172,17 +171,12 @@ def check(copy: str) -> None:
         raise NotMade(f"{copy} is not what was copied: its SHA-256 is another")
 
 
-def parser_of_backup() -> argparse.ArgumentParser:
+def main() -> Optional[Union[int, str]]:
     made = parser(__doc__)
     made.add_argument("--timeout", type=float, default=10.0, help="the longest wait for lock and disk in seconds (10)")
     made.add_argument("--program", help="the path of psu; by default the variable PSU, the built one, or that of the PATH")
     made.add_argument("--check", action="store_true", help="compare a copy with the SHA-256 beside it")
     made.add_argument("paths", nargs="+", metavar="IMAGE COPY", help="the image and the new copy; with --check the copy")
-    return made
-
-
-def main() -> Optional[Union[int, str]]:
-    made = parser_of_backup()
     words = made.parse_args()
     if len(words.paths) != (1 if words.check else 2):
         made.error("IMAGE and COPY are needed, or --check and COPY")

@@ -125,10 +125,6 @@ def mode_of(output: Values) -> str:
     return "CC" if is_in_limit else "CV"
 
 
-def names_of(value: int, bits: Bits) -> List[str]:
-    return [name for bit, name in bits if value >> bit & 1]
-
-
 # As text
 
 
@@ -141,7 +137,8 @@ def text_of(values: Values) -> str:
             f" {it['set_amperes']:8.3f}  {level:<14} {it['load']:10.3f}"
         )
     for title, key, bits in REGISTERS:
-        lines.append(f"{title:<17} {values[key]:5}  {' '.join(names_of(values[key], bits))}".rstrip())
+        names = [name for bit, name in bits if values[key] >> bit & 1]
+        lines.append(f"{title:<17} {values[key]:5}  {' '.join(names)}".rstrip())
     lines.append(f"{'Errors in queue':<17} {values['errors']:5}")
     return "\n".join(lines)
 

@@ -227,7 +227,7 @@ class Direction:
         if header.length == len(payload):
             self._outlet.write(header.pack() + payload)
         else:
-            self._outlet.begin()
+            self._outlet.is_inside = True
             self._outlet.write(header.pack())
 
     async def _finish(self, header: Header, payload: bytes) -> None:
@@ -277,7 +277,7 @@ class Direction:
 
     async def _trickle(self, rule: Rule, header: Header, payload: bytes) -> None:
         frame = header.pack() + payload
-        self._outlet.begin()
+        self._outlet.is_inside = True
         for at in range(0, len(frame), rule.size):
             self._outlet.write(frame[at : at + rule.size])
             await self._outlet.writer.drain()

@@ -149,10 +149,6 @@ class Decision(NamedTuple):
     def line(self) -> str:
         return f"the function {getattr(self.decide, '__name__', 'without a name')}"
 
-    def rule_for(self, seen: Seen) -> Optional[Rule]:
-        text = self.decide(seen)
-        return None if text is None else parse_action(text, self.name)
-
 
 class Rules:
     """All rules, in order. The first that applies to a message decides; the later ones do not count it."""
@@ -169,7 +165,8 @@ class Rules:
         for place, rule in enumerate(self.rules):
             chosen: Optional[Rule]
             if isinstance(rule, Decision):
-                chosen = rule.rule_for(seen)
+                text = rule.decide(seen)
+                chosen = None if text is None else parse_action(text, rule.name)
             else:
                 is_counted = rule.matches(seen) and rule.count(self._counts_of(place, rule, seen.session, of_session))
                 chosen = rule if is_counted else None

@@ -42,19 +42,15 @@ class Outlet:
 
     def __init__(self, writer: asyncio.StreamWriter) -> None:
         self.writer = writer
-        self.is_inside = False
+        self.is_inside = False  # a frame that is written in several pieces
         self._added: List[bytes] = []
 
     def write(self, data: bytes) -> None:
         if not self.writer.is_closing():
             self.writer.write(data)
 
-    def begin(self) -> None:
-        """A frame begins that is written in several pieces."""
-        self.is_inside = True
-
     def end(self) -> None:
-        """It has ended."""
+        """Such a frame has ended."""
         self.is_inside = False
         for data in self._added:
             self.write(data)

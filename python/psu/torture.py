@@ -16,12 +16,14 @@ its own, and a session beside the driver's, which sets another voltage before ea
 from __future__ import annotations
 
 import concurrent.futures
+import contextlib
 import dataclasses
+import functools
 import itertools
 import os
 import threading
 import time
-from typing import Any, Callable, Dict, Iterator, List, Optional, Sequence
+from typing import Any, Callable, Dict, Iterator, List, Sequence
 
 import pytest
 
@@ -54,23 +56,22 @@ class NotSurvived(AssertionError):
 Outcome = concurrent.futures.Future  # how a call ended
 
 
-class Bench:
+class Bench(contextlib.ExitStack):
     """The instrument of one test. A driver connects to `resource` or `port`, or to `raw_port` with a raw socket."""
 
     def __init__(self, server: Server) -> None:
+        super().__init__()
         assert server.relay is not None
         self.server, self.relay = server, server.relay
         self.resource, self.port = server.resource, server.relay.port
-        self._raw: Optional[RawSocket] = None
         self._volts = itertools.count(1)
         self.connect_beside()
+        self.callback(lambda: self.beside.close())
 
-    @property
+    @functools.cached_property
     def raw_port(self) -> int:
         """The port of raw sockets before the relay."""
-        if self._raw is None:
-            self._raw = RawSocket(self.port).__enter__()
-        return self._raw.port
+        return self.enter_context(RawSocket(self.port)).port
 
     def connect_beside(self) -> None:
         """Opens the session beside the driver's, without the relay."""
@@ -88,22 +89,14 @@ class Bench:
         self.server.restart()
         self.connect_beside()
 
-    def close(self) -> None:
-        self.beside.close()
-        if self._raw is not None:
-            self._raw.__exit__()
-
 
 @pytest.fixture
 def psu_torture(request: Any, tmp_path: Any) -> Iterator[Bench]:
     """The instrument for the fixture `driver`."""
     with started(request.config, tmp_path / "bench.psu", [], has_relay=True) as server:
-        bench = Bench(server)
-        try:
+        with Bench(server) as bench:
             yield bench
-        finally:
-            bench.relay.set_rules([])  # so that none is named as one that never applied
-            bench.close()
+        bench.relay.set_rules([])  # so that none is named as one that never applied
 
 
 class Trial:
