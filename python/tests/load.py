@@ -18,7 +18,7 @@ import time
 from psu.frames import FIRST_MESSAGE_ID, PROTOCOL_1_0, Frame, MessageType, after
 from psu.listening import read_frame
 
-MESSAGE = re.compile(r"^\S+ +(\d+) (-->|<--) DataEnd +([0-9a-f]{8}) .*\\n$")
+MESSAGE = re.compile(r"^\S+ !? *(\d+) (-->|<--) DataEnd +([0-9a-f]{8}) .*\\n(?:  \[.*\])?$")
 QUERY = b"MEAS:VOLT?\n"
 # What raw clients ask of a supply that nobody has set, and what that answers.
 RAW_QUERIES = (
