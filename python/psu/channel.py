@@ -1,6 +1,7 @@
 """One of the two connections of a HiSLIP session, on which whole messages are sent and received."""
 from __future__ import annotations
 
+import contextlib
 import errno
 import ipaddress
 import socket
@@ -120,10 +121,8 @@ class Channel:
 
     def shut(self) -> None:
         """Ends the connection, and wakes a thread that waits in `receive`."""
-        try:
+        with contextlib.suppress(OSError):  # the other end has closed it already
             self._socket.shutdown(socket.SHUT_RDWR)
-        except OSError:
-            pass  # the other end has closed it already
 
     def release(self) -> None:
         """Gives back the socket of a connection that has ended, once no thread uses it."""

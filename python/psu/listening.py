@@ -4,6 +4,7 @@ from __future__ import annotations
 import argparse
 import asyncio
 import concurrent.futures
+import contextlib
 import ipaddress
 import signal
 import socket
@@ -229,10 +230,8 @@ def reset(writer: asyncio.StreamWriter) -> None:
     """Closes a connection at once, without what waits to be sent; the peer gets a reset."""
     connection = writer.get_extra_info("socket")
     if connection is not None:
-        try:
+        with contextlib.suppress(OSError):  # it is closed already
             connection.setsockopt(socket.SOL_SOCKET, socket.SO_LINGER, struct.pack("ii", 1, 0))
-        except OSError:
-            pass  # it is closed already
     writer.transport.abort()
 
 
@@ -257,10 +256,8 @@ def run_until_signal(
 
 def report(program: str, text: str) -> None:
     """Writes a line on standard error, as psu does; a closed standard error is no fault."""
-    try:
+    with contextlib.suppress(OSError, ValueError):
         print(f"{program}: {text}", file=sys.stderr, flush=True)
-    except (OSError, ValueError):
-        pass
 
 
 def close_soon(writer: asyncio.StreamWriter) -> None:

@@ -2,6 +2,7 @@
 from __future__ import annotations
 
 import asyncio
+import contextlib
 import time
 from typing import List, Optional, Set
 
@@ -59,10 +60,8 @@ class Connection:
 
     async def wait(self, seconds: Optional[float]) -> None:
         """Waits so long, or until the session ends."""
-        try:
+        with contextlib.suppress(asyncio.TimeoutError):
             await asyncio.wait_for(self._is_ending.wait(), seconds)
-        except asyncio.TimeoutError:
-            pass
 
     def wake(self) -> None:
         self._is_ending.set()

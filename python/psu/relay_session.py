@@ -21,7 +21,7 @@ KEPT_TEXT = 200  # bytes of a query's text
 
 REQUESTS = frozenset(REQUEST_OF.values())
 # What a rule does to every frame of a message that is sent as several.
-ON_EACH_FRAME = (Action.DROP_AFTER, Action.REPLACE, Action.NOISE, Action.TRICKLE)
+ON_EACH_FRAME = (Action.HOLD, Action.DROP_AFTER, Action.REPLACE, Action.NOISE, Action.TRICKLE)
 
 
 class Query(NamedTuple):
@@ -146,10 +146,8 @@ class Transmissions:
 
     def rest_action(self) -> Optional[Action]:
         """Returns what the rule of the message's first frame does to the frames after it."""
-        if self.rule is None:
-            return None
-        action = self.rule.action
-        if action in (Action.HOLD, Action.ERROR):
+        action = self.rule.action if self.rule is not None else None
+        if action is Action.ERROR:
             return Action.HOLD
         return action if action in ON_EACH_FRAME else None
 

@@ -140,9 +140,7 @@ class Replay:
     """The sessions of a log, and what was compared."""
 
     def __init__(self, to: Endpoint, timeout: float, longest_pause: float) -> None:
-        self._to = to
-        self._timeout = timeout
-        self._longest_pause = longest_pause
+        self._to, self._timeout, self._longest_pause = to, timeout, longest_pause
         self._last_time = math.inf  # of the log
         self._sessions: Dict[int, Session] = {}
         self.compared = 0
