@@ -308,16 +308,12 @@ def refusal_of(frame: Frame) -> Frame:
     return Frame(MessageType.ERROR, code, 0, ERRORS[code].encode())
 
 
-def status_in_words(status: int) -> str:
-    """Returns the names of the set bits of a status byte, as `MAV+RQS`."""
-    return "+".join(word for bit, word in enumerate(STATUS_BITS) if status >> bit & 1) or "no bit"
-
-
 @functools.lru_cache(maxsize=1024)
 def control_in_words(kind: int, control: int) -> str:
     """Returns what the control code of a message of this type means; empty where it means nothing."""
     if kind in _STATUS_BYTES:
-        return f"status {control} {status_in_words(control)}"
+        bits = [word for bit, word in enumerate(STATUS_BITS) if control >> bit & 1]
+        return f"status {control} {'+'.join(bits) or 'no bit'}"
     words = _CONTROL_WORDS.get(kind)
     if words is None:
         return "" if control == 0 else f"control {control}"

@@ -143,14 +143,6 @@ def text_of(values: Values) -> str:
     return "\n".join(lines)
 
 
-def print_once(port: int) -> None:
-    with Instrument(port=port) as supply:
-        try:
-            print(text_of(look(supply)))
-        except Locked as fault:
-            raise Locked(f"{fault}; no values were read") from None
-
-
 # As a page
 
 
@@ -291,7 +283,11 @@ def number_in(query: str, name: str) -> int:
 
 def serve(arguments: argparse.Namespace) -> None:
     if arguments.once:
-        return print_once(arguments.port)
+        try:
+            with Instrument(port=arguments.port) as supply:
+                return print(text_of(look(supply)))
+        except Locked as fault:
+            raise Locked(f"{fault}; no values were read") from None
     with Panel(arguments.port, arguments.listen_port, arguments.interval, arguments.minutes) as page:
         print(f"panel of {ADDRESS}:{arguments.port} at {page.address}", flush=True)
         try:
