@@ -11,11 +11,11 @@ import functools
 import json
 import logging.handlers
 import queue
-import re
 import threading
 import time
 from typing import IO, Any, Callable, Dict, NamedTuple, Optional, Union
 
+from .blocks import BLOCK, length_in
 from .frames import WITH_MESSAGE_ID, MessageType, control_in_words, name_of
 
 SHOWN_PAYLOAD = 120  # the most characters of a payload in a line
@@ -53,10 +53,6 @@ class Event(NamedTuple):
 # Payloads
 
 
-# How a definite block begins; the group that is found has its length.
-BLOCK = re.compile(b"#(?:%b)" % b"|".join(b"%d([0-9]{%d})" % (digits, digits) for digits in range(1, 10)))
-
-
 def payload_text(payload: bytes, length: int) -> str:
     """Returns a payload as text: bytes that are no characters as `\\x00`, blocks and long texts cut short.
 
@@ -65,7 +61,7 @@ def payload_text(payload: bytes, length: int) -> str:
     text, at = "", 0
     found = BLOCK.search(payload)
     while found is not None and len(text) <= SHOWN_PAYLOAD:
-        size = int(found[found.lastindex or 0])
+        size = length_in(found)
         content = payload[found.end() : found.end() + size]
         if size > SHOWN_BLOCK or len(content) < size:
             content = b"%b..(%d bytes)" % (content[:SHOWN_BLOCK], size)

@@ -9,8 +9,8 @@ import itertools
 import re
 from typing import TYPE_CHECKING, Deque, Dict, List, NamedTuple, Optional
 
+from .blocks import BLOCK, length_in
 from .frames import REQUEST_OF, Header, MessageType
-from .relay_log import BLOCK
 from .relay_rules import Action, Counts, Rule
 
 if TYPE_CHECKING:
@@ -40,7 +40,7 @@ def asks(text: bytes) -> bool:
     at = 0
     found = STRING_OR_BLOCK.search(text)
     while found is not None and b"?" not in text[at : found.start()]:
-        at = found.end() + int(found[found.lastindex] if found.lastindex else 0)
+        at = found.end() + length_in(found)
         found = STRING_OR_BLOCK.search(text, at)
     return b"?" in text[at : found.start() if found else len(text)]
 
