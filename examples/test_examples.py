@@ -11,7 +11,7 @@ import urllib.request
 import pytest
 
 import psu_path  # noqa: F401  (finds ../python)
-from panel import Locked, look
+from psu.panel import Locked, look
 from psu import LockInfo
 from psu.server import free_port
 
@@ -106,6 +106,7 @@ def test_panel_and_a_lock_that_is_taken_after_the_look(supply, connect):
         look(watcher)
     supply.unlock()
     # The query that waited was discarded, and the next one is answered.
+    watcher.timeout = 10
     assert look(watcher)["errors"] == 0
 
 

@@ -19,6 +19,7 @@ import stat
 import tarfile
 import time
 import zipfile
+from pathlib import Path
 from types import ModuleType
 from typing import Dict, List, Optional
 
@@ -31,9 +32,12 @@ SCRIPTS = {
     "psu-socket": "psu.raw_socket:main",
     "psu-backup": "psu.backup:main",
     "psu-send": "psu.send:main",
+    "psu-replay": "psu.replay:main",
+    "psu-panel": "psu.panel:main",
 }
 PLUGINS = {"psu": "psu_pytest"}
 TOP_MODULES = ("psu_pytest.py", "psu_pytest_names.py")  # beside the package
+KINDS = (".py", ".typed", ".html", ".js")  # of the files of the package
 NOTE = f"{NAME}/BUILD"
 VERSION = re.compile(r'^__version__ = "([0-9.]+)"$', re.MULTILINE)
 ANY = "py3-none-any"
@@ -96,7 +100,7 @@ def build_note() -> ModuleType:
 def note() -> str:
     """Returns the note of this build: that of a source archive, or in a clone what git says."""
     try:
-        return read(FOLDER, NOTE).decode()
+        return Path(FOLDER, NOTE).read_bytes().decode()
     except FileNotFoundError:
         commit = build_note().commit_of(os.path.dirname(FOLDER))
         return str(build_note().written(version=commit.version(base_version()), commit=commit))
@@ -105,8 +109,8 @@ def note() -> str:
 def modules(build: str) -> Dict[str, bytes]:
     """Returns the files of the package, by their paths in a wheel, with this note of the build."""
     folder = os.path.join(FOLDER, NAME)
-    names = [f"{NAME}/{it}" for it in sorted(os.listdir(folder)) if it.endswith((".py", ".typed"))]
-    files = {it: read(FOLDER, it) for it in [*names, *TOP_MODULES]}
+    names = [f"{NAME}/{it}" for it in sorted(os.listdir(folder)) if it.endswith(KINDS)]
+    files = {it: Path(FOLDER, it).read_bytes() for it in [*names, *TOP_MODULES]}
     root = f"{NAME}/__init__.py"
     files[root] = VERSION.sub(f'__version__ = "{version()}"', files[root].decode()).encode()
     return {**files, NOTE: build.encode()}
@@ -130,7 +134,7 @@ def metadata_folder() -> str:
 
 def base_version() -> str:
     """Returns the version of the sources, without the time of a build."""
-    found = VERSION.search(read(FOLDER, NAME, "__init__.py").decode())
+    found = VERSION.search(Path(FOLDER, NAME, "__init__.py").read_bytes().decode())
     if found is None:
         raise ValueError("psu/__init__.py has no version")
     return found.group(1)
@@ -150,7 +154,8 @@ def metadata_text() -> bytes:
         "Classifier": "Private :: Do Not Upload",  # while no licence is chosen; indexes refuse it
         "Description-Content-Type": "text/markdown",
     }
-    return "".join(f"{key}: {value}\n" for key, value in fields.items()).encode() + b"\n" + read(FOLDER, "README.md")
+    lines = "".join(f"{key}: {value}\n" for key, value in fields.items())
+    return f"{lines}\n".encode() + Path(FOLDER, "README.md").read_bytes()
 
 
 def entry_points() -> str:
@@ -163,13 +168,8 @@ def sources() -> Dict[str, bytes]:
     paths = ["README.md", "pyproject.toml", *TOP_MODULES]
     for folder in (NAME, "build_backend", "tests"):
         names = sorted(os.listdir(os.path.join(FOLDER, folder)))
-        paths += [f"{folder}/{it}" for it in names if it.endswith((".py", ".typed"))]
-    return {it: read(FOLDER, it) for it in paths}
-
-
-def read(*path: str) -> bytes:
-    with open(os.path.join(*path), "rb") as it:
-        return it.read()
+        paths += [f"{folder}/{it}" for it in names if it.endswith(KINDS)]
+    return {it: Path(FOLDER, it).read_bytes() for it in paths}
 
 
 # How a wheel is written

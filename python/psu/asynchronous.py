@@ -2,16 +2,17 @@
 from __future__ import annotations
 
 import collections
+import concurrent.futures
+import math
 import sys
 import threading
 import time
-from typing import Callable, Deque, List, NoReturn, Optional
+from typing import Callable, Deque, List, NamedTuple, Optional
 
-from .channel import Channel, EndAll, closed_by_client, finite
+from .channel import Channel, Ending, closed_by_client, finite, unanswered
 from .errors import FatalError, HislipError, ProtocolError, ServerError, Timeout
 from .frames import Frame, MessageType, is_known, name_of, refusal_of
 
-WITHOUT_END = 3600.0  # seconds that the reading thread waits at once
 JOIN_TIMEOUT = 1.0  # seconds
 REFUSAL_TIMEOUT = 1.0  # seconds in which a server reads that one of its messages is unknown
 MOST_REQUESTS = 1000  # service requests that are kept; of more the oldest are forgotten
@@ -19,22 +20,11 @@ MOST_REQUESTS = 1000  # service requests that are kept; of more the oldest are f
 Callback = Callable[[int], object]
 
 
-class Ask:
+class Ask(NamedTuple):
     """A message that waits for its response."""
 
-    def __init__(self, response_kind: int) -> None:
-        self.response_kind = response_kind
-        self.response: Optional[Frame] = None
-        self.fault: Optional[HislipError] = None
-
-    def is_answered(self) -> bool:
-        return self.response is not None or self.fault is not None
-
-    def result(self) -> Frame:
-        if self.fault is not None:
-            raise self.fault
-        assert self.response is not None
-        return self.response
+    response_kind: int
+    answer: "concurrent.futures.Future[Frame]"
 
 
 class Asynchronous:
@@ -43,7 +33,7 @@ class Asynchronous:
     `end_all` is called with the reason where the session can't continue.
     """
 
-    def __init__(self, channel: Channel, end_all: EndAll) -> None:
+    def __init__(self, channel: Channel, end_all: Ending) -> None:
         self._channel = channel
         self._end_all = end_all
         self._changed = threading.Condition()
@@ -61,21 +51,16 @@ class Asynchronous:
 
     def ask(self, frame: Frame, response_kind: int, send_timeout: float, timeout: float) -> Frame:
         """Sends a message and returns the response to it."""
-        ask = Ask(response_kind)
+        ask = Ask(response_kind, concurrent.futures.Future())
         deadline = time.monotonic() + timeout
         self._send(frame, ask, send_timeout)
-        with self._changed:
-            while not ask.is_answered():
-                if self._end is not None:
-                    self._raise_end()
-                if not self._changed.wait(finite(deadline - time.monotonic())) and not ask.is_answered():
-                    break
-        if not ask.is_answered():
+        try:
+            return ask.answer.result(finite(deadline - time.monotonic()))
+        except concurrent.futures.TimeoutError:
+            if ask.answer.done():
+                raise
             # The response, if it came later, would be taken for the response to the next message.
-            name = name_of(frame.kind)
-            self._end_all(*closed_by_client(f"the server did not answer {name} in time"))
-            raise Timeout(f"no response to {name} in {timeout:g} s", session_continues=False)
-        return ask.result()
+            raise unanswered(name_of(frame.kind), timeout, self._end_all) from None
 
     def wait_for_request(self, timeout: float) -> int:
         """Returns the status byte of the oldest service request."""
@@ -84,9 +69,7 @@ class Asynchronous:
             if self._callback is not None:
                 raise HislipError("a callback takes the service requests: on_service_request(None) first")
             while not self._requests:
-                if self._end is not None:
-                    self._raise_end()
-                self._raise_fault()
+                self._raise_end()
                 remaining = deadline - time.monotonic()
                 if remaining <= 0:
                     raise Timeout(f"no service request in {timeout:g} s", session_continues=True)
@@ -118,54 +101,35 @@ class Asynchronous:
         # The list of asks is in the order of sending, since responses of a kind come in that order.
         with self._sending:
             with self._changed:
-                if self._end is not None:
-                    self._raise_end()
-                self._raise_fault()
+                self._raise_end()
                 self._asks.append(ask)
-            try:
-                self._channel.send(message, timeout)
-            except Timeout as fault:
-                self._end_all(*closed_by_client("the server did not read"))
-                raise Timeout(fault.text, session_continues=False) from None
-            except ConnectionError:
-                raise
-            except BaseException:
-                # Its ask stands among the others, and a part of it may be sent.
-                self._end_all(*closed_by_client("a write was interrupted"))
-                raise
+            self._channel.send(message, timeout)
 
-    def _raise_fault(self) -> None:
-        fault, self._fault = self._fault, None
-        if fault is not None:
-            raise fault
+    def _raise_end(self) -> None:
+        """Raises why the connection has ended, or an Error that came while nothing was asked."""
+        end, self._fault = self._end_now() or self._fault, None
+        if end is not None:
+            raise end
 
-    def _raise_end(self) -> NoReturn:
-        assert self._end is not None
-        # Each raise has an exception of its own: several threads may raise it.
+    def _end_now(self) -> Optional[Exception]:
+        """Returns why the connection has ended: an exception for one raise, since several threads may raise it."""
         end = self._end
-        if isinstance(end, FatalError):
-            raise FatalError(end.code, end.text)
-        raise type(end)(*end.args)
+        return FatalError(end.code, end.text) if isinstance(end, FatalError) else end and type(end)(*end.args)
 
     # The reading thread
 
     def _read(self) -> None:
         try:
             while True:
-                self._take(self._receive())
+                self._take(self._channel.receive(math.inf))
         except (HislipError, OSError) as end:
             with self._changed:
                 self._end = end
+                for ask in self._asks:
+                    ask.answer.set_exception(self._end_now())
                 self._changed.notify_all()
             if isinstance(end, (FatalError, ProtocolError)):
                 self._end_all(*closed_by_client(str(end)))
-
-    def _receive(self) -> Frame:
-        while True:
-            try:
-                return self._channel.receive(WITHOUT_END)
-            except Timeout:
-                continue
 
     def _take(self, frame: Frame) -> None:
         text = frame.payload.decode("utf-8", "replace")
@@ -181,23 +145,19 @@ class Asynchronous:
             elif frame.kind == MessageType.ERROR:
                 self._take_error(ServerError(frame.control, text))
             elif frame.kind != MessageType.ASYNC_INTERRUPTED:
-                self._take_response(frame)
+                asked = next((it for it in self._asks if it.response_kind == frame.kind), None)
+                if asked is None:
+                    raise ProtocolError(f"{name_of(frame.kind)} on the asynchronous connection, to which nothing was asked")
+                self._asks.remove(asked)
+                asked.answer.set_result(frame)
             self._changed.notify_all()
-
-    def _take_response(self, frame: Frame) -> None:
-        for ask in self._asks:
-            if ask.response_kind == frame.kind:
-                self._asks.remove(ask)
-                ask.response = frame
-                return
-        raise ProtocolError(f"{name_of(frame.kind)} on the asynchronous connection, to which nothing was asked")
 
     def _take_error(self, error: ServerError) -> None:
         # A lock request may wait for long, so the error is that of another message where there is one.
         ordered = sorted(self._asks, key=lambda it: it.response_kind == MessageType.ASYNC_LOCK_RESPONSE)
         if ordered:
             self._asks.remove(ordered[0])
-            ordered[0].fault = error
+            ordered[0].answer.set_exception(error)
         else:
             self._fault = error
 

@@ -16,16 +16,14 @@ Prints nothing where all is well, else one line on standard error with status 1.
 """
 from __future__ import annotations
 
-import argparse
 import contextlib
 import errno
 import fcntl
 import hashlib
 import os
-import struct
 import subprocess
 import sys
-from typing import Iterator, List, Optional, Union
+from typing import Iterator, Optional, Union
 
 from .command_line import parser
 from .confirming import session_of, take_lock, write_to_disk
@@ -43,10 +41,8 @@ class NotMade(Exception):
 
 def root_number(image: bytes) -> Optional[int]:
     """The number of an image's current root: of the two with an open gate, the higher one. None where none is open."""
-    numbers = []
-    for root in (image[:PAGE], image[PAGE : 2 * PAGE]):
-        if len(root) == PAGE and root[0] == OPEN_GATE:
-            numbers.append(struct.unpack_from(">Q", root, 8)[0])
+    roots = (image[:PAGE], image[PAGE : 2 * PAGE])
+    numbers = (int.from_bytes(it[8:16], "big") for it in roots if len(it) == PAGE and it[0] == OPEN_GATE)
     return max(numbers, default=None)
 
 
@@ -64,14 +60,19 @@ def is_locked_by_another(file: int) -> bool:
 
 
 def read_whole(file: int) -> bytes:
-    pieces: List[bytes] = []
-    at = 0
-    while True:
-        piece = os.pread(file, 1 << 20, at)
-        if not piece:
-            return b"".join(pieces)
-        pieces.append(piece)
-        at += len(piece)
+    with open(file, "rb", closefd=False) as image:
+        image.seek(0)
+        return image.read()
+
+
+@contextlib.contextmanager
+def opened(path: str) -> Iterator[int]:
+    """Opens a file or a folder for reading, in a `with` block."""
+    file = os.open(path, os.O_RDONLY | os.O_CLOEXEC)
+    try:
+        yield file
+    finally:
+        os.close(file)
 
 
 def read_served(file: int, port: int, timeout: float) -> bytes:
@@ -93,31 +94,22 @@ def read_served(file: int, port: int, timeout: float) -> bytes:
 
 def read_image(path: str, port: int, timeout: float) -> bytes:
     """Reads an image as it is at one moment."""
-    file = os.open(path, os.O_RDONLY | os.O_CLOEXEC)
-    try:
+    with opened(path) as file:
         return read_served(file, port, timeout) if is_locked_by_another(file) else read_whole(file)
-    finally:
-        os.close(file)
 
 
 def sync_path(path: str) -> None:
-    file = os.open(path, os.O_RDONLY)
-    try:
+    with opened(path) as file:
         os.fsync(file)
-    finally:
-        os.close(file)
 
 
 @contextlib.contextmanager
 def alone_in(folder: str) -> Iterator[None]:
     """Has other runs that write into this folder wait in a `with` block."""
-    file = os.open(folder, os.O_RDONLY | os.O_CLOEXEC)
-    try:
+    with opened(folder) as file:
         with contextlib.suppress(OSError):  # a file system without locks
             fcntl.flock(file, fcntl.LOCK_EX)
         yield
-    finally:
-        os.close(file)
 
 
 @contextlib.contextmanager
@@ -179,17 +171,12 @@ def check(copy: str) -> None:
         raise NotMade(f"{copy} is not what was copied: its SHA-256 is another")
 
 
-def parser_of_backup() -> argparse.ArgumentParser:
+def main() -> Optional[Union[int, str]]:
     made = parser(__doc__)
     made.add_argument("--timeout", type=float, default=10.0, help="the longest wait for lock and disk in seconds (10)")
     made.add_argument("--program", help="the path of psu; by default the variable PSU, the built one, or that of the PATH")
     made.add_argument("--check", action="store_true", help="compare a copy with the SHA-256 beside it")
     made.add_argument("paths", nargs="+", metavar="IMAGE COPY", help="the image and the new copy; with --check the copy")
-    return made
-
-
-def main() -> Optional[Union[int, str]]:
-    made = parser_of_backup()
     words = made.parse_args()
     if len(words.paths) != (1 if words.check else 2):
         made.error("IMAGE and COPY are needed, or --check and COPY")

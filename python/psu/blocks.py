@@ -1,9 +1,18 @@
 """Texts of messages: blocks, bytes of a text, and entries of the error queue."""
 from __future__ import annotations
 
+import re
+
 from .errors import ProtocolError, ScpiError
 
 MOST_SHOWN = 60  # characters of a message in the text of an exception
+# How a definite block begins; the group that is found has its length.
+BLOCK = re.compile(b"#(?:%b)" % b"|".join(b"%d([0-9]{%d})" % (digits, digits) for digits in range(1, 10)))
+
+
+def length_in(found: "re.Match[bytes]") -> int:
+    """Returns the length in the begin of a block; 0 where another alternative of a pattern was found."""
+    return int(found[found.lastindex]) if found.lastindex else 0
 
 
 def encoded(text: str) -> bytes:
@@ -19,16 +28,13 @@ def definite_block(data: bytes) -> bytes:
 
 def block_content(response: bytes) -> bytes:
     """Returns the bytes of the definite-length block that a response begins with."""
-    if len(response) < 2 or response[:1] != b"#" or not response[1:2].isdigit():
-        raise ProtocolError("the response is not a block")
-    begin = 2 + int(response[1:2])
-    digits = response[2:begin] or b"0"
-    if not digits.isdigit():
-        raise ProtocolError("the length of the block is no number")
-    end = begin + int(digits)
+    found = BLOCK.match(response)
+    if found is None:
+        raise ProtocolError("the response is not a block with its length")
+    end = found.end() + length_in(found)
     if end > len(response):
         raise ProtocolError("the block is shorter than its length says")
-    return response[begin:end]
+    return response[found.end() : end]
 
 
 def error_of(response: bytes) -> ScpiError:

@@ -12,7 +12,7 @@ import platform
 import subprocess
 import sys
 import time
-from typing import Dict, NamedTuple, Optional, Sequence, Union
+from typing import Dict, NamedTuple, Optional, Sequence
 
 PACKAGE = os.path.dirname(os.path.abspath(__file__))
 FILE = "BUILD"
@@ -89,15 +89,11 @@ def fields() -> Dict[str, str]:
 
 def packaged_program() -> Optional[str]:
     """Returns the path of the program that was installed with this package; None where it has none, as in a clone."""
-    if "program" not in fields_if_packaged():
+    # In a clone there is no note, and git need not be asked.
+    if not os.path.exists(os.path.join(PACKAGE, FILE)) or "program" not in fields():
         return None
     paths = (os.path.normpath(os.path.join(os.path.dirname(PACKAGE), *it)) for it in PROGRAM_PLACES)
     return next((it for it in paths if os.access(it, os.X_OK)), None)
-
-
-def fields_if_packaged() -> Dict[str, str]:
-    """Returns the fields of this package's note; none of a clone, of which git need not be asked then."""
-    return fields() if os.path.exists(os.path.join(PACKAGE, FILE)) else {}
 
 
 def sum_of(content: bytes) -> str:
@@ -136,12 +132,6 @@ class Version(argparse.Action):
     def __init__(self, option_strings: Sequence[str], dest: str) -> None:
         super().__init__(option_strings, argparse.SUPPRESS, nargs=0, help="print commit, program and toolchain, and end")
 
-    def __call__(
-        self,
-        parser: argparse.ArgumentParser,
-        namespace: argparse.Namespace,
-        values: Union[str, Sequence[object], None],
-        option_string: Optional[str] = None,
-    ) -> None:
+    def __call__(self, parser: argparse.ArgumentParser, *_: object, **__: object) -> None:
         sys.stdout.write(text())
         parser.exit()

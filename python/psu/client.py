@@ -14,18 +14,10 @@ from typing import Iterator, List, NamedTuple, Optional
 
 from .asynchronous import Asynchronous, Callback
 from .blocks import block_content, definite_block, encoded
-from .channel import Channel, closed_by_client, ender
+from .channel import Channel, Ending, closed_by_client
 from .errors import HislipError, LockError, LockRefusal, ProtocolError, ScpiError, Timeout
 from .exchange import Exchange, Wait, wait_of
-from .frames import (
-    DEFAULT_PORT,
-    HEADER_SIZE,
-    LARGEST_PAYLOAD,
-    PROTOCOL_1_0,
-    Frame,
-    Interrupt,
-    MessageType,
-)
+from .frames import DEFAULT_PORT, HEADER_SIZE, LARGEST_PAYLOAD, PROTOCOL_1_0, Frame, Interrupt, MessageType
 from .resource import Resource, parse_resource
 from .synchronous import Synchronous
 from .turn import Turn
@@ -53,12 +45,8 @@ class Instrument:
     """
 
     def __init__(
-        self,
-        host: str = "127.0.0.1",
-        port: int = DEFAULT_PORT,
-        timeout: Optional[float] = 5.0,
-        sub_address: str = "hislip0",
-        check_errors: bool = False,
+        self, host: str = "127.0.0.1", port: int = DEFAULT_PORT, timeout: Optional[float] = 5.0,
+        sub_address: str = "hislip0", check_errors: bool = False
     ) -> None:
         self.timeout = timeout
         self.check_errors = check_errors
@@ -69,9 +57,7 @@ class Instrument:
         self._lock_call = threading.Lock()  # of the thread that asks for a lock or a release
         self._has_exclusive = False
         self._has_shared = False
-        self._asynchronous: Optional[Asynchronous] = None
-        self._channels: List[Channel] = []
-        self._end_all = ender(self._channels)
+        self._end_all = Ending()
         try:
             self._initialize()
         except BaseException:
@@ -91,7 +77,7 @@ class Instrument:
         self.close()
 
     def __repr__(self) -> str:
-        end = self._channels[0].end if self._channels else None
+        end = self._end_all.reason
         return f"<Instrument {self.resource}, {'open' if end is None else end[1]}>"
 
     def __del__(self) -> None:
@@ -107,11 +93,11 @@ class Instrument:
     def close(self) -> None:
         """Ends the session, also while other threads wait. Its locks are released, its waiting messages discarded."""
         self._end_all(*closed_by_client("close() was called"))
-        if self._asynchronous is not None:
+        if hasattr(self, "_asynchronous"):
             self._asynchronous.join()
         # The sockets are given back once the thread that was woken has left them.
         with self._turn.for_a_while(1.0) as is_taken:
-            for channel in self._channels if is_taken else ():
+            for channel in self._end_all.channels if is_taken else ():
                 channel.release()
 
     # Messages
@@ -185,15 +171,15 @@ class Instrument:
         A thread of its own calls it, one request at a time, so it may use this session. What it raises goes to
         `threading.excepthook`. Read the status byte in it: the next request comes only after that.
         """
-        self._background.set_callback(callback)
+        self._asynchronous.set_callback(callback)
 
     def wait_for_service_request(self, timeout: Optional[float]) -> int:
         """Returns the status byte of the oldest service request; raises Timeout where none comes in so many seconds."""
-        return self._background.wait_for_request(math.inf if timeout is None else timeout)
+        return self._asynchronous.wait_for_request(math.inf if timeout is None else timeout)
 
     def drop_service_requests(self) -> int:
         """Forgets the service requests that came and were not fetched, and returns how many they were."""
-        return self._background.drop_requests()
+        return self._asynchronous.drop_requests()
 
     # Locks
 
@@ -296,17 +282,12 @@ class Instrument:
 
     def _opened(self, interrupt: Optional[Interrupt] = None) -> Channel:
         channel = Channel(self._where.host, self._where.port, self._patience, self._end_all, interrupt)
-        self._channels.append(channel)
+        self._end_all.channels.append(channel)
         return channel
 
     @property
     def _patience(self) -> float:
         return math.inf if self.timeout is None else max(self.timeout, LEAST_WAIT)
 
-    @property
-    def _background(self) -> Asynchronous:
-        assert self._asynchronous is not None, "the session has begun"
-        return self._asynchronous
-
     def _ask(self, frame: Frame, response_kind: int, more: float = 0.0) -> Frame:
-        return self._background.ask(frame, response_kind, self._patience, self._patience + more)
+        return self._asynchronous.ask(frame, response_kind, self._patience, self._patience + more)

@@ -45,7 +45,6 @@ class Timeout(HislipError, TimeoutError):
 
     def __init__(self, text: str, session_continues: Optional[bool] = None) -> None:
         super().__init__(text + self.ENDS[session_continues])
-        self.text = text
         self.session_continues = session_continues
 
 

@@ -61,16 +61,10 @@ class MessageType(enum.IntEnum):
 
 
 # The types whose parameter is a MessageID.
-WITH_MESSAGE_ID = frozenset(
-    (
-        MessageType.DATA,
-        MessageType.DATA_END,
-        MessageType.TRIGGER,
-        MessageType.INTERRUPTED,
-        MessageType.ASYNC_INTERRUPTED,
-        MessageType.ASYNC_STATUS_QUERY,
-    )
-)
+WITH_MESSAGE_ID = frozenset((
+    MessageType.DATA, MessageType.DATA_END, MessageType.TRIGGER, MessageType.INTERRUPTED, MessageType.ASYNC_INTERRUPTED,
+    MessageType.ASYNC_STATUS_QUERY,
+))
 # The responses of the asynchronous connection, and of the synchronous one but for Data and DataEnd.
 REQUEST_OF: Dict[int, MessageType] = {
     MessageType.INITIALIZE_RESPONSE: MessageType.INITIALIZE,
@@ -117,8 +111,11 @@ class Frame(NamedTuple):
     parameter: int = 0
     payload: bytes = b""
 
+    def header(self) -> Header:
+        return Header(self.kind, self.control, self.parameter, len(self.payload))
+
     def pack(self) -> bytes:
-        return Header(self.kind, self.control, self.parameter, len(self.payload)).pack() + self.payload
+        return self.header().pack() + self.payload
 
 
 def unpack_header(data: bytes) -> Header:
@@ -180,9 +177,10 @@ class SocketFrames:
     def __init__(
         self, connection: socket.socket, largest: int = LARGEST_PAYLOAD, interrupt: Optional[Interrupt] = None
     ) -> None:
-        self._socket = connection
+        self.connection = connection
         self._largest = largest
         self._received = bytearray()
+        self.is_waiting = True  # for a signal that raises: whether all that was taken from the socket is kept
         self._ready, self._socket_alone = SELECTOR(), SELECTOR()
         self._ready.register(connection, selectors.EVENT_READ)
         self._socket_alone.register(connection, selectors.EVENT_READ)
@@ -210,7 +208,7 @@ class SocketFrames:
         """Reads until `size` bytes are there; False where the stream ended and none are."""
         while len(self._received) < size:
             self._wait(deadline, ready)
-            piece = self._socket.recv(65536)
+            piece = self.connection.recv(65536)
             if piece:
                 self._received += piece
             elif self._received:
@@ -221,14 +219,16 @@ class SocketFrames:
 
     def _wait(self, deadline: Optional[float], ready: selectors.BaseSelector) -> None:
         """Waits until the socket can be read. Its own timeout is that of a thread which sends."""
+        self.is_waiting = True
         files: List[object] = []
         while not files:
             left = LONGEST_SELECT if deadline is None else deadline - time.monotonic()
             files = [key.fileobj for key, _ in ready.select(min(max(left, 0), LONGEST_SELECT))]
             if not files and left < LONGEST_SELECT:
                 raise TimeoutError("no frame in time")
-        if files != [self._socket]:
+        if files != [self.connection]:
             raise Interrupted
+        self.is_waiting = False
 
 
 # In words
@@ -271,20 +271,16 @@ LOCK_INFO: Dict[int, str] = {0: "no exclusive lock", 1: "exclusive lock held"}
 STATUS_BITS = ("bit 0", "bit 1", "error queue", "QUES", "MAV", "ESB", "RQS", "OPER")
 
 _CONTROL_WORDS: Dict[int, Dict[int, str]] = {
-    MessageType.INITIALIZE_RESPONSE: MODES,
     MessageType.FATAL_ERROR: FATAL_ERRORS,
     MessageType.ERROR: ERRORS,
     MessageType.ASYNC_LOCK: LOCK_REQUESTS,
     MessageType.ASYNC_LOCK_RESPONSE: LOCK_RESPONSES,
-    MessageType.DATA: DELIVERED,
-    MessageType.DATA_END: DELIVERED,
-    MessageType.TRIGGER: DELIVERED,
-    MessageType.DEVICE_CLEAR_COMPLETE: MODES,
-    MessageType.DEVICE_CLEAR_ACKNOWLEDGE: MODES,
-    MessageType.ASYNC_DEVICE_CLEAR_ACKNOWLEDGE: MODES,
     MessageType.ASYNC_REMOTE_LOCAL_CONTROL: REMOTE_LOCAL,
-    MessageType.ASYNC_STATUS_QUERY: DELIVERED,
     MessageType.ASYNC_LOCK_INFO_RESPONSE: LOCK_INFO,
+    **dict.fromkeys((MessageType.DATA, MessageType.DATA_END, MessageType.TRIGGER,
+                     MessageType.ASYNC_STATUS_QUERY), DELIVERED),
+    **dict.fromkeys((MessageType.INITIALIZE_RESPONSE, MessageType.DEVICE_CLEAR_COMPLETE,
+                     MessageType.DEVICE_CLEAR_ACKNOWLEDGE, MessageType.ASYNC_DEVICE_CLEAR_ACKNOWLEDGE), MODES),
 }
 _STATUS_BYTES = (MessageType.ASYNC_SERVICE_REQUEST, MessageType.ASYNC_STATUS_RESPONSE)
 
@@ -312,16 +308,12 @@ def refusal_of(frame: Frame) -> Frame:
     return Frame(MessageType.ERROR, code, 0, ERRORS[code].encode())
 
 
-def status_in_words(status: int) -> str:
-    """Returns the names of the set bits of a status byte, as `MAV+RQS`."""
-    return "+".join(word for bit, word in enumerate(STATUS_BITS) if status >> bit & 1) or "no bit"
-
-
 @functools.lru_cache(maxsize=1024)
 def control_in_words(kind: int, control: int) -> str:
     """Returns what the control code of a message of this type means; empty where it means nothing."""
     if kind in _STATUS_BYTES:
-        return f"status {control} {status_in_words(control)}"
+        bits = [word for bit, word in enumerate(STATUS_BITS) if control >> bit & 1]
+        return f"status {control} {'+'.join(bits) or 'no bit'}"
     words = _CONTROL_WORDS.get(kind)
     if words is None:
         return "" if control == 0 else f"control {control}"

@@ -3,25 +3,20 @@ from __future__ import annotations
 
 import argparse
 import asyncio
+import concurrent.futures
+import contextlib
 import ipaddress
 import signal
 import socket
 import struct
 import sys
 import threading
-from typing import Callable, NamedTuple, Optional, Set, Tuple, TypeVar, Union
+from typing import Callable, List, NamedTuple, Optional, Set, Tuple, TypeVar, Union
 
-from .build_note import Version
-from .frames import (
-    DEFAULT_PORT,
-    HEADER_SIZE,
-    LARGEST_PAYLOAD,
-    CutShort,
-    Frame,
-    Header,
-    allowed_length,
-    unpack_header,
-)
+from .command_line import plain_parser
+from .errors import ServerNotStarted
+from .frames import DEFAULT_PORT, HEADER_SIZE, LARGEST_PAYLOAD, CutShort, Frame, allowed_length, unpack_header
+from .relay_rules import RuleError
 
 SERVER_ADDRESS = "127.0.0.1"
 ALLOW_REMOTE = "--allow-remote"
@@ -42,29 +37,27 @@ class Endpoint(NamedTuple):
 
 def parse_endpoint(text: str) -> Endpoint:
     """Reads `ADDRESS:PORT`, `[ADDRESS]:PORT` for IPv6, or `PORT` alone, which means 127.0.0.1."""
-    address, _, port = text.rpartition(":")
-    address = address[1:-1] if address.startswith("[") and address.endswith("]") else address
     try:
-        return Endpoint(str(ipaddress.ip_address(address or SERVER_ADDRESS)), parse_port(port, least=0))
+        address, port = split_endpoint(text, least_port=0)
+        return Endpoint(str(ipaddress.ip_address(address)), port)
     except ValueError:
         raise argparse.ArgumentTypeError(f"{text!r} is not ADDRESS:PORT, as 127.0.0.1:4881") from None
 
 
-def parse_port(text: str, least: int = 1) -> int:
-    port = int(text)
-    if not least <= port <= 65535:
-        raise ValueError(f"{port} is not a port")
-    return port
-
-
 def parse_server(text: str) -> Endpoint:
     """Reads where a server is: `PORT` on 127.0.0.1, or `HOST:PORT` with a name or an address."""
-    host, _, port = text.rpartition(":")
-    host = host[1:-1] if host.startswith("[") and host.endswith("]") else host
     try:
-        return Endpoint(host or SERVER_ADDRESS, parse_port(port))
+        return split_endpoint(text, least_port=1)
     except ValueError:
         raise argparse.ArgumentTypeError(f"{text!r} is not a port, or HOST:PORT") from None
+
+
+def split_endpoint(text: str, least_port: int) -> Endpoint:
+    host, _, port = text.rpartition(":")
+    host = host[1:-1] if host.startswith("[") and host.endswith("]") else host
+    if not least_port <= int(port) <= 65535:
+        raise ValueError(f"{port} is not a port")
+    return Endpoint(host or SERVER_ADDRESS, int(port))
 
 
 Target = Union[int, Endpoint]  # where a server is; a port alone is one of this machine
@@ -74,22 +67,40 @@ def endpoint_of(target: Target) -> Endpoint:
     return target if isinstance(target, Endpoint) else Endpoint(SERVER_ADDRESS, target)
 
 
-def add_listening_options(parser: argparse.ArgumentParser, port: int) -> None:
-    """Adds --version, --listen, --to and the option that allows another address than a loopback one."""
-    parser.add_argument("--version", action=Version)
+def listening_parser(program: str, description: Optional[str], port: int) -> argparse.ArgumentParser:
+    """Returns a parser with --listen, --to and the option that allows another address than a loopback one."""
+    parser = plain_parser(description, program)
     default = Endpoint(SERVER_ADDRESS, port)
     parser.add_argument("--listen", type=parse_endpoint, default=default, metavar="ADDRESS:PORT",
                         help=f"where clients connect ({default}); port 0 takes a free one")
-    server = Endpoint(SERVER_ADDRESS, DEFAULT_PORT)
-    parser.add_argument("--to", type=parse_server, default=server, metavar="[HOST:]PORT", help=f"the server ({server})")
+    add_server_option(parser)
     parser.add_argument(ALLOW_REMOTE, OLD_ALLOW_REMOTE, action="store_true", dest="is_open",
                         help="listen on an address that other machines reach, where anyone commands the instrument")
+    return parser
 
 
-def check_listening(parser: argparse.ArgumentParser, arguments: argparse.Namespace) -> None:
-    """Ends the program where other machines reach the address and that is not allowed."""
+def add_server_option(parser: argparse.ArgumentParser) -> None:
+    """Adds --to."""
+    server = Endpoint(SERVER_ADDRESS, DEFAULT_PORT)
+    parser.add_argument("--to", type=parse_server, default=server, metavar="[HOST:]PORT", help=f"the server ({server})")
+
+
+def parsed(parser: argparse.ArgumentParser, words: Optional[List[str]]) -> argparse.Namespace:
+    """Returns the options; ends the program where other machines reach the address and that is not allowed."""
+    arguments = parser.parse_args(words)
     if not ipaddress.ip_address(arguments.listen.address).is_loopback and not arguments.is_open:
         parser.error(f"anyone who reaches {arguments.listen} would command the instrument: add {ALLOW_REMOTE}")
+    return arguments
+
+
+def status_of(program: str, run: Callable[[], None]) -> int:
+    """Runs a program; returns its exit status: 1 for a fault, 2 for a wrong rule, with a line on standard error."""
+    try:
+        run()
+    except (RuleError, ServerNotStarted, OSError) as fault:
+        report(program, str(fault))
+        return 2 if isinstance(fault, RuleError) else 1
+    return 0
 
 
 Self = TypeVar("Self", bound="LoopServer")
@@ -111,7 +122,6 @@ class LoopServer:
         self._thread: Optional[threading.Thread] = None
         self._loop: Optional[asyncio.AbstractEventLoop] = None
         self._stopping: Optional[asyncio.Event] = None
-        self._fault: Optional[BaseException] = None
 
     async def serve(self, reader: asyncio.StreamReader, writer: asyncio.StreamWriter) -> None:
         """Serves one connection until it ends."""
@@ -164,12 +174,10 @@ class LoopServer:
     # In a thread
 
     def __enter__(self: Self) -> Self:
-        ready = threading.Event()
+        ready: "concurrent.futures.Future[None]" = concurrent.futures.Future()
         self._thread = threading.Thread(target=self._run_thread, args=(ready,), daemon=True)
         self._thread.start()
-        ready.wait()
-        if self._fault is not None:
-            raise self._fault
+        ready.result()
         return self
 
     def __exit__(self, *_: object) -> None:
@@ -178,38 +186,28 @@ class LoopServer:
             self._thread.join()
             self._thread = None
 
-    def _run_thread(self, ready: threading.Event) -> None:
+    def _run_thread(self, ready: "concurrent.futures.Future[None]") -> None:
         async def run() -> None:
             self._loop, self._stopping = asyncio.get_running_loop(), asyncio.Event()
-            await self.run(ready.set, self._stopping)
+            await self.run(lambda: ready.set_result(None), self._stopping)
 
         try:
             asyncio.run(run())
         except OSError as fault:
-            self._fault = fault
-        finally:
-            ready.set()
-
-
-async def read_header(reader: asyncio.StreamReader) -> Optional[Header]:
-    """Returns the next header, None where the stream ends before its first byte."""
-    try:
-        return unpack_header(await reader.readexactly(HEADER_SIZE))
-    except asyncio.IncompleteReadError as end:
-        if end.partial:
-            raise CutShort("the stream ended in the middle of a header") from None
-        return None
+            ready.set_exception(fault)
 
 
 async def read_frame(reader: asyncio.StreamReader, largest: int = LARGEST_PAYLOAD) -> Optional[Frame]:
     """Returns the next frame of an asyncio stream, None where the stream ends before it."""
-    header = await read_header(reader)
-    if header is None:
-        return None
+    head = b""
     try:
+        head = await reader.readexactly(HEADER_SIZE)
+        header = unpack_header(head)
         payload = await reader.readexactly(allowed_length(header, largest))
-    except asyncio.IncompleteReadError:
-        raise CutShort("the stream ended in the middle of a payload") from None
+    except asyncio.IncompleteReadError as end:
+        if not head and not end.partial:
+            return None
+        raise CutShort("the stream ended in the middle of a frame") from None
     return Frame(header.kind, header.control, header.parameter, payload)
 
 
@@ -232,34 +230,34 @@ def reset(writer: asyncio.StreamWriter) -> None:
     """Closes a connection at once, without what waits to be sent; the peer gets a reset."""
     connection = writer.get_extra_info("socket")
     if connection is not None:
-        try:
+        with contextlib.suppress(OSError):  # it is closed already
             connection.setsockopt(socket.SOL_SOCKET, socket.SO_LINGER, struct.pack("ii", 1, 0))
-        except OSError:
-            pass  # it is closed already
     writer.transport.abort()
 
 
 def run_until_signal(
-    server: LoopServer, ready: Callable[[], None], hang_up: Optional[Callable[[], None]] = None
+    server: LoopServer, is_announced: bool = True, hang_up: Optional[Callable[[], None]] = None
 ) -> None:
     """Serves until SIGTERM or SIGINT, and SIGHUP where that is not for `hang_up`; raises OSError without a port."""
+    def announce() -> None:
+        if is_announced:
+            print(f"listening on {Endpoint(server.listen.address, server.port)}", flush=True)
+
     async def run() -> None:
         stopping = asyncio.Event()
         loop = asyncio.get_running_loop()
         for number in (signal.SIGTERM, signal.SIGINT):
             loop.add_signal_handler(number, stopping.set)
         loop.add_signal_handler(signal.SIGHUP, hang_up or stopping.set)
-        await server.run(ready, stopping)
+        await server.run(announce, stopping)
 
     asyncio.run(run())
 
 
 def report(program: str, text: str) -> None:
     """Writes a line on standard error, as psu does; a closed standard error is no fault."""
-    try:
+    with contextlib.suppress(OSError, ValueError):
         print(f"{program}: {text}", file=sys.stderr, flush=True)
-    except (OSError, ValueError):
-        pass
 
 
 def close_soon(writer: asyncio.StreamWriter) -> None:

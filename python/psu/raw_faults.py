@@ -35,9 +35,7 @@ class RawFaults:
         self._session = session
         self._counts: Dict[int, Counts] = {}
         self._texts: "collections.OrderedDict[int, bytes]" = collections.OrderedDict()
-        self._command: Optional[Rule] = None  # for the message that is passed on
-        self._response: Optional[Rule] = None
-        self._is_inside = {Side.CLIENT: False, Side.SERVER: False}
+        self._chosen: Dict[Side, Optional[Rule]] = {}  # for the message of each side that is passed on
 
     def note_text(self, message_id: int, text: bytes) -> None:
         """Notes the text of a message, for the rules about the response to it."""
@@ -45,47 +43,39 @@ class RawFaults:
         if len(self._texts) > KEPT_TEXTS:
             self._texts.popitem(last=False)
 
-    async def take_command(self, data: bytes, is_end: bool) -> Optional[bytes]:
+    async def take_command(self, data: bytes) -> Optional[bytes]:
         """Returns a piece of a message as it is passed on; None where it is not."""
-        if not self._is_inside[Side.CLIENT]:
-            self._command = self._choose(Side.CLIENT, data, b"")
-            await self._begin(self._command)
-        self._is_inside[Side.CLIENT] = not is_end
-        return self._changed(self._command, data)
+        return self._changed(await self._rule_for(Side.CLIENT, data, b""), data)
 
-    def end_command(self) -> None:
-        """A message was passed on whole."""
-        self._drop(self._command, Action.DROP_AFTER)
-
-    async def take_response(self, writer: asyncio.StreamWriter, message_id: int, data: bytes, is_end: bool) -> None:
+    async def take_response(self, writer: asyncio.StreamWriter, message_id: int, data: bytes) -> None:
         """Passes on a part of a response to the client."""
-        if not self._is_inside[Side.SERVER]:
-            self._response = self._choose(Side.SERVER, data, self._texts.get(message_id, b""))
-            await self._begin(self._response)
-        self._is_inside[Side.SERVER] = not is_end
-        rule, content = self._response, self._changed(self._response, data)
-        if content is None:
-            return
+        rule = await self._rule_for(Side.SERVER, data, self._texts.get(message_id, b""))
+        content = self._changed(rule, data) or b""
+        size, pause = len(content), 0.0
         if rule is not None and rule.action is Action.CUT:
-            size = len(content) // 2 if rule.value is None else int(rule.value)
-            writer.write(content[: min(size, len(content) - 1)])
+            writer.write(content[: size // 2 if rule.value is None else min(int(rule.value), size - 1)])
             raise Disconnected(str(rule))
-        size = rule.size if rule is not None and rule.action is Action.TRICKLE else len(content)
+        if rule is not None and rule.action is Action.TRICKLE:
+            size, pause = rule.size, rule.value or 0
         for at in range(0, len(content), max(size, 1)):
             writer.write(content[at : at + size])
             await writer.drain()
-            if rule is not None and rule.action is Action.TRICKLE:
+            if pause:
+                await asyncio.sleep(pause)
+
+    def end_message(self, side: Side) -> None:
+        """A message of this side was passed on whole."""
+        self._drop(self._chosen.pop(side, None), Action.DROP_AFTER)
+
+    async def _rule_for(self, side: Side, data: bytes, query: bytes) -> Optional[Rule]:
+        """Returns the rule for a message, which its first piece chooses."""
+        if side not in self._chosen:
+            seen = Seen(side, MessageType.DATA_END, data, query, self._session)
+            rule = self._chosen[side] = self._rules.choose(seen, self._counts)
+            self._drop(rule, Action.DROP_BEFORE)
+            if rule is not None and rule.action is Action.DELAY:
                 await asyncio.sleep(rule.value or 0)
-        if is_end:
-            self._drop(rule, Action.DROP_AFTER)
-
-    def _choose(self, side: Side, data: bytes, query: bytes) -> Optional[Rule]:
-        return self._rules.choose(Seen(side, MessageType.DATA_END, data, query, self._session), self._counts)
-
-    async def _begin(self, rule: Optional[Rule]) -> None:
-        self._drop(rule, Action.DROP_BEFORE)
-        if rule is not None and rule.action is Action.DELAY:
-            await asyncio.sleep(rule.value or 0)
+        return self._chosen[side]
 
     def _changed(self, rule: Optional[Rule], data: bytes) -> Optional[bytes]:
         if rule is None:

@@ -7,39 +7,21 @@ requests.
 """
 from __future__ import annotations
 
-import argparse
 import asyncio
+import functools
 import sys
 from typing import Iterable, List, Optional, Tuple
 
 from .frames import (
-    FATAL_ERRORS,
-    FIRST_MESSAGE_ID,
-    PROTOCOL_1_0,
-    Frame,
-    FrameError,
-    MessageType,
-    after,
-    control_in_words,
-    name_of,
+    FATAL_ERRORS, FIRST_MESSAGE_ID, PROTOCOL_1_0, Frame, FrameError, MessageType, after, control_in_words, name_of,
 )
 from .listening import (
-    Endpoint,
-    LoopServer,
-    SERVER_ADDRESS,
-    Target,
-    add_listening_options,
-    check_listening,
-    close_soon,
-    connect,
-    endpoint_of,
-    read_frame,
-    report,
-    run_until_signal,
+    SERVER_ADDRESS, Endpoint, LoopServer, Target, close_soon, connect, endpoint_of, listening_parser, parsed, read_frame,
+    report, run_until_signal, status_of,
 )
 from .raw_faults import Disconnected, RawFaults, check_rules
 from .raw_messages import LARGEST_PART, Divider
-from .relay_rules import RuleError, RuleText, parsed_rules
+from .relay_rules import RuleText, Side, parsed_rules
 
 PROGRAM = "psu-socket"
 DEFAULT_PORT = 5025
@@ -47,16 +29,13 @@ VENDOR = int.from_bytes(b"PY", "big")  # two letters by which a client names its
 BEGIN_SECONDS = 10.0  # the longest wait for the server to begin a session
 # It changes nothing, and its response comes after those to all messages before it.
 LAST_MESSAGE = b"*STB?\n"
+say = functools.partial(report, PROGRAM)
 
 Stream = Tuple[asyncio.StreamReader, asyncio.StreamWriter]
 
 
 class Refused(Exception):
     """The server begins no session, or ended it."""
-
-
-def say(text: str) -> None:
-    report(PROGRAM, text)
 
 
 async def ask(stream: Stream, frame: Frame, response: MessageType) -> Frame:
@@ -80,8 +59,7 @@ class Session:
         self._to = to
         self._writers: List[asyncio.StreamWriter] = []
         self._next_id = FIRST_MESSAGE_ID
-        # RMT-delivered: a response was passed on whole since the last message was sent.
-        self._is_delivered = False
+        self.is_delivered = False  # RMT-delivered: a response was passed on whole since the last message was sent
 
     async def begin(self) -> None:
         self._sync = await self._connect()
@@ -100,8 +78,8 @@ class Session:
         kind = MessageType.DATA_END if is_end else MessageType.DATA
         message_id, self._next_id = self._next_id, after(self._next_id)
         writer = self._sync[1]
-        writer.write(Frame(kind, int(self._is_delivered), message_id, data).pack())
-        self._is_delivered = False
+        writer.write(Frame(kind, int(self.is_delivered), message_id, data).pack())
+        self.is_delivered = False
         await writer.drain()
         return message_id
 
@@ -116,9 +94,6 @@ class Session:
             if frame.kind == MessageType.FATAL_ERROR:
                 raise Refused(control_in_words(frame.kind, frame.control))
             say(f"{name_of(frame.kind)} of the server: {control_in_words(frame.kind, frame.control)}")
-
-    def note_delivered(self) -> None:
-        self._is_delivered = True
 
     async def discard_requests(self) -> None:
         """Reads the asynchronous connection until it ends: a raw socket has no place for service requests."""
@@ -176,30 +151,26 @@ class Client:
         self._last_id = await self._session.send(LAST_MESSAGE, True)
 
     async def _pass_message(self, data: bytes, is_end: bool) -> None:
-        passed = await self._faults.take_command(data, is_end)
+        passed = await self._faults.take_command(data)
         if passed is not None:
             self._faults.note_text(await self._session.send(passed, is_end), passed)
         if is_end:
-            self._faults.end_command()
+            self._faults.end_message(Side.CLIENT)
 
     async def _pass_responses(self) -> None:
         while True:
             frame = await self._session.receive()
             if frame.parameter == self._last_id:
                 return
-            await self._pass_response(frame)
-            if frame.kind == MessageType.DATA_END:
-                self._session.note_delivered()
-
-    async def _pass_response(self, frame: Frame) -> None:
-        # A client that has gone without reading its responses has its messages executed all the same.
-        if self._is_gone:
-            return
-        try:
             is_end = frame.kind == MessageType.DATA_END
-            await self._faults.take_response(self._writer, frame.parameter, frame.payload, is_end)
-        except ConnectionError:
-            self._is_gone = True
+            try:
+                if not self._is_gone:
+                    await self._faults.take_response(self._writer, frame.parameter, frame.payload)
+            except ConnectionError:
+                self._is_gone = True  # its messages are executed all the same
+            if is_end:
+                self._faults.end_message(Side.SERVER)
+                self._session.is_delivered = True
 
 
 class RawSocket(LoopServer):
@@ -238,24 +209,12 @@ class RawSocket(LoopServer):
 
 
 def main(words: Optional[List[str]] = None) -> int:
-    """Runs the program; returns its exit status: 1 for a fault, 2 for a wrong rule, with a line on standard error."""
-    parser = argparse.ArgumentParser(prog=PROGRAM, description=__doc__,
-                                     formatter_class=argparse.RawDescriptionHelpFormatter)
-    add_listening_options(parser, DEFAULT_PORT)
+    """Runs the program; returns its exit status."""
+    parser = listening_parser(PROGRAM, __doc__, DEFAULT_PORT)
     parser.add_argument("--rule", action="append", default=[], metavar="RULE", help="a fault, as the rules of psu-relay")
     parser.add_argument("--seed", type=int, default=0, help="the seed of what a rule leaves to chance (0)")
-    arguments = parser.parse_args(words)
-    check_listening(parser, arguments)
-    try:
-        raw = RawSocket(arguments.to, arguments.listen, arguments.rule, arguments.seed)
-        run_until_signal(raw, lambda: print(f"listening on {Endpoint(raw.listen.address, raw.port)}", flush=True))
-    except RuleError as fault:
-        say(str(fault))
-        return 2
-    except OSError as fault:
-        say(str(fault))
-        return 1
-    return 0
+    given = parsed(parser, words)
+    return status_of(PROGRAM, lambda: run_until_signal(RawSocket(given.to, given.listen, given.rule, given.seed)))
 
 
 if __name__ == "__main__":

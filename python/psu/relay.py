@@ -8,50 +8,37 @@ from __future__ import annotations
 
 import argparse
 import asyncio
+import atexit
+import functools
+import logging
 import random
 import sys
 import time
-from typing import BinaryIO, Iterable, List, Optional, TextIO
+from typing import BinaryIO, Iterable, List, Optional, TextIO, Union
 
 from .listening import (
-    SERVER_ADDRESS,
-    Endpoint,
-    LoopServer,
-    Target,
-    add_listening_options,
-    check_listening,
-    connect,
-    endpoint_of,
-    report,
-    run_until_signal,
+    SERVER_ADDRESS, Endpoint, LoopServer, Target, connect, endpoint_of, listening_parser, parsed, report,
+    run_until_signal, status_of,
 )
 from .relay_connection import Connection
-from .relay_log import Entry, Event, LogWriter, json_event, json_line, text_event, text_line
+from .relay_log import Entry, Event, LogWriter, RotatingFile, json_event, json_line, text_event, text_line
 from .relay_pcap import FILE_HEADER, Packets
-from .relay_rules import Rule, RuleError, Rules, RuleText, parse_rule, parse_rules, parsed_rules
+from .relay_rules import Rule, RuleError, RuleText, parse_rules, parsed_rules
 from .relay_summary import Summary
 from .relay_traffic import Traffic
 
 PROGRAM = "psu-relay"
 DEFAULT_PORT = 4881
-
-
-def say(text: str) -> None:
-    report(PROGRAM, text)
+say = functools.partial(report, PROGRAM)
 
 
 class Relay(LoopServer):
     """A relay. In a test: `with Relay(to=server.port, rules=["hold response number 3"]) as relay: .. relay.port`."""
 
     def __init__(
-        self,
-        to: Target,
-        rules: Iterable[RuleText] = (),
-        log: Optional[TextIO] = None,
-        listen: Endpoint = Endpoint(SERVER_ADDRESS, 0),
-        seed: int = 0,
-        is_json: bool = False,
-        pcap: Optional[BinaryIO] = None,
+        self, to: Target, rules: Iterable[RuleText] = (), log: Union[TextIO, RotatingFile, None] = None,
+        listen: Endpoint = Endpoint(SERVER_ADDRESS, 0), seed: int = 0, is_json: bool = False,
+        pcap: Optional[BinaryIO] = None
     ) -> None:
         super().__init__(listen)
         self.to = to
@@ -62,15 +49,11 @@ class Relay(LoopServer):
             self._pcap.add(FILE_HEADER)
         self._traffic = Traffic(parsed_rules(rules, seed), self._write_entry, self._write_event)
         self._entry_line, self._event_line = (json_line, json_event) if is_json else (text_line, text_event)
-        self._log = LogWriter(log, say) if log is not None else None
+        self._log = LogWriter(log, say, self._missing_line) if log is not None else None
 
     def set_rules(self, rules: Iterable[RuleText], seed: int = 0) -> None:
         """Takes other rules, also while it runs: they are for the messages that come from now on, and count anew."""
         self._traffic.rules = parsed_rules(rules, seed)
-
-    def take_rules(self, rules: Iterable[Rule], seed: int) -> None:
-        """Takes rules that are read already, instead of those of the constructor."""
-        self._traffic.rules = Rules(rules, seed)
 
     def unused_rules(self) -> List[str]:
         """Returns the lines of the rules that never applied: often a word in them is wrong."""
@@ -114,26 +97,21 @@ class Relay(LoopServer):
         if self._pcap is not None:
             self._pcap.add(self._packets.of(entry))
         if self._log is not None:
-            self._write_missing()
             self._log.add(self._entry_line(entry))
 
     def _write_event(self, event: Event) -> None:
         if self._log is not None:
-            self._write_missing()
             self._log.add(self._event_line(event))
 
-    def _write_missing(self) -> None:
-        assert self._log is not None
-        missing = self._log.take_missing()
-        if missing:
-            self._log.add(self._event_line(Event(time.time(), 0, "missing", f"{missing} lines had no place here")))
+    def _missing_line(self, count: int) -> str:
+        return self._event_line(Event(time.time(), 0, "missing", f"{count} lines had no place here"))
 
 
 def make_parser() -> argparse.ArgumentParser:
-    parser = argparse.ArgumentParser(prog=PROGRAM, description=__doc__,
-                                     formatter_class=argparse.RawDescriptionHelpFormatter)
-    add_listening_options(parser, DEFAULT_PORT)
+    parser = listening_parser(PROGRAM, __doc__, DEFAULT_PORT)
     parser.add_argument("--log", metavar="FILE", help="where the traffic is written (standard output)")
+    parser.add_argument("--log-size", type=int, default=0, metavar="BYTES",
+                        help="begin another file before one has more bytes, and keep five older ones (0: one file)")
     parser.add_argument("--pcap", metavar="FILE", help="a file of the traffic for Wireshark, which is written anew")
     parser.add_argument("--json", action="store_true", help="write each line of the log as a JSON object")
     parser.add_argument("--quiet", action="store_true", help="write no log")
@@ -144,65 +122,46 @@ def make_parser() -> argparse.ArgumentParser:
 
 
 def read_rules(arguments: argparse.Namespace) -> List[Rule]:
-    rules: List[Rule] = []
-    if arguments.rules is not None:
-        with open(arguments.rules, encoding="utf-8") as file:
-            try:
-                rules = parse_rules(file.read())
-            except RuleError as fault:
-                raise RuleError(f"{arguments.rules}, {fault}") from None
-    for number, line in enumerate(arguments.rule, 1):
-        try:
-            rules.append(parse_rule(line, f"option {number}"))
-        except RuleError as fault:
-            raise RuleError(f"--rule {line!r}: {fault}") from None
-    return rules
+    rules = parse_rules(arguments.rule, "option", lambda _, line: f"--rule {line!r}")
+    if arguments.rules is None:
+        return rules
+    with open(arguments.rules, encoding="utf-8") as file:
+        return parse_rules(file, "rule", lambda number, _: f"{arguments.rules}, line {number}") + rules
 
 
-def open_log(arguments: argparse.Namespace) -> Optional[TextIO]:
+def open_log(arguments: argparse.Namespace) -> Union[TextIO, RotatingFile, None]:
     if arguments.quiet:
         return None
     if arguments.log is None:
         return sys.stdout
-    return open(arguments.log, "a", encoding="utf-8")
+    atexit.unregister(logging.shutdown)  # which would wait for a file that takes nothing
+    return RotatingFile(arguments.log, arguments.log_size)
 
 
 def main(words: Optional[List[str]] = None) -> int:
-    """Runs the program; returns its exit status: 1 for a fault, 2 for a wrong rule, with a line on standard error."""
-    parser = make_parser()
-    arguments = parser.parse_args(words)
-    check_listening(parser, arguments)
+    """Runs the program; returns its exit status."""
+    arguments = parsed(make_parser(), words)
+    return status_of(PROGRAM, lambda: run(arguments))
+
+
+def run(arguments: argparse.Namespace) -> None:
     seed = random.SystemRandom().randrange(1 << 32) if arguments.seed is None else arguments.seed
-    try:
-        rules = read_rules(arguments)
-        log = open_log(arguments)
-        pcap = open(arguments.pcap, "wb") if arguments.pcap is not None else None
-        relay = Relay(arguments.to, log=log, listen=arguments.listen, is_json=arguments.json, pcap=pcap)
-        relay.take_rules(rules, seed)
-        read_again = None if arguments.rules is None else lambda: set_again(relay, arguments, seed)
-        run_until_signal(relay, lambda: announce(relay, log), read_again)
-    except RuleError as fault:
-        say(str(fault))
-        return 2
-    except OSError as fault:
-        say(str(fault))
-        return 1
-    return 0
+    rules = read_rules(arguments)
+    log = open_log(arguments)
+    pcap = open(arguments.pcap, "wb") if arguments.pcap is not None else None
+    relay = Relay(arguments.to, rules, log, arguments.listen, seed, arguments.json, pcap)
+    read_again = None if arguments.rules is None else lambda: set_again(relay, arguments, seed)
+    # Where the log is on standard output, its first line says where the relay listens.
+    run_until_signal(relay, log is not sys.stdout, read_again)
 
 
 def set_again(relay: Relay, arguments: argparse.Namespace, seed: int) -> None:
     """Reads the rules again; where one is wrong those before stay."""
     try:
-        relay.take_rules(read_rules(arguments), seed)
+        relay.set_rules(read_rules(arguments), seed)
         say("the rules were read again")
     except (RuleError, OSError) as fault:
         say(f"the rules stay as they were: {fault}")
-
-
-def announce(relay: Relay, log: Optional[TextIO]) -> None:
-    """Says where the relay listens, as psu does; where the log is on standard output, its first line says it."""
-    if log is not sys.stdout:
-        print(f"listening on {Endpoint(relay.listen.address, relay.port)}", flush=True)
 
 
 if __name__ == "__main__":

@@ -39,19 +39,8 @@ def corrupted(payload: bytes, count: int, generator: random.Random) -> bytes:
 # In words
 
 
-FAULT_TEXTS = {
-    Action.DELAY: "delayed {} s",
-    Action.HOLD: "held back",
-    Action.DROP_BEFORE: "connection dropped before it",
-    Action.DROP_AFTER: "connection dropped after it",
-    Action.CUT: "cut after {} bytes, connection dropped",
-    Action.REFUSE: "session refused",
-    Action.STOP_READING: "nothing more is read",
-    Action.FATAL_ERROR: "FatalError instead, connection dropped",
-    Action.ERROR: "Error instead",
-    Action.REPEAT: "repeated after {} s",
-    Action.TRICKLE: "in pieces, each after {} s",
-}
+# How the text begins of what keeps a message, or a part of it, from the other side.
+KEPT_BACK = ("held back", "connection dropped before", "cut ", "session refused", "FatalError instead", "Error instead")
 
 
 def fault_text(rule: Rule, action: Action) -> str:
@@ -60,4 +49,4 @@ def fault_text(rule: Rule, action: Action) -> str:
         return "cut in the middle, connection dropped"
     if action is Action.STOP_READING and rule.value is not None:
         return f"nothing more is read for {rule.value:g} s"
-    return FAULT_TEXTS[action].format(f"{rule.value or 0:g}")
+    return action.text.format(f"{rule.value or 0:g}")

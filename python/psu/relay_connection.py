@@ -2,15 +2,15 @@
 from __future__ import annotations
 
 import asyncio
-import itertools
+import contextlib
 import time
-from typing import Awaitable, Callable, Dict, List, Optional
+from typing import List, Optional, Set
 
 from .frames import HEADER_SIZE, Frame, FrameError, Header, MessageType, unpack_header
 from .listening import close_soon, reset
 from .relay_changes import CHANGES, changed, fault_text
-from .relay_log import Entry, payload_text
-from .relay_rules import Action, Rule, Seen, Side
+from .relay_log import MADE_BY_RELAY, Entry, payload_text
+from .relay_rules import Rule, Seen, Side
 from .relay_session import Session, Transmissions
 from .relay_traffic import Outlet, Traffic
 
@@ -38,7 +38,7 @@ class Connection:
         self.is_async = False
         self.outlets = {Side.SERVER: Outlet(to_client), Side.CLIENT: Outlet(to_server)}  # by who sends
         self._tasks: "List[asyncio.Task[None]]" = []
-        self.timers: Dict[int, asyncio.TimerHandle] = {}  # of what is still to be repeated
+        self.timers: Set[asyncio.TimerHandle] = set()  # of what is still to be repeated
         self._is_ending = asyncio.Event()
 
     async def run(self, from_client: asyncio.StreamReader, from_server: asyncio.StreamReader) -> None:
@@ -60,10 +60,8 @@ class Connection:
 
     async def wait(self, seconds: Optional[float]) -> None:
         """Waits so long, or until the session ends."""
-        try:
+        with contextlib.suppress(asyncio.TimeoutError):
             await asyncio.wait_for(self._is_ending.wait(), seconds)
-        except asyncio.TimeoutError:
-            pass
 
     def wake(self) -> None:
         self._is_ending.set()
@@ -81,7 +79,7 @@ class Connection:
                 task.cancel()
 
     def _end(self) -> None:
-        for timer in self.timers.values():
+        for timer in self.timers:
             timer.cancel()
         for outlet in self.outlets.values():
             close_soon(outlet.writer)
@@ -125,64 +123,40 @@ class Direction:
         self._outlet = connection.outlets[side]
         self._to_client = connection.outlets[Side.SERVER]
         self._transmissions = Transmissions()
-        self._repeats = itertools.count()
-        self._acts: Dict[Action, Callable[[Rule, Header, bytes], Awaitable[None]]] = {
-            Action.DELAY: self._delay,
-            Action.HOLD: self._hold,
-            Action.DROP_BEFORE: self._drop_before,
-            Action.DROP_AFTER: self._drop_after,
-            Action.CUT: self._cut,
-            Action.REFUSE: self._refuse,
-            Action.STOP_READING: self._stop_reading,
-            Action.FATAL_ERROR: self._fatal_error,
-            Action.ERROR: self._error,
-            Action.REPEAT: self._repeat,
-            Action.TRICKLE: self._trickle,
-        }
 
     async def run(self) -> None:
         """Passes frames on until the sender's end of the stream."""
         while True:
-            head = await self._read(HEADER_SIZE)
-            if len(head) < HEADER_SIZE:
-                return await self._pass_end(head)
+            head = b""
             try:
+                head = await self._reader.readexactly(HEADER_SIZE)
                 header = unpack_header(head)
+                size = header.length if header.length <= WHOLE_PAYLOAD else 0
+                await self._take(header, await self._reader.readexactly(size) if size else b"")
+            except asyncio.IncompleteReadError as end:
+                return await self._pass_end(head + end.partial)
             except FrameError:
                 return await self._pass_raw(head)
-            size = header.length if header.length <= WHOLE_PAYLOAD else 0
-            payload = await self._read(size)
-            if len(payload) < size:
-                return await self._pass_end(head + payload)
-            try:
-                await self._take(header, payload)
             except EndOfStream:
                 return
-
-    async def _read(self, size: int) -> bytes:
-        """Returns so many bytes, or fewer where the stream ends before."""
-        try:
-            return await self._reader.readexactly(size)
-        except asyncio.IncompleteReadError as end:
-            return end.partial
 
     async def _take(self, header: Header, payload: bytes) -> None:
         begins = self._transmissions.begins_message(header)
         seconds = self._note(header, payload)
-        rule, action = self._transmissions.rule, self._transmissions.rest_action()
         if begins:
             rule = self._transmissions.rule = self._choose(header, payload)
             action = rule.action if rule is not None else None
+        else:
+            rule, action = self._transmissions.rule, self._transmissions.rest_action()
         if rule is None or action is None:
             self._write(header, payload)
             self._log(header, payload, seconds, "")
             await self._finish(header, payload)
-            return
-        if action in CHANGES:
+        elif action in CHANGES:
             await self._pass_changed(rule, header, payload, seconds)
-            return
-        self._log(header, payload, seconds, f"{fault_text(rule, action)}: {rule.name}")
-        await self._acts[action](rule, header, payload)
+        else:
+            self._log(header, payload, seconds, f"{fault_text(rule, action)}: {rule.name}")
+            await getattr(self, f"_{action.name.lower()}")(rule, header, payload)
 
     # What is known of a message
 
@@ -197,7 +171,7 @@ class Direction:
         session.messages += 1
         if self._side is Side.SERVER:
             if header.kind == MessageType.INITIALIZE_RESPONSE:
-                self._traffic.sessions.name(header.parameter & 0xFFFF, session)
+                self._traffic.sessions[header.parameter & 0xFFFF] = session
             if header.kind == MessageType.DEVICE_CLEAR_ACKNOWLEDGE:
                 # Up to here a response may have been under way.
                 self._traffic.report_unanswered(session)
@@ -216,7 +190,7 @@ class Direction:
             peer = self._to_client.writer.get_extra_info("peername") or ("?", 0)
             self._traffic.event(connection.session, "began", f"a client at {peer[0]} port {peer[1]}")
         elif header.kind == MessageType.ASYNC_INITIALIZE:
-            session = self._traffic.sessions.find(header.parameter)
+            session = self._traffic.sessions.get(header.parameter)
             if session is not None:
                 connection.join(session, is_async=True)
 
@@ -231,12 +205,14 @@ class Direction:
             query = session.query_of(header.parameter) if is_response else b""
         return self._traffic.rules.choose(Seen(self._side, header.kind, payload, query, number), counts)
 
-    def _log(self, header: Header, payload: bytes, seconds: Optional[float], fault: str) -> None:
-        connection = self._connection
+    def _log(
+        self, header: Header, payload: bytes, seconds: Optional[float], fault: str, side: Optional[Side] = None
+    ) -> None:
+        connection, is_from_client = self._connection, (side or self._side) is Side.CLIENT
         number = connection.session.number if connection.session is not None else 0
-        entry = Entry(time.time(), number, connection.is_async, self._side is Side.CLIENT, header.kind,
-                      header.control, header.parameter, header.length, payload, seconds, fault)
-        self._traffic.write_entry(entry)
+        kind, control, parameter, length = header
+        self._traffic.write_entry(Entry(time.time(), number, connection.is_async, is_from_client, kind, control,
+                                        parameter, length, payload, seconds, fault))
 
     # Passing on
 
@@ -250,7 +226,7 @@ class Direction:
         if header.length == len(payload):
             self._outlet.write(header.pack() + payload)
         else:
-            self._outlet.begin()
+            self._outlet.is_inside = True
             self._outlet.write(header.pack())
 
     async def _finish(self, header: Header, payload: bytes) -> None:
@@ -262,7 +238,8 @@ class Direction:
             self._outlet.write(piece)
             await self._outlet.writer.drain()
             left -= len(piece)
-        self._outlet.end()
+        if self._outlet.is_inside:
+            self._outlet.end()
 
     async def _pass(self, header: Header, payload: bytes) -> None:
         self._write(header, payload)
@@ -290,7 +267,7 @@ class Direction:
             await self._outlet.writer.drain()
             piece = await self._reader.read(PIECE)
 
-    # Faults
+    # Faults: a method for each action that changes nothing
 
     async def _pass_changed(self, rule: Rule, header: Header, payload: bytes, seconds: Optional[float]) -> None:
         new = changed(rule, payload, self._traffic.rules.generator)
@@ -299,7 +276,7 @@ class Direction:
 
     async def _trickle(self, rule: Rule, header: Header, payload: bytes) -> None:
         frame = header.pack() + payload
-        self._outlet.begin()
+        self._outlet.is_inside = True
         for at in range(0, len(frame), rule.size):
             self._outlet.write(frame[at : at + rule.size])
             await self._outlet.writer.drain()
@@ -349,26 +326,22 @@ class Direction:
     async def _repeat(self, rule: Rule, header: Header, payload: bytes) -> None:
         await self._pass(header, payload)
         timers = self._connection.timers
-        if len(timers) < MOST_REPEATS:
-            number = next(self._repeats)
-            frame = Frame(header.kind, header.control, header.parameter, payload)
-            timers[number] = asyncio.get_running_loop().call_later(rule.value or 0, self._add_repeated, number, rule, frame)
 
-    def _add_repeated(self, number: int, rule: Rule, frame: Frame) -> None:
-        del self._connection.timers[number]
-        self._add(rule, frame)
+        def repeat() -> None:
+            timers.remove(timer)
+            self._add(rule, Frame(header.kind, header.control, header.parameter, payload))
+
+        if len(timers) < MOST_REPEATS:
+            timer = asyncio.get_running_loop().call_later(rule.value or 0, repeat)
+            timers.add(timer)
 
     def _answer(self, rule: Rule, kind: MessageType, code: int) -> None:
         self._add(rule, Frame(kind, code, 0, ERROR_TEXT))
 
     def _add(self, rule: Rule, frame: Frame) -> None:
         """Sends the client a frame that the server did not send."""
-        connection = self._connection
-        number = connection.session.number if connection.session is not None else 0
         self._to_client.add(frame)
-        self._traffic.write_entry(Entry(time.time(), number, connection.is_async, False, frame.kind, frame.control,
-                                        frame.parameter, len(frame.payload), frame.payload, None,
-                                        f"sent by the relay: {rule.name}"))
+        self._log(frame.header(), frame.payload, None, f"{MADE_BY_RELAY}: {rule.name}", Side.SERVER)
 
     def _drop(self, rule: Rule) -> None:
         session = self._connection.session

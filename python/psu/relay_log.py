@@ -6,21 +6,23 @@
 from __future__ import annotations
 
 import base64
-import collections
 import datetime
 import functools
 import json
-import re
+import logging.handlers
+import queue
 import threading
 import time
-from typing import IO, AnyStr, Callable, Deque, Dict, Generic, List, NamedTuple, Optional
+from typing import IO, Any, Callable, Dict, NamedTuple, Optional, Union
 
+from .blocks import BLOCK, length_in
 from .frames import WITH_MESSAGE_ID, MessageType, control_in_words, name_of
 
 SHOWN_PAYLOAD = 120  # the most characters of a payload in a line
 SHOWN_BLOCK = 16  # the most bytes of a block
 WAITING_LINES = 20_000  # beyond so many lines that are not written yet, lines are left out and counted
 BATCH_SECONDS = 0.02
+MADE_BY_RELAY = "sent by the relay"  # how the fault of an entry begins that no server sent
 
 
 class Entry(NamedTuple):
@@ -51,47 +53,28 @@ class Event(NamedTuple):
 # Payloads
 
 
-BLOCK = re.compile(rb"#([1-9])")
-
-
 def payload_text(payload: bytes, length: int) -> str:
     """Returns a payload as text: bytes that are no characters as `\\x00`, blocks and long texts cut short.
 
     `payload` has the first bytes, and `length` is the number of all.
     """
-    pieces: List[str] = []
-    at = 0
-    while at < len(payload) and len(pieces) < 8:
+    text, at = "", 0
+    found = BLOCK.search(payload)
+    while found is not None and len(text) <= SHOWN_PAYLOAD:
+        size = length_in(found)
+        content = payload[found.end() : found.end() + size]
+        if size > SHOWN_BLOCK or len(content) < size:
+            content = b"%b..(%d bytes)" % (content[:SHOWN_BLOCK], size)
+        text += _escaped(payload[at : found.end()] + content)
+        at = found.end() + size
         found = BLOCK.search(payload, at)
-        begin, size = _block_in(payload, found)
-        if begin < 0:
-            break
-        pieces.append(_escaped(payload[at:begin]) + _block_text(payload[begin : begin + size], size))
-        at = begin + size
     rest = payload[at : at + SHOWN_PAYLOAD]
-    text = "".join(pieces) + _escaped(rest)
+    text += _escaped(rest)
     shown = at + len(rest)
     is_last_byte_alone = len(payload) < shown == length - 1  # the line feed after a block, whose bytes are left out
     if len(text) > SHOWN_PAYLOAD or shown < length and not is_last_byte_alone:
         return f"{text[:SHOWN_PAYLOAD]}..({length} bytes)"
     return text
-
-
-def _block_in(payload: bytes, found: Optional["re.Match[bytes]"]) -> "tuple[int, int]":
-    """Returns where the content of a block begins and its size; -1 where no block was found."""
-    if found is None:
-        return -1, 0
-    begin = found.end() + int(found.group(1))
-    digits = payload[found.end() : begin]
-    if len(digits) != int(found.group(1)) or not digits.isdigit():
-        return -1, 0
-    return begin, int(digits)
-
-
-def _block_text(content: bytes, size: int) -> str:
-    if size <= SHOWN_BLOCK and len(content) == size:
-        return _escaped(content)
-    return f"{_escaped(content[:SHOWN_BLOCK])}..({size} bytes)"
 
 
 _ESCAPES: Dict[int, str] = {byte: f"\\x{byte:02x}" for byte in [*range(32), *range(127, 256)]}
@@ -106,20 +89,16 @@ def _escaped(data: bytes) -> str:
 
 
 ARROWS = {(False, True): "-->", (False, False): "<--", (True, True): "..>", (True, False): "<.."}
-ERRORS = (int(MessageType.FATAL_ERROR), int(MessageType.ERROR))
-
-
-SIZES = (int(MessageType.ASYNC_MAXIMUM_MESSAGE_SIZE), int(MessageType.ASYNC_MAXIMUM_MESSAGE_SIZE_RESPONSE))
+ERRORS = (MessageType.FATAL_ERROR, MessageType.ERROR)
+SIZES = (MessageType.ASYNC_MAXIMUM_MESSAGE_SIZE, MessageType.ASYNC_MAXIMUM_MESSAGE_SIZE_RESPONSE)
+MARKED_EVENTS = ("unanswered", "missing", "no server", "no HiSLIP", "too many")
+USUAL_ENDS = ("closed by the client", "the relay stopped")  # how a session may end without a mark
 
 
 def _shown_payload(entry: Entry) -> str:
     if entry.kind in SIZES and len(entry.payload) == 8:
         return f"{int.from_bytes(entry.payload, 'big')} bytes"
     return payload_text(entry.payload, entry.length)
-
-
-def _has_message_id(entry: Entry) -> bool:
-    return entry.kind in WITH_MESSAGE_ID
 
 
 @functools.lru_cache(maxsize=4)
@@ -131,30 +110,22 @@ def _clock(moment: float) -> str:
     return f"{_second(int(moment))}.{int(moment % 1 * 1e6):06d}"
 
 
-def _session(number: int) -> str:
-    return str(number) if number else "-"
-
-
 def text_line(entry: Entry) -> str:
     """Returns the line of a message. `!` marks the lines of faults and errors."""
     mark = "!" if entry.fault or entry.kind in ERRORS else " "
     arrow = ARROWS[entry.is_async, entry.is_from_client]
-    parameter = f"{entry.parameter:08x}" if _has_message_id(entry) or entry.parameter else ""
+    parameter = f"{entry.parameter:08x}" if entry.kind in WITH_MESSAGE_ID or entry.parameter else ""
     seconds = f"+{entry.seconds * 1000:.1f} ms" if entry.seconds is not None else ""
-    what = [words for words in (control_in_words(entry.kind, entry.control), _shown_payload(entry)) if words]
-    line = (f"{_clock(entry.time)} {mark}{_session(entry.session):>3} {arrow} {name_of(entry.kind):<19} "
-            f"{parameter:<8} {seconds:>11}  {'  '.join(what)}")
+    what = "  ".join(filter(None, (control_in_words(entry.kind, entry.control), _shown_payload(entry))))
+    line = (f"{_clock(entry.time)} {mark}{entry.session or '-':>3} {arrow} {name_of(entry.kind):<19} "
+            f"{parameter:<8} {seconds:>11}  {what}")
     return (line + f"  [{entry.fault}]" if entry.fault else line).rstrip() + "\n"
 
 
 def text_event(event: Event) -> str:
     is_unusual_end = event.name == "ended" and not event.text.startswith(USUAL_ENDS)
     mark = "!" if event.name in MARKED_EVENTS or is_unusual_end else " "
-    return f"{_clock(event.time)} {mark}{_session(event.session):>3} --- {event.name}: {event.text}\n"
-
-
-MARKED_EVENTS = ("unanswered", "missing", "no server", "no HiSLIP", "too many")
-USUAL_ENDS = ("closed by the client", "the relay stopped")  # how a session may end without a mark
+    return f"{_clock(event.time)} {mark}{event.session or '-':>3} --- {event.name}: {event.text}\n"
 
 
 def _moment(moment: float) -> str:
@@ -171,7 +142,7 @@ def json_line(entry: Entry) -> str:
         "type": name_of(entry.kind),
         "control": entry.control,
         "control_words": control_in_words(entry.kind, entry.control),
-        "message_id" if _has_message_id(entry) else "parameter": entry.parameter,
+        "message_id" if entry.kind in WITH_MESSAGE_ID else "parameter": entry.parameter,
         "length": entry.length,
         "payload": _shown_payload(entry),
     }
@@ -192,67 +163,86 @@ def json_event(event: Event) -> str:
 # Writing
 
 
-class LogWriter(Generic[AnyStr]):
-    """Writes lines, or other pieces, by a thread of its own. Where the file takes none, lines wait, and beyond a limit are left out."""
+class RotatingFile(logging.handlers.RotatingFileHandler):
+    """A file to which texts are appended. Before it has more than so many bytes it is renamed, and another one begins.
 
-    def __init__(self, file: IO[AnyStr], report: Callable[[str], None], limit: int = WAITING_LINES) -> None:
-        self._file: IO[AnyStr] = file
+    Of the files before, FILE.1 is the newest. With a size of 0 there is one file.
+    """
+
+    terminator = ""
+
+    def __init__(self, path: str, size: int = 0, older: int = 5) -> None:
+        super().__init__(path, maxBytes=size, backupCount=older, encoding="utf-8")
+
+    def write(self, text: str) -> None:
+        self.emit(logging.makeLogRecord({"msg": text}))
+
+    def handleError(self, record: logging.LogRecord) -> None:
+        raise  # what `write` met
+
+
+class LogWriter(logging.handlers.QueueListener):
+    """Writes lines, or bytes, by a thread of its own. Where the file takes none, so many wait; others are left out.
+
+    `missing` returns the line that says of so many lines that they were left out; it comes once there is place again.
+    """
+
+    def __init__(
+        self, file: Union[IO[Any], RotatingFile], report: Callable[[str], None],
+        missing: Optional[Callable[[int], str]] = None, limit: int = WAITING_LINES
+    ) -> None:
+        super().__init__(queue.SimpleQueue())
+        self._file = file
         self._report = report
-        self._limit = limit
-        self._lines: Deque[AnyStr] = collections.deque()
+        self._missing_line = missing
         self._missing = 0
-        self._has_lines = threading.Event()
-        self._is_ending = False
-        self._is_writing = False
-        self._thread = threading.Thread(target=self._run, daemon=True)
-        self._thread.start()
+        self._limit = limit
+        self._added = self._written = 0
+        self.start()
 
-    def add(self, line: AnyStr) -> bool:
+    def add(self, line: Union[str, bytes]) -> bool:
         """Takes a line; returns whether it had place."""
-        if len(self._lines) >= self._limit:
+        if self.queue.qsize() >= self._limit:
             self._missing += 1
             return False
-        self._lines.append(line)
-        if not self._has_lines.is_set():
-            self._has_lines.set()
+        if self._missing and self._missing_line is not None:
+            missing, self._missing = self._missing, 0
+            self.add(self._missing_line(missing))
+        self._added += 1
+        self.queue.put(line)
         return True
-
-    def take_missing(self) -> int:
-        """Returns how many lines were left out since the last call; 0 while there is no place to say so."""
-        if not self._missing or len(self._lines) >= self._limit:
-            return 0
-        missing, self._missing = self._missing, 0
-        return missing
 
     def flush(self, seconds: float) -> None:
         """Returns once all lines that were added are written, or after so many seconds."""
         deadline = time.monotonic() + seconds
-        while (self._lines or self._is_writing) and time.monotonic() < deadline:
+        while self._written < self._added and time.monotonic() < deadline:
             time.sleep(BATCH_SECONDS / 4)
 
     def end(self, seconds: float) -> None:
         """Writes what waits; returns after so many seconds at most."""
-        self._is_ending = True
-        self._has_lines.set()
-        self._thread.join(seconds)
+        stopping = threading.Thread(target=self.stop, daemon=True)
+        stopping.start()
+        stopping.join(seconds)
 
-    def _run(self) -> None:
+    # The listener's thread
+
+    def dequeue(self, block: bool) -> Any:
+        """Returns all lines that wait, once there is one; None, which ends the thread, where `stop` was called."""
+        lines = [self.queue.get()]
+        time.sleep(BATCH_SECONDS)  # so that one write takes many lines
+        lines += [self.queue.get() for _ in range(self.queue.qsize())]
+        whole = [line for line in lines if line is not None]
+        if whole and len(whole) < len(lines):
+            self.queue.put(None)
+        return whole or None
+
+    def handle(self, record: Any) -> None:
+        """Writes lines."""
         try:
-            while not self._is_ending:
-                self._has_lines.wait()
-                time.sleep(BATCH_SECONDS)  # so that one write takes many lines
-                self._has_lines.clear()
-                self._write()
-            self._write()
+            self._file.write(type(record[0])().join(record))
+            self._file.flush()
         except (OSError, ValueError) as fault:
-            self._report(f"the log can't be written, and traffic continues without it: {fault}")
+            if self._limit:
+                self._report(f"the log can't be written, and traffic continues without it: {fault}")
             self._limit = 0
-
-    def _write(self) -> None:
-        self._is_writing = True
-        # Lines that come meanwhile wait for the next call, so that each call ends.
-        batch = [self._lines.popleft() for _ in range(len(self._lines))]
-        if batch:
-            self._file.write(type(batch[0])().join(batch))
-        self._file.flush()
-        self._is_writing = False
+        self._written += len(record)

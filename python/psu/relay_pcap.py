@@ -4,7 +4,7 @@ from __future__ import annotations
 import struct
 from typing import Dict, List, Tuple
 
-from .frames import DEFAULT_PORT, Header
+from .frames import DEFAULT_PORT, Frame
 from .relay_log import Entry
 
 FILE_HEADER = struct.pack("<IHHiIII", 0xA1B2C3D4, 2, 4, 0, 0, 262144, 101)  # packets that begin with an IP header
@@ -23,8 +23,7 @@ class Packets:
 
     def of(self, entry: Entry) -> bytes:
         """Returns the packets of a message."""
-        header = Header(entry.kind, entry.control, entry.parameter, len(entry.payload))
-        message = header.pack() + entry.payload
+        message = Frame(entry.kind, entry.control, entry.parameter, entry.payload).pack()
         client = FIRST_PORT + 2 * (entry.session % 20000) + entry.is_async
         ends = (client, DEFAULT_PORT) if entry.is_from_client else (DEFAULT_PORT, client)
         pieces: List[bytes] = []

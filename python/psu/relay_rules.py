@@ -29,23 +29,44 @@ class Side(enum.Enum):
     SERVER = "server"
 
 
-class Action(enum.Enum):
-    """What happens to a message to which a rule applies."""
+class Value(NamedTuple):
+    """The value of an action: its limits, and whether it may be missing."""
 
-    DELAY = "delay"
-    HOLD = "hold"
-    DROP_BEFORE = "drop-before"
-    DROP_AFTER = "drop-after"
-    CUT = "cut"
-    REFUSE = "refuse"
-    STOP_READING = "stop-reading"
-    FATAL_ERROR = "fatal-error"
-    ERROR = "error"
-    REPEAT = "repeat"
-    CORRUPT = "corrupt"
+    what: str
+    least: float
+    most: float
+    is_optional: bool = False
+
+
+SECONDS = Value("seconds", 0, 86400)
+CODE = Value("a code", 0, 255, True)
+
+
+class Action(enum.Enum):
+    """What happens to a message to which a rule applies: the word in the rule, its value, and what the log says."""
+
+    needs: Optional[Value]
+    text: str
+
+    def __new__(cls, word: str, needs: Optional[Value] = None, text: str = "") -> Action:
+        made = object.__new__(cls)
+        made._value_, made.needs, made.text = word, needs, text
+        return made
+
+    DELAY = "delay", SECONDS, "delayed {} s"
+    HOLD = "hold", None, "held back"
+    DROP_BEFORE = "drop-before", None, "connection dropped before it"
+    DROP_AFTER = "drop-after", None, "connection dropped after it"
+    CUT = "cut", Value("a number of bytes", 0, 1 << 32, True), "cut after {} bytes, connection dropped"
+    REFUSE = "refuse", None, "session refused"
+    STOP_READING = "stop-reading", SECONDS._replace(is_optional=True), "nothing more is read"
+    FATAL_ERROR = "fatal-error", CODE, "FatalError instead, connection dropped"
+    ERROR = "error", CODE, "Error instead"
+    REPEAT = "repeat", SECONDS, "repeated after {} s"
+    CORRUPT = "corrupt", Value("a number of bytes", 1, 65536, True)
     REPLACE = "replace"
-    NOISE = "noise"
-    TRICKLE = "trickle"
+    NOISE = "noise", Value("a standard deviation", 0, 1e9)
+    TRICKLE = "trickle", None, "in pieces, each after {} s"
 
 
 class Seen(NamedTuple):
@@ -128,10 +149,6 @@ class Decision(NamedTuple):
     def line(self) -> str:
         return f"the function {getattr(self.decide, '__name__', 'without a name')}"
 
-    def rule_for(self, seen: Seen) -> Optional[Rule]:
-        text = self.decide(seen)
-        return None if text is None else parse_action(text, self.name)
-
 
 class Rules:
     """All rules, in order. The first that applies to a message decides; the later ones do not count it."""
@@ -146,19 +163,17 @@ class Rules:
     def choose(self, seen: Seen, of_session: Dict[int, Counts]) -> Optional[Rule]:
         """Returns the rule that applies to a message. `of_session` has the counts of its session."""
         for place, rule in enumerate(self.rules):
-            chosen = self._applied(place, rule, seen, of_session)
+            chosen: Optional[Rule]
+            if isinstance(rule, Decision):
+                text = rule.decide(seen)
+                chosen = None if text is None else parse_action(text, rule.name)
+            else:
+                is_counted = rule.matches(seen) and rule.count(self._counts_of(place, rule, seen.session, of_session))
+                chosen = rule if is_counted else None
             if chosen is not None:
                 self._unused.discard(place)
                 return chosen
         return None
-
-    def _applied(
-        self, place: int, rule: Union[Rule, Decision], seen: Seen, of_session: Dict[int, Counts]
-    ) -> Optional[Rule]:
-        if isinstance(rule, Decision):
-            return rule.rule_for(seen)
-        is_counted = rule.matches(seen) and rule.count(self._counts_of(place, rule, seen.session, of_session))
-        return rule if is_counted else None
 
     def unused(self) -> "List[Union[Rule, Decision]]":
         """Returns the rules that never applied, in order."""
@@ -175,47 +190,19 @@ class Rules:
 # Reading
 
 
-class Subject(NamedTuple):
-    """What a rule is about."""
-
-    side: Optional[Side]
-    kinds: Optional[Tuple[int, ...]]
-
-
+Subject = Tuple[Optional[Side], Optional[Tuple[int, ...]]]
 DATA = (int(MessageType.DATA), int(MessageType.DATA_END))
 SUBJECTS: Dict[str, Subject] = {
-    "command": Subject(Side.CLIENT, DATA),
-    "response": Subject(Side.SERVER, DATA),
-    "client": Subject(Side.CLIENT, None),
-    "server": Subject(Side.SERVER, None),
-    **{name_of(kind).lower(): Subject(None, (int(kind),)) for kind in MessageType},
+    "command": (Side.CLIENT, DATA),
+    "response": (Side.SERVER, DATA),
+    "client": (Side.CLIENT, None),
+    "server": (Side.SERVER, None),
+    **{name_of(kind).lower(): (None, (int(kind),)) for kind in MessageType},
 }
 # These actions are for one type of message, so that their rules need no subject. Another message may be repeated too.
 ONLY_KIND: Dict[Action, MessageType] = {
     Action.REFUSE: MessageType.INITIALIZE,
     Action.REPEAT: MessageType.ASYNC_SERVICE_REQUEST,
-}
-
-
-class Value(NamedTuple):
-    """The value of an action: its limits, and whether it may be missing."""
-
-    what: str
-    least: float
-    most: float
-    is_optional: bool
-
-
-CODES = Value("a code", 0, 255, True)
-VALUES: Dict[Action, Value] = {
-    Action.DELAY: Value("seconds", 0, 86400, False),
-    Action.REPEAT: Value("seconds", 0, 86400, False),
-    Action.STOP_READING: Value("seconds", 0, 86400, True),
-    Action.CUT: Value("a number of bytes", 0, 1 << 32, True),
-    Action.FATAL_ERROR: CODES,
-    Action.ERROR: CODES,
-    Action.CORRUPT: Value("a number of bytes", 1, 65536, True),
-    Action.NOISE: Value("a standard deviation", 0, 1e9, False),
 }
 
 
@@ -231,11 +218,9 @@ class Words:
     def __bool__(self) -> bool:
         return bool(self._words)
 
-    def next_is_number(self) -> bool:
-        return bool(self._words) and re.fullmatch(r"[0-9.]+", self._words[0]) is not None
-
-    def next_is_one_of(self, known: Iterable[str]) -> bool:
-        return bool(self._words) and self._words[0].lower() in known
+    def next(self) -> str:
+        """Returns the next word, which stays; an empty one at the end."""
+        return self._words[0] if self._words else ""
 
     def take(self, what: str) -> str:
         if not self._words:
@@ -252,11 +237,26 @@ class Words:
             raise RuleError(f"{word!r} is not {what} from {least:g} to {most:g}")
         return value
 
-    def count(self, what: str) -> int:
+    def count(self, what: str = "a number") -> int:
         value = self.number(what, 1, 1_000_000_000)
         if value != int(value):
             raise RuleError(f"{what} is a whole number")
         return int(value)
+
+    def probability(self) -> float:
+        return self.number("a probability", 0, 1)
+
+    def text(self, what: str = "a text") -> bytes:
+        return self.take(what).encode("utf-8", "surrogateescape")
+
+    def any_case(self) -> bytes:
+        return self.text().upper()
+
+    def pattern(self) -> "re.Pattern[bytes]":
+        try:
+            return re.compile(self.text("a pattern"))
+        except re.error as fault:
+            raise RuleError(f"the pattern is not one of Python's: {fault}") from None
 
 
 def parse_rule(line: str, name: str) -> Rule:
@@ -290,21 +290,21 @@ def _read_action(line: str, name: str, words: Words) -> Rule:
 
 def _read_value(rule: Rule, words: Words) -> None:
     if rule.action is Action.REPLACE:
-        rule.old = words.take("the text to be replaced").encode("utf-8", "surrogateescape")
+        rule.old = words.text("the text to be replaced")
         if not rule.old or words.take("'by'") != "by":
             raise RuleError("a text is replaced 'by' another one: replace OLD by NEW")
-        rule.new = words.take("the new text").encode("utf-8", "surrogateescape")
+        rule.new = words.text("the new text")
     elif rule.action is Action.TRICKLE:
         rule.size = words.count("a number of bytes")
-        rule.value = words.number("seconds", 0, 86400)
-    value = VALUES.get(rule.action)
-    if value is not None and (words.next_is_number() or not value.is_optional):
+        rule.value = words.number(*SECONDS[:3])
+    value = rule.action.needs
+    if value is not None and (re.fullmatch(r"[0-9.]+", words.next()) or not value.is_optional):
         rule.value = words.number(value.what, value.least, value.most)
 
 
 def _read_subject(rule: Rule, words: Words) -> None:
     only = ONLY_KIND.get(rule.action)
-    has_subject = rule.action is Action.REPEAT and words.next_is_one_of(SUBJECTS)
+    has_subject = rule.action is Action.REPEAT and words.next().lower() in SUBJECTS
     if only is not None and not has_subject:
         rule.kinds = (int(only),)
         return
@@ -318,79 +318,47 @@ def _read_condition(rule: Rule, words: Words) -> None:
     word = words.take("a condition")
     if word not in CONDITIONS:
         raise RuleError(f"{word!r} is not one of {', '.join(CONDITIONS)}")
-    CONDITIONS[word](rule, words)
-
-
-def _read_to(rule: Rule, words: Words) -> None:
-    if rule.side is not Side.SERVER:
+    if word == "to" and rule.side is not Side.SERVER:
         raise RuleError("'to' is for a response")
-    rule.query = _read_text(words)
+    field, read = CONDITIONS[word]
+    setattr(rule, field, read(words))
 
 
-def _read_with(rule: Rule, words: Words) -> None:
-    rule.text = _read_text(words)
-
-
-def _read_text(words: Words) -> bytes:
-    return words.take("a text").upper().encode("utf-8", "surrogateescape")
-
-
-def _read_pattern(rule: Rule, words: Words) -> None:
-    try:
-        rule.pattern = re.compile(words.take("a pattern").encode("utf-8", "surrogateescape"))
-    except re.error as fault:
-        raise RuleError(f"the pattern is not one of Python's: {fault}") from None
-
-
-def _count_of(field: str) -> Callable[[Rule, Words], None]:
-    """Returns what reads a whole number into this field of a rule."""
-    def read(rule: Rule, words: Words) -> None:
-        setattr(rule, field, words.count("a number"))
-
-    return read
-
-
-def _read_probability(rule: Rule, words: Words) -> None:
-    rule.probability = words.number("a probability", 0, 1)
-
-
-def _read_per_session(rule: Rule, _: Words) -> None:
-    rule.is_per_session = True
-
-
-CONDITIONS: Dict[str, Callable[[Rule, Words], None]] = {
-    "to": _read_to,
-    "with": _read_with,
-    "matching": _read_pattern,
-    "session": _count_of("session"),
-    "number": _count_of("number"),
-    "skip": _count_of("skip"),
-    "every": _count_of("every"),
-    "times": _count_of("times"),
-    "probability": _read_probability,
-    "per-session": _read_per_session,
+# The field of a rule that each condition sets, and what reads its value.
+CONDITIONS: Dict[str, Tuple[str, Callable[[Words], object]]] = {
+    "to": ("query", Words.any_case),
+    "with": ("text", Words.any_case),
+    "matching": ("pattern", Words.pattern),
+    **{field: (field, Words.count) for field in ("session", "number", "skip", "every", "times")},
+    "probability": ("probability", Words.probability),
+    "per-session": ("is_per_session", lambda _: True),
 }
 
 
-RuleText = Union[str, Callable[[Seen], Optional[str]]]  # a line, or a function that decides
+RuleText = Union[str, Rule, Callable[[Seen], Optional[str]]]  # a line, also one that is read, or a function that decides
 
 
 def parsed_rules(rules: Iterable[RuleText], seed: int) -> Rules:
-    """Returns the rules of a test: lines, and functions."""
+    """Returns rules by their lines and functions."""
     parsed: List[Union[Rule, Decision]] = []
     for number, rule in enumerate(rules, 1):
         name = f"rule {number}"
-        parsed.append(parse_rule(rule, name) if isinstance(rule, str) else Decision(name, rule))
+        if isinstance(rule, Rule):
+            parsed.append(rule)
+        else:
+            parsed.append(parse_rule(rule, name) if isinstance(rule, str) else Decision(name, rule))
     return Rules(parsed, seed)
 
 
-def parse_rules(text: str) -> List[Rule]:
-    """Reads a rule file: a rule a line, empty lines, and comments that begin with `#`."""
+def parse_rules(
+    lines: Iterable[str], name: str = "rule", where: Callable[[int, str], str] = "line {}".format
+) -> List[Rule]:
+    """Reads rules, of which a line may be empty or a comment that begins with `#`; `where` says which line is wrong."""
     rules = []
-    for number, line in enumerate(text.splitlines(), 1):
+    for number, line in enumerate(lines, 1):
         try:
             if Words(line):
-                rules.append(parse_rule(line, f"rule {number}"))
+                rules.append(parse_rule(line, f"{name} {number}"))
         except RuleError as fault:
-            raise RuleError(f"line {number}: {fault}") from None
+            raise RuleError(f"{where(number, line)}: {fault}") from None
     return rules

@@ -5,18 +5,23 @@ Nothing here sends or receives: relay.py does.
 from __future__ import annotations
 
 import collections
+import itertools
 import re
-from typing import Deque, Dict, List, NamedTuple, Optional, Protocol
+from typing import TYPE_CHECKING, Deque, Dict, List, NamedTuple, Optional
 
+from .blocks import BLOCK, length_in
 from .frames import REQUEST_OF, Header, MessageType
 from .relay_rules import Action, Counts, Rule
+
+if TYPE_CHECKING:
+    from .relay_connection import Connection
 
 KEPT_QUERIES = 64  # of a session; beyond it the oldest are no longer known
 KEPT_TEXT = 200  # bytes of a query's text
 
 REQUESTS = frozenset(REQUEST_OF.values())
 # What a rule does to every frame of a message that is sent as several.
-ON_EACH_FRAME = (Action.DROP_AFTER, Action.REPLACE, Action.NOISE, Action.TRICKLE)
+ON_EACH_FRAME = (Action.HOLD, Action.DROP_AFTER, Action.REPLACE, Action.NOISE, Action.TRICKLE)
 
 
 class Query(NamedTuple):
@@ -27,33 +32,17 @@ class Query(NamedTuple):
     moment: float
 
 
-STRING_OR_BLOCK = re.compile(rb"\"[^\"]*\"|'[^']*'|#([1-9])")
+STRING_OR_BLOCK = re.compile(b"\"[^\"]*\"|'[^']*'|" + BLOCK.pattern)
 
 
 def asks(text: bytes) -> bool:
     """Returns whether a message has a `?` outside of strings and blocks, as queries have."""
     at = 0
-    while at < len(text):
+    found = STRING_OR_BLOCK.search(text)
+    while found is not None and b"?" not in text[at : found.start()]:
+        at = found.end() + length_in(found)
         found = STRING_OR_BLOCK.search(text, at)
-        if b"?" in text[at : found.start() if found else len(text)]:
-            return True
-        if found is None:
-            return False
-        at = found.end()
-        if found.group(1):
-            length = text[at : at + int(found.group(1))]
-            at += len(length) + (int(length) if length.isdigit() else 0)
-    return False
-
-
-class Joined(Protocol):
-    """What a session knows of a connection."""
-
-    def close(self) -> None:
-        """Closes it to the client and to the server."""
-
-    def wake(self) -> None:
-        """Ends the wait of a rule: the session ends."""
+    return b"?" in text[at : found.start() if found else len(text)]
 
 
 class Session:
@@ -64,7 +53,7 @@ class Session:
         self.counts: Dict[int, Counts] = {}
         self.messages = 0
         self.end_reason = ""
-        self._connections: List[Joined] = []
+        self._connections: List[Connection] = []
         self._parts = b""  # the begin of a transmission that is not whole yet
         self._queries: "collections.OrderedDict[int, Query]" = collections.OrderedDict()
         self._unanswered: Dict[int, Query] = {}
@@ -76,10 +65,10 @@ class Session:
         for connection in self._connections:
             connection.wake()
 
-    def join(self, connection: Joined) -> None:
+    def join(self, connection: Connection) -> None:
         self._connections.append(connection)
 
-    def leave(self, connection: Joined) -> bool:
+    def leave(self, connection: Connection) -> bool:
         """Removes a connection; returns whether it was the last one."""
         self._connections.remove(connection)
         return not self._connections
@@ -157,33 +146,22 @@ class Transmissions:
 
     def rest_action(self) -> Optional[Action]:
         """Returns what the rule of the message's first frame does to the frames after it."""
-        if self.rule is None:
-            return None
-        action = self.rule.action
-        if action in (Action.HOLD, Action.ERROR):
+        action = self.rule.action if self.rule is not None else None
+        if action is Action.ERROR:
             return Action.HOLD
         return action if action in ON_EACH_FRAME else None
 
 
-class Sessions:
-    """All sessions that are open: a second connection finds its own by the number that the server gave it."""
+class Sessions(Dict[int, Session]):
+    """All sessions that are open, by the number that the server gave each: a second connection finds its own by that."""
 
     def __init__(self) -> None:
-        self._last = 0
-        self._by_server_number: Dict[int, Session] = {}
+        super().__init__()
+        self._numbers = itertools.count(1)
 
     def open(self) -> Session:
-        self._last += 1
-        return Session(self._last)
-
-    def name(self, server_number: int, session: Session) -> None:
-        """Notes the number that InitializeResponse gave a session."""
-        self._by_server_number[server_number] = session
-
-    def find(self, server_number: int) -> Optional[Session]:
-        return self._by_server_number.get(server_number)
+        return Session(next(self._numbers))
 
     def remove(self, session: Session) -> None:
-        for number in [number for number, one in self._by_server_number.items() if one is session]:
-            del self._by_server_number[number]
-
+        for number in [number for number, one in self.items() if one is session]:
+            del self[number]

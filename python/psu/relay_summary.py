@@ -1,6 +1,7 @@
 """What psu-relay counts of its traffic, and says at its end: messages by type, slow responses, what stayed unanswered."""
 from __future__ import annotations
 
+import bisect
 import collections
 from typing import Counter, Dict, List, Tuple
 
@@ -24,7 +25,7 @@ class Summary:
         self._kinds[entry.is_from_client][entry.kind] += 1
         if entry.seconds is None or entry.is_from_client:
             return
-        self._times[sum(entry.seconds >= limit for limit in LIMITS)] += 1
+        self._times[bisect.bisect_right(LIMITS, entry.seconds)] += 1
         if len(self._slow) < MOST_SLOW or entry.seconds > self._slow[-1][0]:
             text = f"{name_of(entry.kind)} {payload_text(entry.payload, entry.length)}".strip()
             self._slow = sorted([*self._slow, (entry.seconds, entry.session, text)], reverse=True)[:MOST_SLOW]

@@ -42,26 +42,22 @@ class Outlet:
 
     def __init__(self, writer: asyncio.StreamWriter) -> None:
         self.writer = writer
-        self._is_inside = False
+        self.is_inside = False  # a frame that is written in several pieces
         self._added: List[bytes] = []
 
     def write(self, data: bytes) -> None:
         if not self.writer.is_closing():
             self.writer.write(data)
 
-    def begin(self) -> None:
-        """A frame begins that is written in several pieces."""
-        self._is_inside = True
-
     def end(self) -> None:
-        """It has ended."""
-        self._is_inside = False
+        """Such a frame has ended."""
+        self.is_inside = False
         for data in self._added:
             self.write(data)
         self._added.clear()
 
     def add(self, frame: Frame) -> None:
-        if self._is_inside:
+        if self.is_inside:
             self._added.append(frame.pack())
         else:
             self.write(frame.pack())

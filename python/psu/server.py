@@ -54,15 +54,18 @@ def free_port() -> int:
 class Lifeline:
     """What ends a server process together with this one, however this one ends: by SIGKILL or `os._exit` too.
 
-    The server has the far end of a pair of sockets as its standard input, which it does not read. Once no process has
-    the near end any more, the kernel sends the server a SIGKILL.
+    The server inherits the far end of a pair of sockets, which it does not read. Once no process has the near end any
+    more, the kernel sends the server a SIGKILL. Until it is told that this is so, a shell waits at the gate in its place.
     """
+
+    WAITING = ("/bin/sh", "-c", 'read _ && exec "$0" "$@" < /dev/null')
 
     def __init__(self) -> None:
         self._near, self.far = socket.socketpair()
+        self._go, self.gate = socket.socketpair()
 
     def tie(self, process: int) -> None:
-        """Names the process that is to end; it has inherited the far end."""
+        """Names the process that is to end, and lets it begin."""
         import fcntl  # which Windows does not have, where there is no server either
 
         file = self.far.fileno()
@@ -71,11 +74,14 @@ class Lifeline:
             fcntl.fcntl(file, fcntl.F_SETOWN, process)
             fcntl.fcntl(file, fcntl.F_SETSIG, signal.SIGKILL)
             fcntl.fcntl(file, fcntl.F_SETFL, fcntl.fcntl(file, fcntl.F_GETFL) | os.O_ASYNC)
-        self.far.close()
+        with contextlib.suppress(ConnectionError):  # it has ended already
+            self._go.sendall(b"\n")
+        for it in (self.far, self._go, self.gate):
+            it.close()
 
     def close(self) -> None:
-        self._near.close()
-        self.far.close()
+        for it in (self._near, self.far, self._go, self.gate):
+            it.close()
 
 
 class Server:
@@ -87,11 +93,8 @@ class Server:
     """
 
     def __init__(
-        self,
-        image: Union[str, "os.PathLike[str]", None] = None,
-        program: Optional[str] = None,
-        port: Optional[int] = None,
-        environment: Optional[Dict[str, str]] = None,
+        self, image: Union[str, "os.PathLike[str]", None] = None, program: Optional[str] = None,
+        port: Optional[int] = None, environment: Optional[Dict[str, str]] = None
     ) -> None:
         self.program = program or find_program()
         self._folder: Optional[str] = None
@@ -160,7 +163,8 @@ class Server:
 
     def connect(self, timeout: Optional[float] = 5.0, check_errors: bool = False) -> Instrument:
         """Returns a new session."""
-        return Instrument(port=self._used_port(), timeout=timeout, check_errors=check_errors)
+        assert self.port is not None, "the server was started"
+        return Instrument(port=self.port, timeout=timeout, check_errors=check_errors)
 
     def wait(self, timeout: Optional[float] = None) -> int:
         """Waits until the process has ended by itself and returns its exit status, as subprocess.Popen.wait."""
@@ -219,10 +223,6 @@ class Server:
             why = made.stderr.strip() or f"status {made.returncode}, without a message"
             raise ServerNotStarted(f"{self.program} make {self.image}: {why}")
 
-    def _used_port(self) -> int:
-        assert self.port is not None, "the server was started"
-        return self.port
-
     def _start_at_a_free_port(self) -> None:
         for _ in range(TRIES):
             self._port = self._port or free_port()
@@ -239,19 +239,12 @@ class Server:
         if self._messages is not None:
             self._messages.close()
         self._messages = tempfile.TemporaryFile()
-        command = [self.program, "serve", self.image, "--port", str(port)]
         self._lifeline = Lifeline()
-        try:
-            process = subprocess.Popen(
-                command,
-                stdin=self._lifeline.far.fileno(),
-                stdout=subprocess.PIPE,
-                stderr=self._messages,
-                universal_newlines=True,
-                env=self._environment,
-            )
-        except OSError as fault:
-            raise ServerNotStarted(f"{self.program} can't be run: {fault.strerror}") from None
+        process = subprocess.Popen(
+            [*Lifeline.WAITING, self.program, "serve", self.image, "--port", str(port)], stdin=self._lifeline.gate.fileno(),
+            stdout=subprocess.PIPE, stderr=self._messages, universal_newlines=True, env=self._environment,
+            pass_fds=[self._lifeline.far.fileno()],
+        )
         self.process = process
         self._lifeline.tie(process.pid)
         if self.relay is not None and port is not None:

@@ -4,18 +4,10 @@ from __future__ import annotations
 import time
 from typing import NamedTuple
 
-from .channel import Channel, EndAll, closed_by_client
-from .errors import FatalError, ProtocolError, ServerError, Timeout
+from .channel import Channel, Ending, closed_by_client, unanswered
+from .errors import FatalError, HislipError, ProtocolError, ServerError, Timeout
 from .frames import (
-    FIRST_MESSAGE_ID,
-    MESSAGE_ID_STEP,
-    Frame,
-    MessageType,
-    after,
-    before,
-    is_known,
-    name_of,
-    refusal_of,
+    FIRST_MESSAGE_ID, MESSAGE_ID_STEP, Frame, Interrupted, MessageType, after, before, is_known, name_of, refusal_of,
 )
 
 
@@ -32,7 +24,7 @@ class Synchronous:
     `end_all` is called with the reason where the session can't continue.
     """
 
-    def __init__(self, channel: Channel, end_all: EndAll) -> None:
+    def __init__(self, channel: Channel, end_all: Ending) -> None:
         self._channel = channel
         self._end_all = end_all
         self.room = 1  # bytes of payload that the server takes, once it has said so
@@ -41,7 +33,6 @@ class Synchronous:
 
     def reset(self) -> None:
         """Both sides begin with the same MessageID, at the start and after a device clear."""
-        self._next_id = FIRST_MESSAGE_ID
         self.sent_id = before(FIRST_MESSAGE_ID)
         self._frames = 0  # that were sent
         self._frames_before = 0  # that were sent before the message whose response is read
@@ -54,7 +45,7 @@ class Synchronous:
         try:
             response = self.receive(timeout)
         except Timeout:
-            raise Timeout(f"no response to Initialize in {timeout:g} s", session_continues=False) from None
+            raise unanswered("Initialize", timeout, self._end_all) from None
         if response.kind != MessageType.INITIALIZE_RESPONSE:
             raise ProtocolError("the server begins no session")
         return response
@@ -82,19 +73,27 @@ class Synchronous:
 
         After a Timeout what came of a response is kept, and the next call continues with it.
         """
-        while True:
-            frame = self.receive(deadline - time.monotonic())
-            if frame.kind == MessageType.INTERRUPTED:
-                self._response.clear()
-            elif frame.kind not in (MessageType.DATA, MessageType.DATA_END):
-                self._refuse(frame)
-            elif not self._is_of_earlier_message(frame.parameter):
-                self._response += frame.payload
-                if frame.kind == MessageType.DATA_END:
-                    response = Response(frame.parameter, bytes(self._response))
+        try:
+            while True:
+                frame = self.receive(deadline - time.monotonic())
+                if frame.kind == MessageType.INTERRUPTED:
                     self._response.clear()
-                    self.is_delivered = True
-                    return response
+                elif frame.kind not in (MessageType.DATA, MessageType.DATA_END):
+                    self._refuse(frame)
+                elif not self._is_of_earlier_message(frame.parameter):
+                    self._response += frame.payload
+                    if frame.kind == MessageType.DATA_END:
+                        response = Response(frame.parameter, bytes(self._response))
+                        self._response.clear()
+                        self.is_delivered = True
+                        return response
+        except (HislipError, OSError, Interrupted):
+            raise
+        except BaseException:
+            # Ctrl-C: while nothing comes it takes nothing away, but bytes that were just received would be lost.
+            if not self._channel.is_waiting:
+                self._end_all(*closed_by_client("a read was interrupted"))
+            raise
 
     def has_sent(self, message_id: int) -> bool:
         """Whether a frame with this MessageID was sent. A server may leave open to which message it responds."""
@@ -109,11 +108,12 @@ class Synchronous:
         return float("inf") if rest else steps
 
     def _send_data(self, kind: int, payload: bytes, timeout: float) -> None:
-        self.send(Frame(kind, int(self.is_delivered), self._next_id, payload), timeout)
+        message_id = after(self.sent_id)
+        self.send(Frame(kind, int(self.is_delivered), message_id, payload), timeout)
+        self.sent_id = message_id
         self._frames += 1
         self.is_delivered = False
         self._response.clear()
-        self.sent_id, self._next_id = self._next_id, after(self._next_id)
 
     def _refuse(self, frame: Frame) -> None:
         if is_known(frame.kind):
@@ -126,42 +126,23 @@ class Synchronous:
         """Completes a device clear; returns whether the server agrees to synchronized mode."""
         self.send(Frame(MessageType.DEVICE_CLEAR_COMPLETE), timeout)
         deadline = time.monotonic() + timeout
-        try:
-            frame = self._receive_discarded(deadline)
-            while frame.kind != MessageType.DEVICE_CLEAR_ACKNOWLEDGE:
-                frame = self._receive_discarded(deadline)
-        except Timeout:
-            # The acknowledgement, if it came later, would end the next device clear too early.
-            self._end_all(*closed_by_client("the server did not answer DeviceClearComplete in time"))
-            raise Timeout(f"no response to DeviceClearComplete in {timeout:g} s", session_continues=False) from None
+        frame = Frame(MessageType.ERROR)
+        while frame.kind != MessageType.DEVICE_CLEAR_ACKNOWLEDGE:
+            try:
+                frame = self.receive(deadline - time.monotonic(), is_interrupted=False)
+            except Timeout:
+                # The acknowledgement, if it came later, would end the next device clear too early.
+                raise unanswered("DeviceClearComplete", timeout, self._end_all) from None
+            except ServerError as error:
+                if isinstance(error, FatalError):
+                    raise  # any other is that of a message that is discarded
         self.reset()
         return not frame.control & 1
-
-    def _receive_discarded(self, deadline: float) -> Frame:
-        """Receives a message before the end of a device clear. An Error is that of a message that is discarded."""
-        try:
-            return self.receive(deadline - time.monotonic(), is_interrupted=False)
-        except FatalError:
-            raise
-        except ServerError as error:
-            return Frame(MessageType.ERROR, error.code)
 
     # Frames
 
     def send(self, frame: Frame, timeout: float) -> None:
-        message = frame.pack()
-        try:
-            self._channel.send(message, timeout)
-        except Timeout as fault:
-            # The rest of a message that was sent in part can't be sent later, so nothing more can follow it.
-            self._end_all(*closed_by_client("the server did not read"))
-            raise Timeout(fault.text, session_continues=False) from None
-        except ConnectionError:
-            raise
-        except BaseException:
-            # Ctrl-C, or a signal's handler that raises: as above.
-            self._end_all(*closed_by_client("a write was interrupted"))
-            raise
+        self._channel.send(frame.pack(), timeout)
 
     def receive(self, timeout: float, is_interrupted: bool = True) -> Frame:
         """Returns the next message; raises what an Error, a FatalError or the end of the connection is."""

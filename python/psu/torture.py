@@ -15,12 +15,15 @@ its own, and a session beside the driver's, which sets another voltage before ea
 """
 from __future__ import annotations
 
+import concurrent.futures
+import contextlib
 import dataclasses
+import functools
 import itertools
 import os
 import threading
 import time
-from typing import Any, Callable, Dict, Iterator, List, Optional, Sequence
+from typing import Any, Callable, Dict, Iterator, List, Sequence
 
 import pytest
 
@@ -50,31 +53,25 @@ class NotSurvived(AssertionError):
     """What the driver did wrong."""
 
 
-@dataclasses.dataclass
-class Outcome:
-    """How a call ended."""
-
-    value: Any = None
-    fault: Optional[BaseException] = None
+Outcome = concurrent.futures.Future  # how a call ended
 
 
-class Bench:
+class Bench(contextlib.ExitStack):
     """The instrument of one test. A driver connects to `resource` or `port`, or to `raw_port` with a raw socket."""
 
     def __init__(self, server: Server) -> None:
+        super().__init__()
         assert server.relay is not None
         self.server, self.relay = server, server.relay
         self.resource, self.port = server.resource, server.relay.port
-        self._raw: Optional[RawSocket] = None
         self._volts = itertools.count(1)
         self.connect_beside()
+        self.callback(lambda: self.beside.close())
 
-    @property
+    @functools.cached_property
     def raw_port(self) -> int:
         """The port of raw sockets before the relay."""
-        if self._raw is None:
-            self._raw = RawSocket(self.port).__enter__()
-        return self._raw.port
+        return self.enter_context(RawSocket(self.port)).port
 
     def connect_beside(self) -> None:
         """Opens the session beside the driver's, without the relay."""
@@ -92,22 +89,14 @@ class Bench:
         self.server.restart()
         self.connect_beside()
 
-    def close(self) -> None:
-        self.beside.close()
-        if self._raw is not None:
-            self._raw.__exit__()
-
 
 @pytest.fixture
 def psu_torture(request: Any, tmp_path: Any) -> Iterator[Bench]:
     """The instrument for the fixture `driver`."""
     with started(request.config, tmp_path / "bench.psu", [], has_relay=True) as server:
-        bench = Bench(server)
-        try:
+        with Bench(server) as bench:
             yield bench
-        finally:
-            bench.relay.set_rules([])  # so that none is named as one that never applied
-            bench.close()
+        bench.relay.set_rules([])  # so that none is named as one that never applied
 
 
 class Trial:
@@ -116,20 +105,18 @@ class Trial:
     def __init__(self, bench: Bench, driver: Driver) -> None:
         self.bench, self.driver = bench, driver
 
-    def call(self, function: Callable[..., object], *arguments: object) -> Outcome:
+    def call(self, function: Callable[..., object], *arguments: object) -> "Outcome[Any]":
         """Calls a function of the driver, which has to end in time."""
-        outcome = Outcome()
+        outcome: "Outcome[Any]" = Outcome()
 
         def run() -> None:
             try:
-                outcome.value = function(*arguments)
+                outcome.set_result(function(*arguments))
             except BaseException as fault:
-                outcome.fault = fault
+                outcome.set_exception(fault)
 
-        thread = threading.Thread(target=run, daemon=True)
-        thread.start()
-        thread.join(self.driver.patience)
-        if thread.is_alive():
+        threading.Thread(target=run, daemon=True).start()
+        if not concurrent.futures.wait([outcome], self.driver.patience).done:
             raise NotSurvived(f"a call has not ended in {self.driver.patience:g} s")
         return outcome
 
@@ -137,23 +124,28 @@ class Trial:
         """Has the driver query a voltage; returns whether it did, where it need not."""
         volts = self.bench.next_voltage()
         outcome = self.call(self.driver.query)
-        if outcome.fault is not None:
-            if must_return:
-                raise NotSurvived(f"{when}it raised {outcome.fault!r}") from outcome.fault
-            return False
-        if outcome.value != volts:
-            raise NotSurvived(f"{when}it returned {outcome.value!r} where {volts} is right")
-        return True
+        fault = outcome.exception()
+        if fault is not None and must_return:
+            raise NotSurvived(f"{when}it raised {fault!r}") from fault
+        if fault is None and outcome.result() != volts:
+            raise NotSurvived(f"{when}it returned {outcome.result()!r} where {volts} is right")
+        return fault is None
 
     def recover(self, tries: int = 1) -> None:
         """Has the driver recover, in so many tries, after which it works."""
-        for number in range(tries):
-            outcome = self.call(self.driver.recover)
-            if outcome.fault is None:
-                break
+        fault = None
+        for _ in range(tries):
+            fault = self.call(self.driver.recover).exception()
+            if fault is None:
+                return self.works("after its recovery ")
+        raise NotSurvived(f"its recovery raised {fault!r}") from fault
+
+    def query_or_recover(self) -> None:
+        """Has the driver query under a fault, and after it; where it did not return, after its recovery."""
+        if self.query(must_return=False):
+            self.works("after the fault ")
         else:
-            raise NotSurvived(f"its recovery raised {outcome.fault!r}") from outcome.fault
-        self.works("after its recovery ")
+            self.recover()
 
     def works(self, when: str) -> None:
         for _ in range(3):
@@ -161,8 +153,7 @@ class Trial:
 
     def save(self) -> bool:
         """Has the driver save; returns whether it did. What it saved is there after a restart."""
-        outcome = self.call(self.driver.save, REGISTER)
-        return outcome.fault is None
+        return self.call(self.driver.save, REGISTER).exception() is None
 
     def saved_voltage(self) -> float:
         return float(self.bench.beside.query(f"*RCL {REGISTER};VOLT?"))
@@ -190,7 +181,6 @@ def in_a_query(
 
     @fault(name)
     def _(trial: Trial) -> None:
-        trial.works("before the fault ")
         trial.bench.relay.set_rules(rules(trial.driver.timeout))
         has_returned = trial.query(must_return=is_survivable)
         if tries == 1:
@@ -202,7 +192,7 @@ def in_a_query(
 
 
 in_a_query("a slow response, in time", lambda timeout: [f"delay {timeout * 0.15} response times 3"], is_survivable=True)
-in_a_query("a response in small pieces, in time", lambda timeout: ["trickle 3 0.005 response times 3"], is_survivable=True)
+in_a_query("a response in small pieces, in time", lambda _: ["trickle 3 0.005 response times 3"], is_survivable=True)
 in_a_query("two responses", lambda timeout: ["repeat 0 response times 1"], is_survivable=True)
 in_a_query("two responses, the second one late", lambda timeout: ["repeat 0.1 response times 1"], is_survivable=True)
 in_a_query("a late response", lambda timeout: [f"delay {timeout * 1.5} response times 1"])
@@ -225,17 +215,12 @@ in_a_query("a device clear that is not acknowledged in time",
 
 @fault("a full error queue")
 def full_error_queue(trial: Trial) -> None:
-    trial.works("before the fault ")
     trial.bench.beside.write(";".join(["FOO"] * 17))
-    if trial.query(must_return=False):
-        trial.works("after the fault ")
-    else:
-        trial.recover()
+    trial.query_or_recover()
 
 
 @fault("service requests that it did not ask for")
 def foreign_requests(trial: Trial) -> None:
-    trial.works("before the fault ")
     trial.bench.relay.set_rules(["repeat 0.01"])
     trial.bench.beside.query("*CLS;*SRE 4;FOO;*SRE 0;*CLS;*OPC?")
     trial.works("after the fault ")
@@ -243,27 +228,19 @@ def foreign_requests(trial: Trial) -> None:
 
 @fault("a lock of another session")
 def foreign_lock(trial: Trial) -> None:
-    trial.works("before the fault ")
-    volts = trial.bench.next_voltage()
     trial.bench.beside.lock(5)
     release = threading.Timer(trial.driver.timeout * 1.5, trial.bench.beside.unlock)
     release.start()
-    outcome = trial.call(trial.driver.query)
+    has_returned = trial.query(must_return=False)
     release.join()
-    if outcome.fault is not None:
+    if not has_returned:
         trial.recover()
-    elif outcome.value != volts:
-        raise NotSurvived(f"it returned {outcome.value!r} where {volts} is right")
 
 
 @fault("a server that goes and comes back")
 def server_restart(trial: Trial) -> None:
-    trial.works("before the fault ")
     trial.bench.restart()
-    if trial.query(must_return=False):
-        trial.works("after the fault ")
-    else:
-        trial.recover()
+    trial.query_or_recover()
 
 
 @fault("a restart within a save")
@@ -308,4 +285,6 @@ def failing_disk(trial: Trial) -> None:
 def test_torture(fault: str, psu_torture: Bench, driver: Driver, record_property: Callable[[str, object], None]) -> None:
     """A driver under one of the faults."""
     record_property(TORTURE, fault)
-    FAULTS[fault](Trial(psu_torture, driver))
+    trial = Trial(psu_torture, driver)
+    trial.works("before the fault ")
+    FAULTS[fault](trial)

@@ -50,7 +50,7 @@ def row(name, call):
 
 
 # What a program calls of its own loop; a test takes the `with` block.
-OF_A_LOOP = ("start", "stop", "run", "serve", "report_full", "take_rules")
+OF_A_LOOP = ("start", "stop", "run", "serve", "report_full")
 
 
 def rows_of(part):

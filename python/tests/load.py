@@ -1,9 +1,11 @@
-"""A load of queries, to measure psu-relay by: sessions that each send so many messages a second.
+"""A load of queries, to measure psu-relay and psu-socket by: sessions that each send so many messages a second.
 
     PYTHONPATH=python python3 python/tests/load.py --port 4880 --sessions 16 --rate 100 --seconds 60
+    PYTHONPATH=python python3 python/tests/load.py --port 5025 --raw ..
     PYTHONPATH=python python3 python/tests/load.py --check traffic.log --sessions 16
 
-The first prints how long responses took. The second says whether each message is in the relay's log once, and its
+The first two print how long responses took. Each query has to have its own response: over HiSLIP by its MessageID, at a raw
+socket by its text, since the queries take turns. The third says whether each message is in the relay's log once, and its
 response too: a message is known by its session and its MessageID.
 """
 import argparse
@@ -16,8 +18,13 @@ import time
 from psu.frames import FIRST_MESSAGE_ID, PROTOCOL_1_0, Frame, MessageType, after
 from psu.listening import read_frame
 
-MESSAGE = re.compile(r"^\S+ +(\d+) (-->|<--) DataEnd +([0-9a-f]{8}) .*\\n$")
+MESSAGE = re.compile(r"^\S+ !? *(\d+) (-->|<--) DataEnd +([0-9a-f]{8}) .*\\n(?:  \[.*\])?$")
 QUERY = b"MEAS:VOLT?\n"
+# What raw clients ask of a supply that nobody has set, and what that answers.
+RAW_QUERIES = (
+    (b"MEAS:VOLT?\n", b"0.000\n"), (b"*IDN?\n", b"EXAMPLE,PSU4,0,1.0\n"), (b"VOLT? MAX\n", b"60.000\n"),
+    (b"CURR? MAX\n", b"5.000\n"), (b"SIM:LOAD?\n", b"10000\n"), (b"*IDN?;VOLT?\n", b"EXAMPLE,PSU4,0,1.0;0.000\n"),
+)
 
 
 async def begin(port):
@@ -48,9 +55,29 @@ async def send_queries(arguments, times):
         one.close()
 
 
+async def send_raw_queries(arguments, times):
+    """The same at a raw socket; the end of the input has no further response."""
+    reader, writer = await asyncio.open_connection("127.0.0.1", arguments.port)
+    begun = time.monotonic()
+    for count in range(arguments.rate * arguments.seconds):
+        query, expected = RAW_QUERIES[count % len(RAW_QUERIES)]
+        await asyncio.sleep(max(0, begun + count / arguments.rate - time.monotonic()))
+        sent = time.perf_counter()
+        writer.write(query)
+        response = await reader.readline()
+        times.append(time.perf_counter() - sent)
+        if response != expected:
+            raise ValueError(f"{response} to the query {query}, message {count} of a client")
+    writer.write_eof()
+    if await reader.read():
+        raise ValueError("a response that no query had")
+    writer.close()
+
+
 async def load(arguments):
     times, begun = [], time.monotonic()
-    await asyncio.gather(*(send_queries(arguments, times) for _ in range(arguments.sessions)))
+    send = send_raw_queries if arguments.raw else send_queries
+    await asyncio.gather(*(send(arguments, times) for _ in range(arguments.sessions)))
     seconds = time.monotonic() - begun
     times.sort()
     shown = ", ".join(f"{times[len(times) * part // 1000] * 1000:.2f} ms ({part / 10:g} %)" for part in (500, 900, 990))
@@ -80,6 +107,7 @@ def main():
     parser.add_argument("--sessions", type=int, default=16)
     parser.add_argument("--rate", type=int, default=100, help="messages a second of each session")
     parser.add_argument("--seconds", type=int, default=60)
+    parser.add_argument("--raw", action="store_true", help="at raw sockets")
     parser.add_argument("--check", metavar="LOG")
     arguments = parser.parse_args()
     if arguments.check:

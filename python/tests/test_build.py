@@ -30,7 +30,8 @@ class Build(unittest.TestCase):
     def test_a_wheel_has_the_modules_and_a_record_of_them(self):
         archive = self.wheel(psu_build.build_wheel)
         folder = psu_build.metadata_folder()
-        self.assertIn("psu/client.py", archive.namelist())
+        for name in ("psu/client.py", "psu/panel.html", "psu/panel.js", "psu/py.typed"):
+            self.assertIn(name, archive.namelist())
         record = archive.read(f"{folder}/RECORD").decode().splitlines()
         self.assertEqual([it.split(",")[0] for it in record], archive.namelist())
         for line in record[:-1]:

@@ -59,7 +59,7 @@ class Messages(ScriptCase):
         self.assertEqual(receive(self.sync)[:3], (MessageType.DATA_END, 0, 0xFFFF_FF08))
 
     def test_message_ids_wrap(self):
-        self.client._messages._next_id = 0xFFFF_FFFE
+        self.client._messages.sent_id = 0xFFFF_FFFC
         for expected in (0xFFFF_FFFE, 0):
             self.client.write("*CLS")
             self.assertEqual(receive(self.sync).parameter, expected)

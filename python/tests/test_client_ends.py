@@ -1,9 +1,11 @@
 """Tests of how a session ends, or continues, where a server or a signal does what it seldom does."""
 import signal
+import socket
 import struct
 import threading
 import time
 import unittest
+from unittest import mock
 
 from psu import ConnectionLost, Instrument, LockInfo, ProtocolError, ServerError, SessionClosed, Timeout
 from psu.frames import FIRST_MESSAGE_ID, HEADER_SIZE, Frame, MessageType
@@ -109,6 +111,43 @@ class Signals(ScriptCase):
         self.sync.sendall(CutShort.FRAME[20:])
         self.assertEqual(self.client.read(), "5.000")
 
+    def test_a_read_that_is_broken_with_bytes_in_hand_ends_the_session(self):
+        receive_bytes = socket.socket.recv
+
+        def broken(connection, size):
+            received = receive_bytes(connection, size)
+            if threading.current_thread() is threading.main_thread():
+                raise KeyboardInterrupt  # as where a signal falls before the next step of the interpreter
+            return received
+
+        self.begin()
+        self.client.write("A?")
+        self.sync.sendall(CutShort.FRAME[:20])
+        with mock.patch.object(socket.socket, "recv", broken), self.assertRaises(KeyboardInterrupt):
+            self.client.read()
+        self.sync.sendall(CutShort.FRAME[20:])
+        with self.assertRaisesRegex(SessionClosed, "this client closed the session: a read was interrupted"):
+            self.client.read()
+
+
+class OtherConnection(ScriptCase):
+    """Where the server closes one connection, what it sent on the other before is read first."""
+
+    def test_a_response_before_the_end_of_the_asynchronous_connection(self):
+        self.begin()
+        self.client.write("A?")
+        self.sync.sendall(CutShort.FRAME)
+        self.asynchronous.close()
+        while self.client._end_all.reason is None:
+            time.sleep(0.01)
+        self.assertEqual(self.client.read(), "5.000")
+        for call in (self.client.read, lambda: self.client.query("B?"), self.client.read_stb):
+            with self.assertRaisesRegex(ConnectionLost, "the server closed the connection"):
+                call()
+        self.client.close()
+        with self.assertRaises(ConnectionLost):
+            self.client.read()
+
 
 class Unknown(ScriptCase):
     """Messages that HiSLIP 1.0 does not have are answered with Error and ignored."""
@@ -188,7 +227,7 @@ class MessageIds(ScriptCase):
 
     def test_one_to_an_earlier_message_is_dropped_also_after_the_ids_wrapped(self):
         self.begin()
-        self.client._messages._next_id = 0xFFFF_FFFE
+        self.client._messages.sent_id = 0xFFFF_FFFC
         self.client._messages._frames = 127  # so many frames lead there
         for _ in range(2):
             self.client.write("A?")
@@ -220,7 +259,7 @@ class Locks(ScriptCase):
     def test_what_can_t_be_sent_leaves_nothing_that_waits(self):
         self.begin()
         with self.assertRaises(struct.error):
-            self.client._background.ask(Frame(MessageType.ASYNC_LOCK, 1, -1), MessageType.ASYNC_LOCK_RESPONSE, 1, 1)
+            self.client._asynchronous.ask(Frame(MessageType.ASYNC_LOCK, 1, -1), MessageType.ASYNC_LOCK_RESPONSE, 1, 1)
         self.serve(1)
         self.client.lock(1)
 

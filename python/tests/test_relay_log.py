@@ -1,12 +1,14 @@
 """Tests of the log of psu-relay: the text of payloads, the lines, and the thread that writes them."""
 import io
 import json
+import os
+import tempfile
 import time
 import unittest
 
 from blocked_file import BlockedFile
 from psu.frames import MessageType
-from psu.relay_log import Entry, Event, LogWriter, json_event, json_line, payload_text, text_event, text_line
+from psu.relay_log import Entry, Event, LogWriter, RotatingFile, json_event, json_line, payload_text, text_event, text_line
 
 MOMENT = 1_800_000_000.25
 
@@ -98,27 +100,62 @@ class WriterTest(unittest.TestCase):
 
     def test_a_file_that_takes_nothing_holds_up_nobody(self):
         file = BlockedFile()
-        writer = LogWriter(file, self.fail, limit=100)
+        writer = LogWriter(file, self.fail, "{} are missing\n".format, limit=100)
         begun = time.monotonic()
         taken = [writer.add(f"{number}\n") for number in range(1000)]
         self.assertLess(time.monotonic() - begun, 1)
         self.assertTrue(all(taken[:100]))
         self.assertFalse(all(taken))
-        self.assertEqual(writer.take_missing(), 0)  # there is no place to say so yet
         file.go.set()
+        writer.flush(10)
+        self.assertTrue(writer.add("next\n"))
+        self.assertTrue(writer.add("last\n"))
         writer.end(10)
-        self.assertEqual(len(file.getvalue().splitlines()), taken.count(True))
-        self.assertEqual(writer.take_missing(), taken.count(False))
-        self.assertEqual(writer.take_missing(), 0)
+        written = [f"{number}" for number, had_place in enumerate(taken) if had_place]
+        self.assertEqual(file.getvalue().splitlines(), [*written, f"{taken.count(False)} are missing", "next", "last"])
 
     def test_a_fault_is_reported_once(self):
         reports = []
         writer = LogWriter(BrokenFile(), reports.append)
         writer.add("one\n")
-        writer._thread.join(10)
-        self.assertFalse(writer.add("two\n"))
+        writer.add("two\n")
+        writer.flush(10)
+        self.assertFalse(writer.add("three\n"))
+        writer.end(10)
         self.assertEqual(len(reports), 1)
         self.assertIn("no space", reports[0])
+
+    def test_a_file_that_rotates(self):
+        with tempfile.TemporaryDirectory() as folder:
+            path = os.path.join(folder, "traffic.log")
+            writer = LogWriter(RotatingFile(path, 100, older=3), self.fail)
+            for number in range(40):
+                writer.add(f"line {number:02}\n")  # eight bytes, of which 100 bytes take twelve
+                writer.flush(10)
+            writer.end(10)
+            texts = []
+            for name in ("traffic.log.3", "traffic.log.2", "traffic.log.1", "traffic.log"):
+                with open(os.path.join(folder, name)) as file:
+                    texts.append(file.read())
+            self.assertEqual([len(text) // 8 for text in texts], [12, 12, 12, 4])
+            self.assertEqual("".join(texts), "".join(f"line {number:02}\n" for number in range(40)))
+
+    def test_the_oldest_file_goes(self):
+        with tempfile.TemporaryDirectory() as folder:
+            file = RotatingFile(os.path.join(folder, "traffic.log"), 10, older=1)
+            for text in ("one\n", "two two\n", "three\n"):
+                file.write(text)
+            file.close()
+            self.assertEqual(sorted(os.listdir(folder)), ["traffic.log", "traffic.log.1"])
+
+    def test_a_file_that_rotates_and_fails_is_reported(self):
+        reports = []
+        file = RotatingFile("/dev/full")
+        writer = LogWriter(file, reports.append)
+        writer.add("one\n")
+        writer.end(10)
+        self.assertEqual(len(reports), 1)
+        self.assertIn("No space left", reports[0])
 
 
 if __name__ == "__main__":

@@ -1,4 +1,5 @@
 """Tests of psu-relay as a program: its command line, its exit statuses, and how it ends."""
+import os
 import socket
 import subprocess
 import sys
@@ -60,6 +61,21 @@ class ProgramTest(unittest.TestCase):
                 text = file.read()
             self.assertIn('"payload": "VOLT?\\\\n"', text)
             self.assertIn('"event": "ended"', text)
+
+    def test_a_log_that_takes_nothing_does_not_hold_up_the_end(self):
+        with tempfile.TemporaryDirectory() as folder, FakeServer() as server:
+            log = f"{folder}/traffic.log"
+            os.mkfifo(log)
+            nobody_reads = os.open(log, os.O_RDWR)
+            self.addCleanup(os.close, nobody_reads)
+            command = [sys.executable, "-m", "psu.relay", "--listen", "127.0.0.1:0", "--to", str(server.port), "--log", log]
+            process = subprocess.Popen(command, stdout=subprocess.PIPE, universal_newlines=True)
+            self.addCleanup(process.stdout.close)
+            with Instrument(port=int(process.stdout.readline().rpartition(":")[2])) as client:
+                for number in range(1000):  # more than a FIFO takes
+                    client.query(f"{number}?" + "x" * 100)
+            process.terminate()
+            self.assertEqual(process.wait(30), 0)
 
 
 if __name__ == "__main__":

@@ -59,11 +59,11 @@ class ReadingTest(unittest.TestCase):
             self.assertIn(text, str(caught.exception))
 
     def test_a_file_has_comments_and_names_its_lines(self):
-        rules = parse_rules("# a bench\n\nhold response  # all\ndrop-before command\n")
+        rules = parse_rules("# a bench\n\nhold response  # all\ndrop-before command\n".splitlines())
         self.assertEqual([rule.name for rule in rules], ["rule 3", "rule 4"])
         for text in ("hold response\nhold nothing\n", 'hold response\nhold "x\n'):
             with self.assertRaisesRegex(RuleError, "line 2"):
-                parse_rules(text)
+                parse_rules(text.splitlines())
 
 
 class ChoosingTest(unittest.TestCase):
@@ -126,7 +126,7 @@ class ChoosingTest(unittest.TestCase):
         self.assertEqual(alone, mixed[1::2])
 
     def test_the_first_rule_that_applies_decides(self):
-        rules = Rules(parse_rules("hold command times 1\ndrop-before command number 1\n"), 0)
+        rules = Rules(parse_rules("hold command times 1\ndrop-before command number 1\n".splitlines()), 0)
         chosen = [rules.choose(command(b"A"), {}) for _ in range(3)]
         self.assertEqual([rule and rule.name for rule in chosen], ["rule 1", "rule 2", None])
 

@@ -76,13 +76,13 @@ class SessionsTest(unittest.TestCase):
     def test_the_second_connection_finds_its_session(self):
         sessions = Sessions()
         first, second = sessions.open(), sessions.open()
-        sessions.name(7, first)
-        sessions.name(9, second)
-        self.assertIs(sessions.find(9), second)
+        sessions[7] = first
+        sessions[9] = second
+        self.assertIs(sessions.get(9), second)
         self.assertEqual((first.number, second.number), (1, 2))
         sessions.remove(second)
-        self.assertIsNone(sessions.find(9))
-        self.assertIs(sessions.find(7), first)
+        self.assertIsNone(sessions.get(9))
+        self.assertIs(sessions.get(7), first)
 
 
 if __name__ == "__main__":

@@ -196,6 +196,22 @@ class Ends(FolderCase):
             process.stdin.flush()
             self.assert_ends(server)
 
+    def test_before_the_server_is_tied_to_it(self):
+        program = write_program(self.path("psu"), PROGRAM)
+        code = f"""
+            import os, signal
+            from psu import server
+            def tie(_, pid):
+                print(pid, flush=True)
+                os.kill(os.getpid(), signal.SIGKILL)
+            server.Lifeline.tie = tie
+            server.Server(program={program!r}).start()
+        """
+        variables = {**os.environ, "TMPDIR": self.folder}
+        ended = subprocess.run([sys.executable, "-c", textwrap.dedent(code)], env=variables, stdout=subprocess.PIPE)
+        self.assertEqual(ended.returncode, -signal.SIGKILL)
+        self.assert_ends(int(ended.stdout))
+
     def test_an_end_of_the_interpreter_leaves_no_folder(self):
         process, _ = self.start("")
         process.stdin.write("\n")

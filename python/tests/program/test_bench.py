@@ -9,6 +9,8 @@ import socket
 import struct
 import subprocess
 import sys
+import tempfile
+import threading
 import unittest
 from unittest import mock
 
@@ -42,6 +44,7 @@ class ProgramCase(unittest.TestCase):
 
     def setUp(self):
         self.server = self.enter(Server())
+        self.clients = []
 
     def relay(self, *rules):
         self.log = io.StringIO()
@@ -50,6 +53,7 @@ class ProgramCase(unittest.TestCase):
     def client(self, through=None, timeout=LONG):
         client = Instrument(port=(through or self.server).port, timeout=timeout)
         self.addCleanup(client.close)
+        self.clients.append(client)
         return client
 
     def has_opened(self, clients, count):
@@ -282,6 +286,55 @@ class RelayTest(ProgramCase):
             client.close()
         except (HislipError, OSError):
             pass  # what the client is to notice
+
+
+class ReplayTest(ProgramCase):
+    def talk(self, relay):
+        """Two sessions with all kinds of messages, one of which waits for the lock of the other."""
+        one, other = self.client(relay), self.client(relay)
+        self.assertEqual(one.query("VOLT?;*CLS;*SRE 4;*OPC?"), "0.000;1")
+        one.write("VOLT 99")
+        one.wait_for_service_request(LONG)
+        self.assertEqual(one.read_stb(), 68)
+        one.lock(LONG, "bench")
+        other.lock_info()
+        one.unlock()
+        one.lock(LONG)
+        release = threading.Timer(0.2, one.unlock)
+        release.start()
+        other.lock(LONG)
+        release.join()
+        other.write_block('MMEM:DATA "a",', bytes(range(256)) * 100)
+        other.unlock()
+        self.assertEqual(one.query_block('MMEM:DATA? "a"'), bytes(range(256)) * 100)
+        one.clear()
+        one.timeout = 0.2
+        with self.assertRaises(Timeout):
+            one.query("FOO?")
+        one.clear()
+        self.assertEqual(one.query("SYST:ERR?;:SYST:ERR?"), '-222,"Data out of range";-113,"Undefined header"')
+
+    def test_a_log_is_sent_again(self):
+        log = io.StringIO()
+        with Relay(self.server.port, (), log, is_json=True) as relay:
+            self.talk(relay)
+            for client in self.clients:
+                client.close()
+        with tempfile.NamedTemporaryFile("w") as file, Server() as fresh, fresh.connect() as beside:
+            file.write(log.getvalue())
+            file.flush()
+            self.assert_replayed(fresh, file.name, 0, "0 differ")
+            beside.query("MMEM:DEL \"a\";:VOLT 5;*CLS;*SRE 0;*OPC?")
+            line = self.assert_replayed(fresh, file.name, 1, "1 differ")
+            self.assertIn("0.000;1\\n in the log, 5.000;1\\n now", line)
+
+    def assert_replayed(self, server, log, status, text):
+        command = [sys.executable, "-m", "psu.replay", "--to", str(server.port), "--timeout", "10", log]
+        environment = {**os.environ, "PYTHONPATH": os.pathsep.join(sys.path)}
+        ended = subprocess.run(command, stdout=subprocess.PIPE, env=environment, universal_newlines=True, timeout=60)
+        self.assertEqual(ended.returncode, status, ended.stdout)
+        self.assertTrue(ended.stdout.endswith(f", of which {text}\n"), ended.stdout)
+        return ended.stdout.splitlines()[0]
 
 
 if __name__ == "__main__":

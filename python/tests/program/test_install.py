@@ -6,7 +6,7 @@ import sys
 import pytest
 
 PACKAGE = os.path.dirname(os.path.dirname(os.path.dirname(os.path.abspath(__file__))))
-PROGRAMS = ("psu-relay", "psu-socket", "psu-backup", "psu-send")
+PROGRAMS = ("psu-relay", "psu-socket", "psu-backup", "psu-send", "psu-replay", "psu-panel")
 
 if not os.path.exists(os.path.join(PACKAGE, "pyproject.toml")):
     pytest.skip("this is no clone", allow_module_level=True)

@@ -93,7 +93,8 @@ def test_a_server_is_the_package_s_own_program(programs, call):
     assert call("python", "-c", code).stdout == f"{os.path.join(programs, 'psu')} EXAMPLE,PSU4,0,1.0\n"
 
 
-@pytest.mark.parametrize("command", [["python", "-m", "psu"], ["psu-relay"], ["psu-socket"], ["psu-backup"], ["psu-send"]])
+@pytest.mark.parametrize("command", [["python", "-m", "psu"], ["psu-relay"], ["psu-socket"], ["psu-backup"], ["psu-send"],
+                                     ["psu-replay"], ["psu-panel"]])
 def test_the_version_names_commit_program_and_toolchain(programs, call, command):
     ended = call(*command, "--version")
     assert ended.returncode == 0
