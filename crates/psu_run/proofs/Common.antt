@@ -33,7 +33,7 @@ pub use Rattle.psu_run.specs.Lines.{AreAsked, AreRequests, AskedBy, Brings, HasR
 pub use Rattle.psu_run.specs.Ends.{BeforeDrop, EventsLead, Halts, InCall, IsAlong, IsAtPower, IsBetween, IsByFailure, IsLeftBy, IsRefused, IsRefusedFor, IsWorn, NextBegins, NotStarted, RefusesMemory, RunsUpTo, StandsForPrefix, StopsFor, cause_of, failed_reads, failed_writes, fault_disk, returned_disk, start_of}
 pub use Rattle.psu_run.specs.Output.{Fails, HoldsLittle, OutputState, Says, SaysUntil, Writes, WritesShort, Written, held}
 pub use Rattle.psu_run.specs.Parts.{Answers, DeviceStops, Ends, EndsEarly, FaultOf, IsAt, IsDone, IsMemory, IsTied, IsWornAtLast, Leads, Ran, disk_in, failures_of}
-pub use Rattle.psu_run.specs.Points.{Acts, Begins, Calls, Does, EndsJob, IsFlush, IsJob, IsUnit, IsWornOut, Jobs, LeadsTo, CallsOn, MemoryRefused, NoCall, NoNumber, OneCall, PowersOn, RunPoint, Runs, ScriptAlone, Steps, StoreBroken, at_power_on, executed_by, fault_of, is_calm}
+pub use Rattle.psu_run.specs.Points.{IsRunCall, Acts, Begins, Calls, Does, EndsJob, IsFlush, IsJob, IsUnit, IsWornOut, Jobs, LeadsTo, CallsOn, MemoryRefused, NoCall, NoNumber, OneCall, PowersOn, RunPoint, Runs, ScriptAlone, Steps, StoreBroken, at_power_on, executed_by, fault_of, is_calm}
 pub use Rattle.psu_run.specs.Results.{IsAsBefore, IsOfRun, RunTo, WritesTo, disk_from, disk_of, end_of}
 pub use Rattle.psu_run.specs.Script.{Executes, ExecutesInside, ExecutesReply, HasOutcome, IsScript, Point, Replies, Scripted, at_start, finished, flushed, replied, waited}
 pub use Rattle.psu_run.specs.declared.run_cause.RunCause.TheVariants.{Device, Memory, Open, Read, TooLong, Write}

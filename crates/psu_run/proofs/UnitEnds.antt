@@ -93,7 +93,7 @@ steps_wait reply flushes serves there =
 pub device_stops_cleared : {D A : Type 0} {G : Ghosts D} {old mid new : Exec D A G} (cause : RunCause) → DeviceStops old mid (Halts (Ghosts.honest G) (Some cause) []) cause → Serves mid.device (Cleared 1) new.device → new.idle_store ≡ mid.idle_store → DeviceStops old new (Halts (Ghosts.honest G) (Some cause) []) cause
 device_stops_cleared {old = old} {mid = mid} {new = new} cause stops serves there = record {
   leads = steps_then (Halts _ (Some cause) []) stops.leads (steps_call (Cleared 1) (λ p q. Calls _ p (Cleared 1) q) serves there (grind arith) (λ w. refl) (λ finished over e. cc) (λ p q c. c))
-      (λ p m q b c. (begins_idle [] b.0 (begins_call (Cleared 1) [] c refl), refused_before cause 1 b.1 c));
+      (λ p m q b c. (begins_idle [] b.0 (begins_call (Cleared 1) [] refl c refl), refused_before cause 1 b.1 c));
   own = stops.own;
   why = λ e before t. let w = stops.why e before t in grind arith;
 }
@@ -105,7 +105,7 @@ abbrev pub IsLate : Type 0 → Request → RunPoint → RunPoint → Type 0
 IsLate honest request p q = (late : RunPoint) × Calls honest p (Executed 1 request Later) late × IsFlush honest late q
 
 pub late_begins : {H : Type 0} (request : Request) {p q : RunPoint} → IsLate H request p q → Begins H [] p q
-late_begins request (late, c, f) = begins_behind [] (begins_call (Executed 1 request Later) [] c refl) (flush_begins f)
+late_begins request (late, c, f) = begins_behind [] (begins_call (Executed 1 request Later) [] refl c refl) (flush_begins f)
 
 pub steps_late : {D A : Type 0} {G : Ghosts D} {old mid over : Exec D A G} (request : Request) → Leads old mid (λ p q. Calls (Ghosts.honest G) p (Executed 1 request Later) q) → Leads mid over (IsFlush (Ghosts.honest G)) → Leads old over (IsLate (Ghosts.honest G) request)
 steps_late request late flushes = steps_then (IsLate _ request) late flushes (λ p m q c f. (m, c, f))

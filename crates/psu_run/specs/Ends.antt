@@ -48,10 +48,10 @@ IsRefusedFor honest end q = ⊤
 abbrev pub Halts : Type 0 → Option RunCause → List Request → RunPoint → RunPoint → Type 0
 Halts honest end requests p q = Begins honest requests p q × IsRefusedFor honest end q
 
--- How far the first of these messages gets. Nothing is begun, or of a line an execution has led to some point, whose text
--- is written with what is not sent; and there the device stops in the next unit, or has executed it, but for its answer.
--- Of a power loss the device stops while it reopens a broken store, or the store is reopened. After the last message it
--- stops in a flush.
+-- How far the first of these messages gets. Of a line an execution has led to some point, whose text is written, with what
+-- is not sent; and there the device stops in the next unit, or has executed it, all but for its answer. Of a power loss the
+-- device stops while it reopens a broken store, or that is done. After the last message it stops in a flush. Or nothing of
+-- the message has begun.
 abbrev pub NextBegins : Type 0 → Option RunCause → List Message → RunPoint → RunPoint → Type 0
 NextBegins honest end [] p q = (q ≡ p) ⊎ Halts honest end [] p q
 NextBegins honest end (Message.Power ∷ ms) p q = (q ≡ p) ⊎ (IsJob honest Reopen p q × (is_broken q.world.state.flush.store ≡ false)) ⊎ Halts honest end [] p q

@@ -38,20 +38,31 @@ failures_of {D} {A} {G} exec = unwrap_or (option_map (Ghosts.failures G) (disk_i
 abbrev pub IsAt : {D A : Type 0} {G : Ghosts D} → Exec D A G → D → RunPoint → Type 0
 IsAt {D} {A} {G} exec disk p = (p.world.state ≡ exec.device) × (p.world.mode ≡ Running) × (p.world.disk ≡ Ghosts.state G disk) × (p.failures ≡ Ghosts.failures G disk)
 
+-- events lead to this world from a device that has just been powered on
+abbrev pub IsReached : World → Type 0
+IsReached w = (first : World) × IsStart first × EventsLead first w
+
+-- an image that is possible since now is a possible crash image of the disk as it is
+abbrev pub IsOfNow : {D : Type 0} → Ghosts D → Type 0
+IsOfNow {D} G = (d : D) (image : List ℕ) → Ghosts.left_since G d (Ghosts.moment G d) image → IsCrashImage (Ghosts.state G d) image
+
+-- From a point to a later one, and from its disk to that of the later one: events lead on, and what was passed stays passed.
+-- Of a disk that records its moments each possible crash image at any moment between represents a prefix of what was
+-- executed up to some point.
+abbrev pub LeadsOn : {D : Type 0} (G : Ghosts D) → D → D → RunPoint → RunPoint → Type 0
+LeadsOn G from to p q = (EventsLead p.world q.world × ((image : List ℕ) → IsAlong p image → IsAlong q image))
+    × (Ghosts.records G → IsOfNow G → IsReached p.world → LeavesOnly (Ghosts.moment G) (Ghosts.left_since G) from to (IsAlong q))
+
 -- From a device at rest to a disk: its size stays, and the count of its failures does not fall. Steps lead from each point
--- at which the device is to one so that P. On an honest disk events lead on then, and what was passed stays passed; and where
--- events lead there from a power-on, each possible crash image at any moment between represents a prefix of what was
--- executed up to some point, if an image that is possible since now is a possible crash image of the disk as it is.
+-- at which the device is to one so that P; on an honest disk events lead on with them.
 pub record Ran {D A : Type 0} {G : Ghosts D} (old : Exec D A G) (from to : D) (P : RunPoint → RunPoint → Type 0) : Type 0 where
   pub extent : Ghosts.extent G to ≡ Ghosts.extent G from
   pub later : Ghosts.failures G from ≤ Ghosts.failures G to
-  pub leads : (p : RunPoint) → IsAt old from p → (q : RunPoint) × P p q
-      × (Ghosts.honest G → (EventsLead p.world q.world × ((image : List ℕ) → IsAlong p image → IsAlong q image))
-      × (Ghosts.records G → ((d : D) (image : List ℕ) → Ghosts.left_since G d (Ghosts.moment G d) image → IsCrashImage (Ghosts.state G d) image)
-      → ((first : World) × IsStart first × EventsLead first p.world) → LeavesOnly (Ghosts.moment G) (Ghosts.left_since G) from to (IsAlong q)))
+  pub leads : (p : RunPoint) → IsAt old from p → (q : RunPoint) × P p q × (Ghosts.honest G → LeadsOn G from to p q)
 
 -- This count of failures is not past; and the disk is honest, or a store that is broken broke by a disk call that failed
--- after that count. (A reopening of a store on a disk that is not honest may fail although no call does.)
+-- after that count. So it is of the count at the start of a run on a store that was whole, throughout the run: then a
+-- reopening that fails, as it may on a disk that is not honest although no call does, comes after a failure all the same.
 abbrev pub IsTied : {D A : Type 0} {G : Ghosts D} → ℕ → Exec D A G → Type 0
 IsTied {D} {A} {G} before exec = (before ≤ failures_of exec) × (Ghosts.honest G ⊎ (is_broken exec.device.flush.store ≡ true → HasFailed before (failures_of exec)))
 
@@ -62,9 +73,7 @@ pub record Leads {D A : Type 0} {G : Ghosts D} (old new : Exec D A G) (P : RunPo
   pub tied : (before : ℕ) → IsTied before old → IsTied before new
 
 -- These steps lead to a device that stops for this cause: the disk failed after each count that is tied, or changes are
--- left and no number is left for a commit; or memory is refused, or the writer failed. So `before` is any count of
--- failures that a caller has in hand, such as that at the start of the run: a store that was broken before the call is
--- then known to have broken after that count.
+-- left and no number is left for a commit; or memory is refused, or the writer failed.
 pub record DeviceStops {D A : Type 0} {G : Ghosts D} (old new : Exec D A G) (P : RunPoint → RunPoint → Type 0) (cause : RunCause) : Type 0 where
   pub leads : Leads old new P
   pub own : (cause ≡ Device) ⊎ IsMemory cause ⊎ (cause ≡ Write)

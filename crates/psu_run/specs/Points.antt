@@ -5,7 +5,7 @@ use Rattle.psu_items.specs.Image.{EachRepresents, Represents, current_root, numb
 use Rattle.psu_lex.specs.declared.scpi_error.ScpiError.TheVariants.{OutOfMemory}
 use Rattle.psu_nv.specs.Contents.{IsContents, fits, items_of}
 use Rattle.psu_tree.specs.declared.command.Request.{Request}
-use Rattle.psu_exec.specs.Calls.{Commit, Entry, Executed, Failed, GaveBack, Job, JobData, JobEnd, JobKind, Nothing, Opened, Reopen, Reopened, Serves, Settled, Stored, Took, Unstarted}
+use Rattle.psu_exec.specs.Calls.{Cleared, Commit, Entry, Executed, Failed, GaveBack, Job, JobData, JobEnd, JobKind, Nothing, Opened, Reopen, Reopened, Serves, Settled, Stored, Took, Unstarted}
 use Rattle.psu_exec.specs.Device.{Error, Later, Parked, Reply, State, is_broken, power_on}
 use Rattle.psu_exec.specs.World.{CallsBy, DiskAfter, Running, World, is_executed, recorded}
 use Rattle.psu_messages.specs.Effects.{Effect, needs}
@@ -129,10 +129,19 @@ abbrev pub executed_by : Entry → List Request
 executed_by (Executed session request reply) = if is_executed reply then request ∷ [] else []
 executed_by entry = []
 
--- calls lead from one point to another, and execute a prefix of these requests
+-- the calls that a run makes: units, ends of a wait and drops of one, each of its one session, and those of jobs
+abbrev pub IsRunCall : Entry → Type 0
+IsRunCall (Executed session request reply) = session ≡ 1
+IsRunCall (Settled session reply) = session ≡ 1
+IsRunCall (Cleared session) = session ≡ 1
+IsRunCall (Took taken) = ⊤
+IsRunCall (GaveBack finished over) = ⊤
+IsRunCall entry = ⊥
+
+-- such calls lead from one point to another, and execute a prefix of these requests
 pub data Begins (honest : Type 0) : List Request → RunPoint → RunPoint → Type 0 where
   NoCall : {requests : List Request} {p q : RunPoint} → q ≡ p → Begins honest requests p q
-  OneCall : {requests : List Request} {p q : RunPoint} (entry : Entry) (mid : RunPoint) (more : List Request) → Calls honest p entry mid → requests ≡ executed_by entry ++ more → Begins honest more mid q → Begins honest requests p q
+  OneCall : {requests : List Request} {p q : RunPoint} (entry : Entry) (mid : RunPoint) (more : List Request) → IsRunCall entry → Calls honest p entry mid → requests ≡ executed_by entry ++ more → Begins honest more mid q → Begins honest requests p q
 
 -- an effect of a line; a unit is executed with the flushes that it waits for, so no unit is settled
 abbrev pub Does : Type 0 → RunPoint → Effect → RunPoint → Type 0

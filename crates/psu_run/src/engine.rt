@@ -107,11 +107,11 @@ pub fn run<R: Source, W: Sink, D: Disk, A: Allocator + Copy>(
     writer: &mut W,
     start: RunStart<D, A>,
 ) -> Result<D, RunFault<D, A>>
-    // The responses are those of the device, on every disk. On an honest one, at each moment since the call began, each
-    // possible crash image represents what one of the given disk does, or the
-    // contents after a prefix of the units executed up to some point of this very run; that prefix contains every unit
-    // before a `*OPC?` answered by that point. No clause can say which point belongs to a moment: a contract sees the
-    // reader, the writer and the disk only at the two ends of the run.
+    // On every disk the responses are those of the device. On an honest one, at each moment since the call began, each
+    // possible crash image represents what one of the given disk does, or the contents after a prefix of the units
+    // executed up to some point of this very run; that prefix contains every unit before a `*OPC?` answered by that
+    // point. No clause can say which point belongs to a moment: a contract sees the reader, the writer and the disk only
+    // at the two ends of the run.
     ensures whole { IfOk result (λ d. (written : WritesTo D.honest None (D.state (disk_from start)).bytes (R.remaining reader.old) (D.failures (disk_from start)) (D.failures d)
         (W.written writer.old) (W.written writer.new) (D.state d))
         × (D.honest → EachMoment D.Disk (disk_from start) d (IsOfRun (D.state (disk_from start)) written.run.last))) }

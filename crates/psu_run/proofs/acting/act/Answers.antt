@@ -19,7 +19,7 @@ returns-in_err-outcome-clause-stops g c =
     passed c.from_residual.result c.in_err-outcome.field-0.0 _ c.from_residual.ensures.1
     (device_stops_then _
     (steps_call (Executed 1 request Parked) (λ p q. Calls g.D.Disk.honest p (Executed 1 request Parked) q) (grind arith) c.execute-outcome.ensures.idle_store (grind arith) (λ w. refl) (λ finished over e. cc) (λ p q call. call))
-    c.in_err-outcome.ensures.stops (λ p m q call b. (OneCall (Executed 1 request Parked) m [] call refl b.0, b.1)))
+    c.in_err-outcome.ensures.stops (λ p m q call b. (OneCall (Executed 1 request Parked) m [] refl call refl b.0, b.1)))
 
 pub returns-clause-acts : goal.returns-clause-acts
 returns-clause-acts g c = λ n.

@@ -11,7 +11,7 @@ pub returns-in_err-flush-clause-stops : goal.returns-in_err-flush-clause-stops
 returns-in_err-flush-clause-stops g c =
     passed c.from_residual-in_err-flush.result c.in_err-flush.field-0.0 _ c.from_residual-in_err-flush.ensures.1
     (device_stops_then _ (c.in_ok-outcome.ensures.late (c.is_later.ensures.0 c.if-not-is_later.false)) c.in_err-flush.ensures.stops
-    (λ p m q call b. (begins_none _ (begins_behind [] (begins_call (Executed 1 c.args.request.now Later) [] call refl) b.0), b.1)))
+    (λ p m q call b. (begins_none _ (begins_behind [] (begins_call (Executed 1 c.args.request.now Later) [] refl call refl) b.0), b.1)))
 
 pub returns-in_err-outcome-2-clause-stops : goal.returns-in_err-outcome-2-clause-stops
 returns-in_err-outcome-2-clause-stops g c =
@@ -25,7 +25,7 @@ returns-then-is_later-clause-stops g c =
     let late = steps_late request (c.in_ok-outcome.ensures.late (c.is_later.ensures.0 c.if-not-is_later.false)) c.in_ok-flush.ensures.flushes in
     let still = c.is_later-2.ensures.0 c.if-is_later.true in let again = c.in_ok-outcome-2.ensures.late still in
     record {
-      leads = steps_then (Halts g.D.Disk.honest (Some Device) (request ∷ [])) late again (λ p m q late call. (begins_none _ (begins_behind [] (late_begins _ late) (begins_call (Executed 1 request Later) [] call refl)), tt));
+      leads = steps_then (Halts g.D.Disk.honest (Some Device) (request ∷ [])) late again (λ p m q late call. (begins_none _ (begins_behind [] (late_begins _ late) (begins_call (Executed 1 request Later) [] refl call refl)), tt));
       own = inl refl;
       why = λ e before t.
           let room = c.in_ok-outcome-2.ensures.room still in

@@ -16,7 +16,7 @@ returns-clause-stops g c =
     let serves : Serves c.flush.new.exec.device (Settled 1 reply) c.settle-outcome.new.self.device = grind arith in
     let waits = steps_wait reply c.in-Ok.ensures.flushes serves c.settle-outcome.ensures.idle_store in
     device_stops_cleared {mid = c.settle-outcome.new.self} Device (record {
-      leads = steps_as (Halts g.D.Disk.honest (Some Device) []) waits (λ p q w. (begins_behind [] (flush_begins w.1) (begins_call (Settled 1 reply) [] w.2 refl), tt));
+      leads = steps_as (Halts g.D.Disk.honest (Some Device) []) waits (λ p q w. (begins_behind [] (flush_begins w.1) (begins_call (Settled 1 reply) [] refl w.2 refl), tt));
       own = inl refl;
       why = λ e before t. let left = c.in-Ok.ensures.clean before t in grind arith;
     }) (grind arith) c.clear-2.ensures.idle_store

@@ -11,7 +11,7 @@ pub returns-in-Some-clause-stops : goal.returns-in-Some-clause-stops
 returns-in-Some-clause-stops g c =
     let r = c.in-Some.ensures in record {
       leads = steps_job _ c.take.new.exec c.run_job.new.exec c.in-Ok.job r.disk.0 r.run.0 r.run.1 (Halts g.D.Disk.honest (Some (Memory c.in-Some.sign)) []) c.in-Ok.ensures.step c.in-Ok.ensures.job r.run.2 r.disk.1 (λ h. r.run.6 h r.disk.0 r.disk.1) r.disk.2 r.disk.3 r.disk.4 r.breaks
-          (λ p out q take give. (OneCall (Took (Job (job_data c.in-Ok.job))) out [] take refl (begins_call (GaveBack r.run.0 (Some r.run.1)) [] give refl), InCall (GaveBack r.run.0 (Some r.run.1)) give r.run.3));
+          (λ p out q take give. (OneCall (Took (Job (job_data c.in-Ok.job))) out [] tt take refl (begins_call (GaveBack r.run.0 (Some r.run.1)) [] tt give refl), InCall (GaveBack r.run.0 (Some r.run.1)) give r.run.3));
       own = inr (inl tt);
       why = λ e. cc;
     }
@@ -26,7 +26,7 @@ returns-in-Err-None-clause-take g c = λ e. steps_take Nothing (c.in-Err-None.en
 pub returns-in-Err-Some-clause-stops : goal.returns-in-Err-Some-clause-stops
 returns-in-Err-Some-clause-stops g c =
     record {
-      leads = steps_as (Halts g.D.Disk.honest (Some (Memory c.in-Err-Some.sign)) []) (steps_take NoMemory (c.in-Err-Some.ensures.refused (λ e. cc)) c.in-Err-Some.ensures.idle_store) (λ p q call. (begins_call (Took NoMemory) [] call refl, InCall (Took NoMemory) call tt));
+      leads = steps_as (Halts g.D.Disk.honest (Some (Memory c.in-Err-Some.sign)) []) (steps_take NoMemory (c.in-Err-Some.ensures.refused (λ e. cc)) c.in-Err-Some.ensures.idle_store) (λ p q call. (begins_call (Took NoMemory) [] tt call refl, InCall (Took NoMemory) call tt));
       own = inr (inl tt);
       why = λ e. cc;
     }
