@@ -144,23 +144,18 @@ def sum_of(path: str) -> str:
 
 def make(image: str, copy: str, port: int, timeout: float, program: str) -> None:
     """Makes a copy that was checked, with its SHA-256 beside it."""
-    folder = os.path.dirname(os.path.abspath(copy))
+    sums, folder = f"{copy}.sha256", os.path.dirname(os.path.abspath(copy))
     with alone_in(folder):
-        make_alone(image, copy, port, timeout, program)
+        for path in (copy, sums):
+            if os.path.lexists(path):
+                raise FileExistsError(errno.EEXIST, os.strerror(errno.EEXIST), path)
+        with new_file(copy, read_image(image, port, timeout)) as unfinished:
+            check_by_recover(program, unfinished)
+            line = f"{sum_of(unfinished)}  {os.path.basename(copy)}\n"
+            sync_path(unfinished)
+        with new_file(sums, line.encode()):
+            pass
         sync_path(folder)
-
-
-def make_alone(image: str, copy: str, port: int, timeout: float, program: str) -> None:
-    sums = f"{copy}.sha256"
-    for path in (copy, sums):
-        if os.path.lexists(path):
-            raise FileExistsError(errno.EEXIST, os.strerror(errno.EEXIST), path)
-    with new_file(copy, read_image(image, port, timeout)) as unfinished:
-        check_by_recover(program, unfinished)
-        line = f"{sum_of(unfinished)}  {os.path.basename(copy)}\n"
-        sync_path(unfinished)
-    with new_file(sums, line.encode()):
-        pass
 
 
 def check(copy: str) -> None:

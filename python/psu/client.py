@@ -17,12 +17,11 @@ from .blocks import block_content, definite_block, encoded
 from .channel import Channel, Ending, closed_by_client
 from .errors import HislipError, LockError, LockRefusal, ProtocolError, ScpiError, Timeout
 from .exchange import Exchange, Wait, wait_of
-from .frames import DEFAULT_PORT, HEADER_SIZE, LARGEST_PAYLOAD, PROTOCOL_1_0, Frame, Interrupt, MessageType
+from .frames import DEFAULT_PORT, HEADER_SIZE, LARGEST_PAYLOAD, PROTOCOL_1_0, VENDOR, Frame, Interrupt, MessageType
 from .resource import Resource, parse_resource
 from .synchronous import Synchronous
 from .turn import Turn
 
-VENDOR = int.from_bytes(b"PY", "big")  # two letters by which a client names its maker
 LONGEST_KEY = 256  # bytes of the key of a shared lock
 LONGEST_LOCK_TIMEOUT = (1 << 32) - 1  # milliseconds
 LEAST_WAIT = 5.0  # seconds, for what a server answers at once and without which the session can't continue

@@ -23,6 +23,7 @@ HEADER = struct.Struct(">2sBBIQ")
 HEADER_SIZE = HEADER.size
 DEFAULT_PORT = 4880
 PROTOCOL_1_0 = 0x0100  # the version in the high half of the parameter of Initialize and InitializeResponse
+VENDOR = int.from_bytes(b"PY", "big")  # two letters by which a client names its maker
 FIRST_MESSAGE_ID = 0xFFFF_FF00
 MESSAGE_ID_STEP = 2
 LARGEST_PAYLOAD = 1 << 20  # what the readers take, where the caller names no limit

@@ -13,7 +13,8 @@ import sys
 from typing import Iterable, List, Optional, Tuple
 
 from .frames import (
-    FATAL_ERRORS, FIRST_MESSAGE_ID, PROTOCOL_1_0, Frame, FrameError, MessageType, after, control_in_words, name_of,
+    FATAL_ERRORS, FIRST_MESSAGE_ID, PROTOCOL_1_0, VENDOR, Frame, FrameError, MessageType, after, control_in_words,
+    name_of,
 )
 from .listening import (
     SERVER_ADDRESS, Endpoint, LoopServer, Target, close_soon, connect, endpoint_of, listening_parser, parsed, read_frame,
@@ -25,7 +26,6 @@ from .relay_rules import RuleText, Side, parsed_rules
 
 PROGRAM = "psu-socket"
 DEFAULT_PORT = 5025
-VENDOR = int.from_bytes(b"PY", "big")  # two letters by which a client names its maker
 BEGIN_SECONDS = 10.0  # the longest wait for the server to begin a session
 # It changes nothing, and its response comes after those to all messages before it.
 LAST_MESSAGE = b"*STB?\n"

@@ -249,8 +249,10 @@ class Server:
         self._lifeline.tie(process.pid)
         if self.relay is not None and port is not None:
             self.relay.to = port
+        assert process.stdout is not None
+        is_ready = select.select([process.stdout], [], [], START_TIMEOUT)[0]
         # The line comes once the server takes connections.
-        if first_line(process) != f"listening on 127.0.0.1:{port}\n":
+        if not is_ready or process.stdout.readline() != f"listening on 127.0.0.1:{port}\n":
             self._end_by(signal.SIGTERM)
             raise ServerNotStarted(self.messages().strip() or "the server ended or did not listen, without a message")
 
@@ -265,10 +267,3 @@ class Server:
         if self._lifeline is not None:
             self._lifeline.close()
             self._lifeline = None
-
-
-def first_line(process: subprocess.Popen[str]) -> str:
-    """Returns the first line that a process prints; empty where it ended before, or printed none in time."""
-    assert process.stdout is not None
-    ready, _, _ = select.select([process.stdout], [], [], START_TIMEOUT)
-    return process.stdout.readline() if ready else ""
