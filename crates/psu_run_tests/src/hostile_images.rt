@@ -3,7 +3,7 @@ use crate::holds::holds;
 use crate::images::formatted;
 use crate::runs::run_on;
 use crate::spelled::spoiled;
-use psu_run::{RunCause, StartCause, RecoverFault, recover};
+use psu_run::{RecoverFault, RunCause, StartCause, recover};
 use psu_tables::row;
 use std::alloc::Global;
 use std::process::Abort;

@@ -7,7 +7,7 @@ use psu_call_steps::{image, play, powered_on};
 use psu_disk::MemDisk;
 use psu_exec::Ended;
 use psu_items::IMAGE_SIZE;
-use psu_run::{StartCause, RecoverFault, recover};
+use psu_run::{RecoverFault, StartCause, recover};
 use std::alloc::Global;
 use std::process::Abort;
 

@@ -45,7 +45,11 @@ fn a_store_without_a_number(rt: HostRuntime) {
 // Whether a disk that stops after so many calls ends the run with a store that is broken, where it ends with a device
 // fault; `None` where it does not.
 fn is_broken(alloc: Global, calls: u64) -> Option<bool> {
-    let fault = fault_on(alloc, alloc, FailingDisk::from_then_on(least(alloc)?, calls))?;
+    let fault = fault_on(
+        alloc,
+        alloc,
+        FailingDisk::from_then_on(least(alloc)?, calls),
+    )?;
     if fault.cause != RunCause::Device {
         return None;
     }
