@@ -56,7 +56,7 @@ def logged_messages(lines: Iterable[str]) -> Iterator[Logged]:
             if "type" in item and not item.get("fault", "").startswith(left_out):
                 yield message_of(number, moment, item)
         except (ValueError, KeyError, AttributeError, TypeError):
-            raise ValueError(f"line {number} is none of a log of psu-relay --json") from None
+            raise ValueError(f"line {number} is not of a log of psu-relay --json") from None
 
 
 def message_of(number: int, moment: float, item: Dict[str, Any]) -> Logged:

@@ -55,7 +55,7 @@ class Lifeline:
     """What ends a server process together with this one, however this one ends: by SIGKILL or `os._exit` too.
 
     The server inherits the far end of a pair of sockets, which it does not read. Once no process has the near end any
-    more, the kernel sends the server a SIGKILL. Until it is told that this is so, a shell waits at the gate in its place.
+    more, the kernel sends the server a SIGKILL. Until the kernel has been asked for that, a shell waits at the gate in its place.
     """
 
     WAITING = ("/bin/sh", "-c", 'read _ && exec "$0" "$@" < /dev/null')

@@ -20,7 +20,7 @@ from psu.listening import read_frame
 
 MESSAGE = re.compile(r"^\S+ !? *(\d+) (-->|<--) DataEnd +([0-9a-f]{8}) .*\\n(?:  \[.*\])?$")
 QUERY = b"MEAS:VOLT?\n"
-# What raw clients ask of a supply that nobody has set, and what that answers.
+# What raw clients ask of a supply that no client has set, and what that answers.
 RAW_QUERIES = (
     (b"MEAS:VOLT?\n", b"0.000\n"), (b"*IDN?\n", b"EXAMPLE,PSU4,0,1.0\n"), (b"VOLT? MAX\n", b"60.000\n"),
     (b"CURR? MAX\n", b"5.000\n"), (b"SIM:LOAD?\n", b"10000\n"), (b"*IDN?;VOLT?\n", b"EXAMPLE,PSU4,0,1.0;0.000\n"),

@@ -107,8 +107,8 @@ class ReplayTest(unittest.TestCase):
         self.assertEqual(self.server.messages, [b"last?\n"])
 
     def test_a_log_that_cannot_be_read(self):
-        for line, text in (("21:47:56.623566    1 --> DataEnd", "line 1 is none of a log of psu-relay --json"), ("[]", "line 1 is none"),
-                           (json.dumps({"type": "DataEnd", "session": 1}), "line 1 is none")):
+        for line, text in (("21:47:56.623566    1 --> DataEnd", "line 1 is not of a log of psu-relay --json"), ("[]", "line 1 is not"),
+                           (json.dumps({"type": "DataEnd", "session": 1}), "line 1 is not")):
             status, _, said = self.replay([line])
             self.assertEqual(status, 2)
             self.assertIn(text, said)

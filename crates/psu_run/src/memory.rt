@@ -72,7 +72,7 @@ pub(crate) fn copy_of<A: Allocator + Copy>(alloc: A, bytes: &[u8]) -> Result<Byt
 
 // ---- the device
 
-// The fault for a cause that may be a want of memory.
+// The fault for a cause that may be that an allocation failed.
 fn refusal_of(cause: StartFault) -> RecoverFault
     ensures { start_of result ≡ cause }
 {

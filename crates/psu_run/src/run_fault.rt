@@ -38,8 +38,8 @@ impl<D: Disk, A: Allocator + Copy> RunFault<D, A> {
         }
     }
 
-    /// Whether no number is left for a commit to the store that is handed back. It tells a device fault of a worn store
-    /// from one of a disk that failed.
+    /// Whether no number is left for a commit to the store that is handed back. It distinguishes a device fault of a
+    /// worn store from one of a disk that failed.
     pub fn is_worn(&self) -> bool
         ensures value { IsTrue result ↔ IsWorn self.now.returned }
         ensures shown { D.honest → IsTrue result → IsWornOut (D.state (fault_disk self.now)).bytes }
