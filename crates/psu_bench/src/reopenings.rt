@@ -1,5 +1,5 @@
 //! When a store that broke is opened again.
-ghost use Rattle.std.specs.Prelude.{◌≡◌, None};
+ghost use Rattle.std.specs.Prelude.{◌≡◌, ℕ, None, false};
 ghost use Rattle.psu_bench.specs.Reopenings.{after_job, left_of_second};
 
 use crate::JobEnding;
@@ -52,6 +52,13 @@ impl Reopenings {
             }
             JobEnding::Stored | JobEnding::Worn | JobEnding::OutOfMemory => {}
         }
+    }
+
+    /// Whether how long it is until a job may be run depends on the time. If not, one may be run at any time.
+    pub fn needs_time(&self) -> bool
+        ensures { result ≡ false → (now : ℕ) → left_of_second self.now.broken now ≡ 0 }
+    {
+        self.broken.is_some()
     }
 
     /// Returns how many milliseconds it is until a job may be run: 0 where the store did not break within a second of

@@ -2,7 +2,7 @@
 ghost use Rattle.std.specs.Prelude.{◌≡◌};
 ghost use Rattle.psu_locks.specs.Locks.{shares, is_shared, holds_exclusive, may_command, can_grant, with_grant, holds_kind, freed_of, without, without_session, info_of, with_exclusive, with_sharer};
 
-use crate::{Freed, Info, Kind, LockString, Session};
+use crate::{Freed, Info, Kind, LockString, SESSIONS, Session};
 
 /// The holder of the exclusive lock, and the sessions that share the string: a flag for each session, in the order of
 /// the session numbers. The string is meaningful only while a session shares it.
@@ -10,7 +10,7 @@ use crate::{Freed, Info, Kind, LockString, Session};
 pub(crate) struct Holders {
     pub exclusive: Option<Session>,
     pub string: LockString,
-    pub sharers: [bool; 16],
+    pub sharers: [bool; SESSIONS],
 }
 
 impl Holders {
@@ -21,10 +21,17 @@ impl Holders {
         self.sharers[session.place()]
     }
 
+    // All flags are looked at, without a branch: mostly none is set.
+    #[inline(always)]
+    #[tactic(auto, using(std::proofs::lemmas::List::Folds::list_any_more, std::proofs::lemmas::List::take_all))]
     fn is_shared(&self) -> bool
         ensures { result ≡ is_shared self.now }
     {
-        self.sharers.iter().any(|&flag| flag)
+        let mut some = false;
+        for place in 0..SESSIONS {
+            some = some || self.sharers[place];
+        }
+        some
     }
 
     fn holds_exclusive(&self, session: Session) -> bool

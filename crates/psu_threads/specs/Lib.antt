@@ -1,4 +1,5 @@
 pub mod Called
 pub mod Seated
+pub mod Rounds
 pub mod Recorded
 pub mod Kept

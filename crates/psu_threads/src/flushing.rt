@@ -1,9 +1,11 @@
 //! The flusher: it puts changes on the disk, and fails lock requests whose time is over.
-ghost use Rattle.std.specs.Prelude.{◌≡◌, ◌<◌, Result};
+ghost use Rattle.std.specs.Prelude.{◌≡◌, ◌<◌, Result, Some};
 ghost use Rattle.psu_exec.specs.declared.job.NoJob.{NoJob as AnyNoJob};
 ghost use Rattle.psu_bench.specs.Callers.{CausesByRound};
+ghost use Rattle.psu_bench.specs.Lines.{condition_shown};
 ghost use Rattle.psu_bench.specs.Reopenings.{after_job, left_of_second};
 ghost use Rattle.psu_bench.specs.declared.caused.CausedByJob.{CausedByJob};
+ghost use Rattle.psu_threads.specs.Rounds.{IsNoted, pause_after, pause_without_job, shown_last, shown_without_job};
 
 use crate::reporter::Reporter;
 use crate::server::Server;
@@ -19,7 +21,9 @@ use std::sync::Wait;
 const RETRY_PAUSE: u64 = 1000;
 
 // Returns how long the flusher sleeps at most after a job, in milliseconds.
-fn pause_after(ending: JobEnding) -> u64 {
+fn pause_after(ending: JobEnding) -> u64
+    ensures { result ≡ pause_after ending }
+{
     match ending {
         JobEnding::Stored | JobEnding::Reopened => 0,
         JobEnding::Broken | JobEnding::Worn | JobEnding::OutOfMemory => RETRY_PAUSE,
@@ -66,6 +70,7 @@ impl<'a, 'b, D: ServedDisk> Flusher<'a, 'b, D> {
     // Notes what the end of a job, at this time, shows of the store.
     fn note_end<R: Wait>(&mut self, rt: &R, ending: JobEnding, now: u64)
         ensures caller { self.new.caller ≡ self.old.caller }
+        ensures condition { self.new.condition ≡ shown_last self.old.condition (condition_shown ending) }
         ensures reopenings { self.new.reopenings ≡ after_job self.old.reopenings ending now }
     {
         self.reopenings.note(ending, now);
@@ -74,10 +79,22 @@ impl<'a, 'b, D: ServedDisk> Flusher<'a, 'b, D> {
         }
     }
 
+    // Returns the time of the end of a job, if it is noted, or else 0: most jobs are stored, and to read the clock costs
+    // more than a turn.
+    fn time_of<R: Wait + Clock>(&self, rt: &R, ending: JobEnding) -> u64 {
+        if ending == JobEnding::Stored {
+            return 0;
+        }
+        self.server.now(rt)
+    }
+
     // Notes that there is no job, and returns how long the flusher sleeps then at most. Where there is nothing to do after
     // the store broke, a reopening has found all stored.
     fn note_none<R: Wait>(&mut self, rt: &R, none: NoJob) -> Option<u64>
-        ensures { self.new.caller ≡ self.old.caller }
+        ensures pause { result ≡ pause_without_job none }
+        ensures condition { self.new.condition ≡ shown_without_job self.old.condition none }
+        ensures caller { self.new.caller ≡ self.old.caller }
+        ensures reopenings { self.new.reopenings ≡ self.old.reopenings }
     {
         match none {
             NoJob::Memory => return Some(RETRY_PAUSE),
@@ -94,12 +111,13 @@ impl<'a, 'b, D: ServedDisk> Flusher<'a, 'b, D> {
     // Makes a round, and reports what it has caused. Returns how long the flusher sleeps after it at most, in milliseconds;
     // none where it sleeps until there is something to do.
     fn round<R: Wait + Clock>(&mut self, rt: &R) -> Option<u64>
-        ensures calls { (made : Result CausedByJob AnyNoJob) × CausesByRound D.Disk made self.old.caller self.new.caller }
+        ensures calls { (made : Result CausedByJob AnyNoJob) × CausesByRound D.Disk made self.old.caller self.new.caller
+            × IsNoted made result self.old.condition self.old.reopenings self.new.condition self.new.reopenings }
     {
         match self.caller.round(rt) {
             Ok(caused) => {
                 let ending = caused.ending();
-                let now = self.server.now(rt);
+                let now = self.time_of(rt, ending);
                 self.note_end(rt, ending, now);
                 caused.report(&mut Reporter {
                     rt,
@@ -114,9 +132,11 @@ impl<'a, 'b, D: ServedDisk> Flusher<'a, 'b, D> {
     // Makes a round, unless at this time the store broke less than a second ago, within a second of its reopening. Returns
     // as `round` does, or how long it is until one may be made.
     fn round_at<R: Wait + Clock>(&mut self, rt: &R, now: u64) -> Option<u64>
-        ensures put_off { 0 < left_of_second self.old.reopenings.broken now → self.new.caller ≡ self.old.caller }
+        ensures put_off { 0 < left_of_second self.old.reopenings.broken now
+            → (self.new ≡ self.old) × (result ≡ Some (left_of_second self.old.reopenings.broken now)) }
         ensures calls { left_of_second self.old.reopenings.broken now ≡ 0
-            → (made : Result CausedByJob AnyNoJob) × CausesByRound D.Disk made self.old.caller self.new.caller }
+            → (made : Result CausedByJob AnyNoJob) × CausesByRound D.Disk made self.old.caller self.new.caller
+            × IsNoted made result self.old.condition self.old.reopenings self.new.condition self.new.reopenings }
     {
         let left = self.reopenings.time_left(now);
         if left > 0 {
@@ -163,7 +183,11 @@ impl<'a, 'b, D: ServedDisk> Flusher<'a, 'b, D> {
     /// `round_at` ensures is that a job, and a finished one, can't be let go (`psu_exec::Job`).
     pub fn flush<R: Wait + Clock>(&mut self, rt: &R) {
         for _ in rt.forever() {
-            let now = self.server.now(rt);
+            let now = if self.reopenings.needs_time() {
+                self.server.now(rt)
+            } else {
+                0
+            };
             let round = self.round_at(rt, now);
             let lock = self.tick(rt);
             self.sleep(rt, round, lock);

@@ -33,6 +33,16 @@ impl<S, E> Model for Seat<S, E> {
 }
 
 impl<S, E> Seat<S, E> {
+    /// Returns a blank seat, of no turn, with which no call can be made. It stands in for a seat that is taken out of its
+    /// place for a while, and has no bytes.
+    pub fn blank() -> Seat<S, E>
+        ensures { result.opening ≡ None }
+    {
+        Seat {
+            badge: Badge::blank(),
+        }
+    }
+
     // Takes the seat's place at the table. The seat is blank until its place is put back.
     pub(crate) fn rise<T>(&mut self) -> Place<T, S, E>
         requires here { (opening : S) × (self.old.opening ≡ Some opening) }
