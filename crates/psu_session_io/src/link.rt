@@ -22,6 +22,7 @@ pub enum ReadResult {
 
 impl ReadResult {
     /// Returns the result of a read. Reads of a process that is stopped and continues, or is debugged, are interrupted.
+    #[inline(always)]
     pub fn of(read: &io::Result<usize>) -> ReadResult
         ensures bytes { (count : ℕ) → result ≡ Bytes count → read.now ≡ Ok count }
         ensures some { (count : ℕ) → read.now ≡ Ok (suc count) → result ≡ Bytes (suc count) }
@@ -124,6 +125,7 @@ impl Link {
     }
 
     /// Reads what has come, or waits for it.
+    #[inline(always)]
     pub fn read<'a, S>(&self, into: &'a mut [u8]) -> LinkRead<'a, S> {
         let read = (&self.stream).read(into);
         match ReadResult::of(&read) {
