@@ -1,6 +1,6 @@
 //! One setting of an output.
 ghost use Rattle.std.specs.Prelude.{◌≡◌};
-ghost use Rattle.psu_outputs.specs.Settings.{is_in_range};
+ghost use Rattle.psu_settings.specs.Settings.{is_in_range};
 
 use crate::{Milliamperes, Millivolts};
 
@@ -20,8 +20,8 @@ pub enum Setting {
 }
 
 impl Setting {
-    // Whether the setting is within its range.
-    pub(crate) fn is_in_range(self) -> bool
+    /// Whether the setting is within its range.
+    pub fn is_in_range(self) -> bool
         ensures { result ≡ is_in_range self }
     {
         match self {

@@ -1,19 +1,17 @@
 -- Settings are those of `*RST` exactly if their bytes are.
-use Rattle.std.proofs.Common.{◌≡◌, ℕ, Bool, true, false, List, Decides, refl, sym, ◌∙◌, ap}
+use Rattle.std.proofs.Common.{◌≡◌, Bool, true, false, List, Decides, refl, sym, ◌∙◌, ap}
 use Rattle.std.specs.Prelude.{◌==◌, ◌&&◌}
 use Rattle.std.specs.Bool.{beq}
 use Rattle.std.specs.Cmp.{booleans_Decides, unsigned_Decides}
 use Rattle.std.specs.Cmp.Lexicographic.{pointwise}
 use Rattle.std.proofs.lemmas.Slice.Eq.{bytes_eq-Decides, slice_eq-Decides}
-use Rattle.psu_outputs.specs.declared.output_settings.OutputSettings.{OutputSettings}
-use Rattle.psu_outputs.specs.Settings.{AreSettings, reset, is_reset, bytes_of}
-use Rattle.psu_outputs.proofs.Apart.{both, same_settings}
+use Rattle.psu_settings.specs.declared.output_settings.OutputSettings.{OutputSettings}
+use Rattle.psu_settings.specs.Settings.{AreSettings, reset, is_reset, bytes_of}
+use Rattle.psu_settings.proofs.Apart.{same_output, same_settings}
+use Rattle.psu_settings.proofs.Ranges.{both, join}
 
 abbrev pub same_each : OutputSettings → OutputSettings → Bool
 same_each o p = o.voltage.0 == p.voltage.0 && (o.current.0 == p.current.0 && (o.level.0 == p.level.0 && (beq o.protection p.protection && beq o.on p.on)))
-
-abbrev made : ℕ → ℕ → ℕ → Bool → Bool → OutputSettings
-made v i l protection on = record { voltage = record { 0 = v }; current = record { 0 = i }; level = record { 0 = l }; protection = protection; on = on }
 
 each_same : (o p : OutputSettings) → same_each o p ≡ true → o ≡ p
 each_same o p e =
@@ -21,15 +19,8 @@ each_same o p e =
     let current = both (o.current.0 == p.current.0) (o.level.0 == p.level.0 && (beq o.protection p.protection && beq o.on p.on)) voltage.1 in
     let level = both (o.level.0 == p.level.0) (beq o.protection p.protection && beq o.on p.on) current.1 in
     let flags = both (beq o.protection p.protection) (beq o.on p.on) level.1 in
-    ap (λ (n : ℕ). made n o.current.0 o.level.0 o.protection o.on) ((unsigned_Decides o.voltage.0 p.voltage.0).0 voltage.0)
-    ∙ ap (λ (n : ℕ). made p.voltage.0 n o.level.0 o.protection o.on) ((unsigned_Decides o.current.0 p.current.0).0 current.0)
-    ∙ ap (λ (n : ℕ). made p.voltage.0 p.current.0 n o.protection o.on) ((unsigned_Decides o.level.0 p.level.0).0 level.0)
-    ∙ ap (λ (b : Bool). made p.voltage.0 p.current.0 p.level.0 b o.on) ((booleans_Decides o.protection p.protection).0 flags.0)
-    ∙ ap (λ (b : Bool). made p.voltage.0 p.current.0 p.level.0 p.protection b) ((booleans_Decides o.on p.on).0 flags.1)
-
-join : (a b : Bool) → a ≡ true → b ≡ true → (a && b) ≡ true
-join true b x y = y
-join false b x y = absurd cc
+    same_output o p ((unsigned_Decides o.voltage.0 p.voltage.0).0 voltage.0) ((unsigned_Decides o.current.0 p.current.0).0 current.0) ((unsigned_Decides o.level.0 p.level.0).0 level.0)
+    ((booleans_Decides o.protection p.protection).0 flags.0) ((booleans_Decides o.on p.on).0 flags.1)
 
 same_all : (o p : OutputSettings) → o ≡ p → same_each o p ≡ true
 same_all o p e =

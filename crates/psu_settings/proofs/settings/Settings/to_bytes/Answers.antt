@@ -1,7 +1,7 @@
 use Rattle.std.proofs.Common.{◌∙◌, ap}
-use Rattle.psu_outputs.specs.Settings.{bytes_of}
-use Rattle.psu_outputs.proofs.Four.{four}
-use Rattle.psu_outputs.proofs.settings.Settings.to_bytes.Goals as goal
+use Rattle.psu_settings.specs.Settings.{bytes_of}
+use Rattle.psu_settings.proofs.Four.{four}
+use Rattle.psu_settings.proofs.settings.Settings.to_bytes.Goals as goal
 
 pub returns : goal.returns
 returns c =

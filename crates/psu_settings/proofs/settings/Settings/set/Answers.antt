@@ -1,7 +1,7 @@
 use Rattle.std.proofs.Common.{◌≡◌, ◌<◌, ◌∙◌, true, length, arith, rules, length-set}
-use Rattle.psu_outputs.specs.Settings.{is_allowed, is_in_range}
-use Rattle.psu_outputs.proofs.Ranges.{each_passes, all_pass, set_allowed}
-use Rattle.psu_outputs.proofs.settings.Settings.set.Goals as goal
+use Rattle.psu_settings.specs.Settings.{is_allowed, is_in_range}
+use Rattle.psu_settings.proofs.Ranges.{each_passes, all_pass, set_allowed}
+use Rattle.psu_settings.proofs.settings.Settings.set.Goals as goal
 
 pub invariant_of-self : goal.invariant_of-self
 invariant_of-self c =

@@ -1,6 +1,6 @@
 use Rattle.std.proofs.Common.{◌≡◌, ◌<◌, length, get_or, ℕ, List, arith, rules}
-use Rattle.psu_outputs.proofs.Bytes.{high, low, flags, seven}
-use Rattle.psu_outputs.proofs.output_settings.OutputSettings.of_bytes.Goals as goal
+use Rattle.psu_settings.proofs.Bytes.{high, low, flags, seven}
+use Rattle.psu_settings.proofs.output_settings.OutputSettings.of_bytes.Goals as goal
 
 pub returns-then-is_allowed-clause-found : goal.returns-then-is_allowed-clause-found
 returns-then-is_allowed-clause-found c =

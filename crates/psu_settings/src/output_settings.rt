@@ -1,9 +1,9 @@
 //! The settings of one output.
-ghost use Rattle.std.specs.Prelude.{◌≡◌, ◌≤◌, ◌<◌, ◌^◌, true, IfSome, IfNone};
-ghost use Rattle.psu_outputs.specs.declared.output_settings.OutputSettings.{OutputSettings as Each};
-ghost use Rattle.psu_outputs.specs.Settings.{with_setting, measured, is_allowed, rounded};
+ghost use Rattle.std.specs.Prelude.{◌≡◌, true, IfSome, IfNone};
+ghost use Rattle.psu_settings.specs.declared.output_settings.OutputSettings.{OutputSettings as Each};
+ghost use Rattle.psu_settings.specs.Settings.{with_setting, is_allowed};
 
-use crate::{Measured, Milliamperes, Milliohms, Millivolts, Setting};
+use crate::{Milliamperes, Millivolts, Setting};
 
 /// The settings of one output.
 #[derive(Clone, Copy, Debug, PartialEq, Eq)]
@@ -22,7 +22,7 @@ pub struct OutputSettings {
 
 impl OutputSettings {
     /// The settings of `*RST`.
-    pub(crate) const RESET: OutputSettings = OutputSettings {
+    pub const RESET: OutputSettings = OutputSettings {
         voltage: Millivolts(0),
         current: Milliamperes(0),
         level: Millivolts::GREATEST,
@@ -30,8 +30,8 @@ impl OutputSettings {
         on: false,
     };
 
-    // Returns the settings with one of them changed.
-    pub(crate) fn with(self, setting: Setting) -> OutputSettings
+    /// Returns the settings with one of them changed.
+    pub fn with(self, setting: Setting) -> OutputSettings
         ensures { result ≡ with_setting self setting }
     {
         match setting {
@@ -51,48 +51,10 @@ impl OutputSettings {
             && self.current.0 <= Milliamperes::GREATEST.0
             && self.level.0 <= Millivolts::GREATEST.0
     }
-
-    // What is measured with a load.
-    pub(crate) fn measured(&self, load: Milliohms) -> Measured
-        requires some { 1 ≤ load.0 }
-        ensures { result ≡ measured self.now load.0 }
-    {
-        if !self.on {
-            return Measured {
-                voltage: Millivolts(0),
-                current: Milliamperes(0),
-                limited: false,
-            };
-        }
-        let drop = self.current.0 as u64 * load.0 as u64;
-        let drive = self.voltage.0 as u64 * 1000;
-        if drop < drive {
-            Measured {
-                voltage: Millivolts(rounded(drop, 1000)),
-                current: self.current,
-                limited: true,
-            }
-        } else {
-            Measured {
-                voltage: self.voltage,
-                current: Milliamperes(rounded(drive, load.0 as u64)),
-                limited: false,
-            }
-        }
-    }
-}
-
-// The quotient, with half a unit rounded up.
-fn rounded(dividend: u64, divisor: u64) -> u32
-    requires some { 1 ≤ divisor }
-    requires fits { rounded dividend divisor < 2 ^ 32 }
-    ensures { result ≡ rounded dividend divisor }
-{
-    ((2 * dividend as u128 + divisor as u128) / (2 * divisor as u128)) as u32
 }
 
 impl OutputSettings {
-    ghost use Rattle.psu_outputs.specs.Settings.{output_bytes};
+    ghost use Rattle.psu_settings.specs.Settings.{output_bytes};
 
     // Encodes the settings in seven bytes, as a register stores them.
     pub(crate) fn to_bytes(self) -> [u8; 7]

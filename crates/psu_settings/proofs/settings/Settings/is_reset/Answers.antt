@@ -1,9 +1,9 @@
 use Rattle.std.proofs.Common.{List, ◌∙◌, ap, subst}
 use Rattle.std.specs.Cmp.Lexicographic.{pointwise}
-use Rattle.psu_outputs.specs.declared.output_settings.OutputSettings.{OutputSettings}
-use Rattle.psu_outputs.specs.Settings.{AreSettings}
-use Rattle.psu_outputs.proofs.Resets.{same_each, resets}
-use Rattle.psu_outputs.proofs.settings.Settings.is_reset.Goals as goal
+use Rattle.psu_settings.specs.declared.output_settings.OutputSettings.{OutputSettings}
+use Rattle.psu_settings.specs.Settings.{AreSettings}
+use Rattle.psu_settings.proofs.Resets.{same_each, resets}
+use Rattle.psu_settings.proofs.settings.Settings.is_reset.Goals as goal
 
 -- src/settings.rt:43:5
 pub returns : goal.returns

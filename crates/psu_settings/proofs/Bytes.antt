@@ -2,7 +2,7 @@
 use Rattle.std.proofs.Common.{◌≡◌, ℕ, zero, suc, ◌+◌, ◌/◌, ◌%◌, ◌<◌, ◌≤◌, not, eqb, List, [], ◌∷◌, length, get_or, refl, arith}
 use Rattle.std.specs.Prelude.{bit_and}
 use Rattle.std.specs.Int.{w16, from_be_bytes}
-use Rattle.psu_outputs.specs.Settings.{flag}
+use Rattle.psu_settings.specs.Settings.{flag}
 
 pub high : (a b n : ℕ) → a < 256 → b < 256 → n ≡ from_be_bytes w16 (a ∷ b ∷ []) → n / 256 % 256 ≡ a
 high a b n la lb e = omega arith

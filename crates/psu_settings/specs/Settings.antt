@@ -1,15 +1,14 @@
--- The settings of the outputs, their bytes, and what is measured with a resistor at each.
--- Sources: SCPI-1999 volume 2 (SOURce, OUTPut); ranges, bytes and formulas are this project's profile.
-use Rattle.std.specs.Prelude.{◌≡◌, ℕ, ◌+◌, ◌*◌, ◌/◌, ◌&&◌, nat_lt, nat_le, Bool, true, false, if◌then◌else◌, List, [], ◌∷◌, ◌++◌, length, replicate, slice_index_or, slice_set}
+-- The settings of the outputs, and their bytes.
+-- Sources: SCPI-1999 volume 2 (SOURce, OUTPut); ranges and bytes are this project's profile.
+use Rattle.std.specs.Prelude.{◌≡◌, ℕ, ◌+◌, ◌&&◌, nat_le, Bool, true, false, if◌then◌else◌, List, [], ◌∷◌, ◌++◌, length, replicate, slice_index_or, slice_set}
 use Rattle.std.specs.List.{list_all, flat_map}
 use Rattle.std.specs.Str.{bytes_eq}
 use Rattle.std.specs.Int.{w16, to_be_bytes}
-use Rattle.psu_outputs.specs.declared.output.Output.{Output}
-use Rattle.psu_outputs.specs.declared.output.Output.TheVariants.{First, Second, Third, Fourth}
-use Rattle.psu_outputs.specs.declared.setting.Setting.{Setting}
-use Rattle.psu_outputs.specs.declared.setting.Setting.TheVariants.{Voltage, Current, ProtectionLevel, Protection, State}
-use Rattle.psu_outputs.specs.declared.output_settings.OutputSettings.{OutputSettings}
-use Rattle.psu_outputs.specs.declared.quantities.Measured.{Measured}
+use Rattle.psu_settings.specs.declared.output.Output.{Output}
+use Rattle.psu_settings.specs.declared.output.Output.TheVariants.{First, Second, Third, Fourth}
+use Rattle.psu_settings.specs.declared.setting.Setting.{Setting}
+use Rattle.psu_settings.specs.declared.setting.Setting.TheVariants.{Voltage, Current, ProtectionLevel, Protection, State}
+use Rattle.psu_settings.specs.declared.output_settings.OutputSettings.{OutputSettings}
 
 abbrev pub place_of : Output → ℕ
 place_of First = 0
@@ -69,27 +68,3 @@ bytes_of outputs = flat_map output_bytes outputs
 -- the bytes are those of `*RST`
 abbrev pub is_reset : List OutputSettings → Bool
 is_reset outputs = bytes_eq (bytes_of outputs) (bytes_of reset)
-
--- # Measuring
-
--- the quotient, with half a unit rounded up
-abbrev pub rounded : ℕ → ℕ → ℕ
-rounded a b = (2 * a + b) / (2 * b)
-
--- the voltage drives more than the limit through the load
-abbrev pub is_limited : OutputSettings → ℕ → Bool
-is_limited o load = nat_lt (o.current.0 * load) (o.voltage.0 * 1000)
-
-abbrev pub measured_on : OutputSettings → ℕ → Bool → Measured
-measured_on o load true = record { voltage = record { 0 = rounded (o.current.0 * load) 1000 }; current = o.current; limited = true }
-measured_on o load false = record { voltage = o.voltage; current = record { 0 = rounded (o.voltage.0 * 1000) load }; limited = false }
-
--- an output that is off measures nothing
-abbrev pub measured : OutputSettings → ℕ → Measured
-measured o load =
-    if o.on then measured_on o load (is_limited o load)
-    else record { voltage = record { 0 = 0 }; current = record { 0 = 0 }; limited = false }
-
--- protection is on, and the voltage is above its level
-abbrev pub trips : OutputSettings → ℕ → Bool
-trips o load = o.protection && (let m = measured o load in nat_lt o.level.0 m.voltage.0)

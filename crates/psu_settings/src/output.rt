@@ -1,6 +1,6 @@
 //! The outputs by name.
 ghost use Rattle.std.specs.Prelude.{◌≡◌, ◌<◌};
-ghost use Rattle.psu_outputs.specs.Settings.{place_of};
+ghost use Rattle.psu_settings.specs.Settings.{place_of};
 
 /// One of the four outputs.
 #[derive(Clone, Copy, Debug, PartialEq, Eq)]
@@ -12,8 +12,8 @@ pub enum Output {
 }
 
 impl Output {
-    // Its place among the four.
-    pub(crate) fn place(self) -> usize
+    /// Its place among the four.
+    pub fn place(self) -> usize
         ensures value { result ≡ place_of self }
         ensures inside { result < 4 }
     {

@@ -1,9 +1,9 @@
 use Rattle.std.proofs.Common.{◌≡◌, ◌∙◌, ◌∷◌, [], Bool, true, refl, take, drop, sym, ap, rules}
 use Rattle.std.specs.Prelude.{◌&&◌}
-use Rattle.psu_outputs.specs.Settings.{bytes_of}
-use Rattle.psu_outputs.proofs.Apart.{same_settings}
-use Rattle.psu_outputs.proofs.Four.{parts}
-use Rattle.psu_outputs.proofs.settings.Settings.of_bytes.Goals as goal
+use Rattle.psu_settings.specs.Settings.{bytes_of}
+use Rattle.psu_settings.proofs.Apart.{same_settings}
+use Rattle.psu_settings.proofs.Four.{parts}
+use Rattle.psu_settings.proofs.settings.Settings.of_bytes.Goals as goal
 
 pub returns-then-bytes-ne28-clause-none : goal.returns-then-bytes-ne28-clause-none
 returns-then-bytes-ne28-clause-none c = λ outputs are is. c.if-bytes-ne28.true (parts outputs c.args.bytes.now are is).size

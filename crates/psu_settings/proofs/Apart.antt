@@ -3,12 +3,9 @@ use Rattle.std.proofs.Common.{◌≡◌, ℕ, ◌+◌, ◌/◌, ◌%◌, ◌≤�
 use Rattle.std.specs.Prelude.{◌&&◌, nat_le}
 use Rattle.std.specs.List.{list_all}
 use Rattle.std.proofs.lemmas.Bool.Decides.{nat_tests}
-use Rattle.psu_outputs.specs.declared.output_settings.OutputSettings.{OutputSettings}
-use Rattle.psu_outputs.specs.Settings.{AreSettings, is_allowed, flag, output_bytes, bytes_of}
-
-pub both : (a b : Bool) → (a && b) ≡ true → (a ≡ true) × (b ≡ true)
-both true b e = (refl, e)
-both false b e = absurd cc
+use Rattle.psu_settings.specs.declared.output_settings.OutputSettings.{OutputSettings}
+use Rattle.psu_settings.specs.Settings.{AreSettings, is_allowed, flag, output_bytes, bytes_of}
+use Rattle.psu_settings.proofs.Ranges.{both}
 
 low_enough : (n most : ℕ) → nat_le n most ≡ true → n ≤ most
 low_enough n most is = grind (arith, nat_tests)
@@ -34,8 +31,14 @@ same_flags false false true false e = absurd (omega (arith, e))
 same_flags false false false true e = absurd (omega (arith, e))
 same_flags false false false false e = (refl, refl)
 
-made : ℕ → ℕ → ℕ → Bool → Bool → OutputSettings
-made v i l protection on = record { voltage = record { 0 = v }; current = record { 0 = i }; level = record { 0 = l }; protection = protection; on = on }
+-- settings are equal if each of the five is
+pub same_output : (o p : OutputSettings) → o.voltage.0 ≡ p.voltage.0 → o.current.0 ≡ p.current.0 → o.level.0 ≡ p.level.0 → o.protection ≡ p.protection → o.on ≡ p.on → o ≡ p
+same_output o p voltage current level protection on =
+    ap (λ (n : ℕ). record o { voltage = record { 0 = n } }) voltage
+    ∙ ap (λ (n : ℕ). record o { voltage = p.voltage; current = record { 0 = n } }) current
+    ∙ ap (λ (n : ℕ). record p { level = record { 0 = n }; protection = o.protection; on = o.on }) level
+    ∙ ap (λ (b : Bool). record p { protection = b; on = o.on }) protection
+    ∙ ap (λ (b : Bool). record p { on = b }) on
 
 module _ (o p : OutputSettings) (x y : List ℕ) (allowed_o : is_allowed o ≡ true) (allowed_p : is_allowed p ≡ true) (same : output_bytes o ++ x ≡ output_bytes p ++ y) where
   byte : (k : ℕ) → get_or (output_bytes o ++ x) k 0 ≡ get_or (output_bytes p ++ y) k 0
@@ -65,14 +68,8 @@ module _ (o p : OutputSettings) (x y : List ℕ) (allowed_o : is_allowed o ≡ t
   flags : (o.protection ≡ p.protection) × (o.on ≡ p.on)
   flags = same_flags o.protection o.on p.protection p.on (byte 6)
 
-  same_output : o ≡ p
-  unfolding made
-  same_output =
-      ap (λ (n : ℕ). made n o.current.0 o.level.0 o.protection o.on) volts
-      ∙ ap (λ (n : ℕ). made p.voltage.0 n o.level.0 o.protection o.on) amperes
-      ∙ ap (λ (n : ℕ). made p.voltage.0 p.current.0 n o.protection o.on) level
-      ∙ ap (λ (b : Bool). made p.voltage.0 p.current.0 p.level.0 b o.on) flags.0
-      ∙ ap (λ (b : Bool). made p.voltage.0 p.current.0 p.level.0 p.protection b) flags.1
+  by_bytes : o ≡ p
+  by_bytes = same_output o p volts amperes level flags.0 flags.1
 
 same_outputs : (a b : List OutputSettings) → length a ≡ length b → list_all is_allowed a ≡ true → list_all is_allowed b ≡ true → bytes_of a ≡ bytes_of b → a ≡ b
 same_outputs [] [] long allowed_a allowed_b same = refl
@@ -81,7 +78,7 @@ same_outputs (o ∷ a) [] long allowed_a allowed_b same = absurd (omega (arith, 
 same_outputs (o ∷ a) (p ∷ b) long allowed_a allowed_b same =
     let this_a = both (is_allowed o) (list_all is_allowed a) allowed_a in
     let this_b = both (is_allowed p) (list_all is_allowed b) allowed_b in
-    ap (λ (q : OutputSettings). q ∷ a) (same_output o p (bytes_of a) (bytes_of b) this_a.0 this_b.0 same)
+    ap (λ (q : OutputSettings). q ∷ a) (by_bytes o p (bytes_of a) (bytes_of b) this_a.0 this_b.0 same)
     ∙ ap (λ (l : List OutputSettings). p ∷ l) (same_outputs a b (omega (arith, long)) this_a.1 this_b.1 (ap (drop 7) same))
 
 pub same_settings : (a b : List OutputSettings) → AreSettings a → AreSettings b → bytes_of a ≡ bytes_of b → a ≡ b

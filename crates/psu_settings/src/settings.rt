@@ -1,9 +1,9 @@
 //! The settings of the four outputs.
 ghost use Rattle.std.specs.Prelude.{◌≡◌, OnOk, IfErr, IfSome, true, false, List, IfNone};
-ghost use Rattle.psu_outputs.specs.Settings.{reset, is_reset, settings_of, is_in_range, after_set, AreSettings, bytes_of, is_allowed};
+ghost use Rattle.psu_settings.specs.Settings.{reset, is_reset, settings_of, is_in_range, after_set, AreSettings, bytes_of, is_allowed};
 ghost use Rattle.std.specs.List.{list_all};
 ghost use Rattle.psu_lex.specs.declared.scpi_error.ScpiError.TheVariants.{DataOutOfRange};
-ghost use Rattle.psu_outputs.specs.declared.output_settings.OutputSettings.{OutputSettings as Each};
+ghost use Rattle.psu_settings.specs.declared.output_settings.OutputSettings.{OutputSettings as Each};
 
 use crate::{Output, OutputSettings, Setting};
 use psu_lex::ScpiError;
@@ -17,8 +17,8 @@ pub struct Settings {
 
 impl Model for Settings {
     ghost use Rattle.std.specs.Prelude.{List};
-    ghost use Rattle.psu_outputs.specs.declared.output_settings.OutputSettings.{OutputSettings};
-    ghost use Rattle.psu_outputs.specs.Settings.{AreSettings};
+    ghost use Rattle.psu_settings.specs.declared.output_settings.OutputSettings.{OutputSettings};
+    ghost use Rattle.psu_settings.specs.Settings.{AreSettings};
 
     ghost Value = { List OutputSettings };
 
@@ -117,8 +117,8 @@ impl Settings {
 }
 
 impl Settings {
-    // The settings of four outputs.
-    pub(crate) fn of_outputs(outputs: [OutputSettings; 4]) -> Settings
+    /// The settings of four outputs, each within its ranges.
+    pub fn of_outputs(outputs: [OutputSettings; 4]) -> Settings
         requires { list_all is_allowed outputs ≡ true }
         ensures { result ≡ outputs }
     {

@@ -1,0 +1,5 @@
+mod Bytes
+mod Resets
+pub mod Apart
+pub mod Four
+pub mod Ranges
