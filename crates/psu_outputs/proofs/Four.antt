@@ -1,66 +1,18 @@
--- The bytes of four outputs, part by part.
+-- Four outputs with their settings, one by one.
 use Rattle.std.proofs.Common.{◌≡◌, ℕ, ◌<◌, Bool, true, false, List, [], ◌∷◌, length, get_or, take, drop, refl, sym, ◌∙◌, ap, arith}
 use Rattle.std.specs.Prelude.{◌&&◌, ◌||◌}
 use Rattle.std.specs.List.{list_all}
-use Rattle.psu_outputs.specs.declared.output_settings.OutputSettings.{OutputSettings}
+use Rattle.psu_settings.specs.declared.output_settings.OutputSettings.{OutputSettings}
 use Rattle.psu_outputs.specs.declared.supply.Supply.{Supply}
 use Rattle.psu_outputs.specs.Outputs.{AreSupplies, is_sound, conflicts, any_conflicts, with_settings, with_all, without_trip, restored}
-use Rattle.psu_outputs.proofs.Ranges.{each_passes, settings_sound}
-use Rattle.psu_outputs.specs.Settings.{AreSettings, is_allowed, output_bytes, bytes_of}
-
--- the first output's bytes, and those of the others
-pub record Parts (bytes : List ℕ) : Type 0 where
-  pub a : OutputSettings
-  pub b : OutputSettings
-  pub c : OutputSettings
-  pub d : OutputSettings
-  pub allowed : (is_allowed a ≡ true) × (is_allowed b ≡ true) × (is_allowed c ≡ true) × (is_allowed d ≡ true)
-  pub size : length bytes ≡ 28
-  pub first : output_bytes a ≡ take 7 bytes
-  pub second : output_bytes b ≡ take 7 (drop 7 bytes)
-  pub third : output_bytes c ≡ take 7 (drop 7 (drop 7 bytes))
-  pub fourth : output_bytes d ≡ drop 7 (drop 7 (drop 7 bytes))
-
-both : (a b : Bool) → (a && b) ≡ true → (a ≡ true) × (b ≡ true)
-both true b e = (refl, e)
-both false b e = absurd cc
-
-pub parts : (outputs : List OutputSettings) (bytes : List ℕ) → AreSettings outputs → bytes_of outputs ≡ bytes → Parts bytes
-parts [] bytes are is = absurd (omega (arith, are.0))
-parts (a ∷ []) bytes are is = absurd (omega (arith, are.0))
-parts (a ∷ b ∷ []) bytes are is = absurd (omega (arith, are.0))
-parts (a ∷ b ∷ c ∷ []) bytes are is = absurd (omega (arith, are.0))
-parts (a ∷ b ∷ c ∷ d ∷ []) bytes are is =
-    let p = both (is_allowed a) (list_all is_allowed (b ∷ c ∷ d ∷ [])) are.1 in
-    let q = both (is_allowed b) (list_all is_allowed (c ∷ d ∷ [])) p.1 in
-    let r = both (is_allowed c) (list_all is_allowed (d ∷ [])) q.1 in
-    let s = both (is_allowed d) true r.1 in
-    record {
-      a = a;
-      b = b;
-      c = c;
-      d = d;
-      allowed = (p.0, q.0, r.0, s.0);
-      size = ap (λ (l : List ℕ). length l) (sym is);
-      first = ap (λ (l : List ℕ). take 7 l) is;
-      second = ap (λ (l : List ℕ). take 7 (drop 7 l)) is;
-      third = ap (λ (l : List ℕ). take 7 (drop 7 (drop 7 l))) is;
-      fourth = ap (λ (l : List ℕ). drop 7 (drop 7 (drop 7 l))) is;
-    }
-parts (a ∷ b ∷ c ∷ d ∷ e ∷ l) bytes are is = absurd (omega (arith, are.0))
-
-pub four : {X : Type 0} (xs : List X) (d : X) → length xs ≡ 4 → get_or xs 0 d ∷ get_or xs 1 d ∷ get_or xs 2 d ∷ get_or xs 3 d ∷ [] ≡ xs
-four [] d e = absurd (omega arith)
-four (a ∷ []) d e = absurd (omega arith)
-four (a ∷ b ∷ []) d e = absurd (omega arith)
-four (a ∷ b ∷ c ∷ []) d e = absurd (omega arith)
-four (a ∷ b ∷ c ∷ f ∷ []) d e = refl
-four (a ∷ b ∷ c ∷ f ∷ g ∷ l) d e = absurd (omega arith)
+use Rattle.psu_settings.specs.Settings.{AreSettings, is_allowed}
+use Rattle.psu_settings.proofs.Four.{four}
+use Rattle.psu_settings.proofs.Ranges.{each_passes}
+use Rattle.psu_outputs.proofs.Ranges.{settings_sound}
 
 none : (a b c d : Bool) → a ≡ false → b ≡ false → c ≡ false → d ≡ false → (a || (b || (c || (d || false)))) ≡ false
 none a b c d ea eb ec ed = ap (λ (x : Bool). x || (b || (c || (d || false)))) ea ∙ ap (λ (x : Bool). x || (c || (d || false))) eb ∙ ap (λ (x : Bool). x || (d || false)) ec ∙ ap (λ (x : Bool). x || false) ed
 
--- four outputs with their settings, one by one
 module _ (supplies : List Supply) (outputs : List OutputSettings) (x : Supply) (y : OutputSettings) (are : AreSupplies supplies) (allowed : AreSettings outputs) where
   abbrev supply : ℕ → Supply
   supply k = get_or supplies k x

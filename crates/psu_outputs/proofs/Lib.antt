@@ -1,6 +1,4 @@
-mod Bytes
+mod Blank
 mod Four
 mod Ranges
-mod Resets
 mod Settled
-pub mod Apart

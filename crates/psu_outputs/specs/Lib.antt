@@ -1,2 +1,2 @@
+pub mod Measuring
 pub mod Outputs
-pub mod Settings

@@ -2,13 +2,15 @@
 ghost use Rattle.std.specs.Prelude.{◌≡◌, ◌⊎◌, OnOk, OnErr, IfErr, false, true, replicate, if◌then◌else◌};
 ghost use Rattle.std.specs.List.{list_any};
 ghost use Rattle.psu_outputs.specs.declared.supply.Supply.{Supply as Each};
-ghost use Rattle.psu_outputs.specs.Settings.{after_set, is_in_range, measured};
+ghost use Rattle.psu_settings.specs.Settings.{after_set, is_in_range};
+ghost use Rattle.psu_outputs.specs.Measuring.{measured};
 ghost use Rattle.psu_outputs.specs.Outputs.{reset_supply, supply_of, with_supply, all_settings, any_conflicts, with_all, with_load, without_trip, restored, is_load, is_in_limit, conditions};
 ghost use Rattle.psu_lex.specs.declared.scpi_error.ScpiError.TheVariants.{DataOutOfRange, SettingsConflict};
 
 use crate::supply::Supply;
-use crate::{Measured, Milliohms, Output, OutputSettings, Setting, Settings};
+use crate::{Measured, Milliohms};
 use psu_lex::ScpiError;
+use psu_settings::{Output, OutputSettings, Setting, Settings};
 use std::marker::Model;
 
 /// The four outputs: settings, loads and trips. No call allocates.
