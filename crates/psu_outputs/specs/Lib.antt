@@ -1,2 +1,3 @@
 pub mod Measuring
 pub mod Outputs
+pub mod Trips
