@@ -1,5 +1,6 @@
 mod Bytes
+mod Pieces
 mod Resets
 pub mod Apart
-pub mod Four
+pub mod Blank
 pub mod Ranges

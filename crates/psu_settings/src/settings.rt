@@ -74,15 +74,12 @@ impl Settings {
     pub fn to_bytes(&self) -> [u8; 28]
         ensures { result ≡ bytes_of self.now }
     {
-        let [a, b, c, d] = self.outputs;
-        let [a0, a1, a2, a3, a4, a5, a6] = a.to_bytes();
-        let [b0, b1, b2, b3, b4, b5, b6] = b.to_bytes();
-        let [c0, c1, c2, c3, c4, c5, c6] = c.to_bytes();
-        let [d0, d1, d2, d3, d4, d5, d6] = d.to_bytes();
-        [
-            a0, a1, a2, a3, a4, a5, a6, b0, b1, b2, b3, b4, b5, b6, c0, c1, c2, c3, c4, c5, c6, d0,
-            d1, d2, d3, d4, d5, d6,
-        ]
+        let mut bytes = [0; 28];
+        for place in 0..4usize {
+            let these = self.outputs[place].to_bytes();
+            bytes[7 * place..7 * place + 7].copy_from_slice(&these);
+        }
+        bytes
     }
 
     /// Decodes the settings from 28 bytes, each within its range; `None` for other bytes.
@@ -95,24 +92,14 @@ impl Settings {
         if bytes.len() != 28 {
             return None;
         }
-        let (a, rest) = bytes.split_at(7);
-        let (b, rest) = rest.split_at(7);
-        let (c, d) = rest.split_at(7);
-        let Some(a) = OutputSettings::of_bytes(a) else {
-            return None;
-        };
-        let Some(b) = OutputSettings::of_bytes(b) else {
-            return None;
-        };
-        let Some(c) = OutputSettings::of_bytes(c) else {
-            return None;
-        };
-        let Some(d) = OutputSettings::of_bytes(d) else {
-            return None;
-        };
-        Some(Settings {
-            outputs: [a, b, c, d],
-        })
+        let mut outputs = [OutputSettings::RESET; 4];
+        for place in 0..4usize {
+            let Some(output) = OutputSettings::of_bytes(&bytes[7 * place..7 * place + 7]) else {
+                return None;
+            };
+            outputs[place] = output;
+        }
+        Some(Settings { outputs })
     }
 }
 
