@@ -1,6 +1,6 @@
 mod Blank
-mod Four
 mod Lists
 mod Ranges
 mod Settled
 mod Trips
+mod Written

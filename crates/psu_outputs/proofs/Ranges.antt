@@ -1,5 +1,7 @@
 -- A change of an output keeps it within its ranges.
-use Rattle.std.proofs.Common.{◌≡◌, ℕ, Bool, true, false, cond}
+use Rattle.std.proofs.Common.{◌≡◌, ◌≤◌, ℕ, Bool, true, false, cond}
+use Rattle.std.specs.Prelude.{nat_le}
+use Rattle.std.proofs.lemmas.Bool.{leb-true}
 use Rattle.psu_settings.specs.declared.output_settings.OutputSettings.{OutputSettings}
 use Rattle.psu_settings.specs.declared.setting.Setting.{Setting}
 use Rattle.psu_settings.specs.declared.setting.Setting.TheVariants.{State}
@@ -29,3 +31,6 @@ pub load_sound : (s : Supply) (load : ℕ) → is_sound s ≡ true → is_load l
 load_sound s load e f =
     let parts = both (is_allowed s.settings) (is_load s.load.0) e in
     checked_sound (record s { load = record { 0 = load } }) (join (is_allowed s.settings) (is_load load) parts.0 f)
+
+pub some_load : (s : Supply) → is_sound s ≡ true → 1 ≤ s.load.0
+some_load s e = leb-true 1 s.load.0 (both (nat_le 1 s.load.0) (nat_le s.load.0 10000000) (both (is_allowed s.settings) (is_load s.load.0) e).1).0

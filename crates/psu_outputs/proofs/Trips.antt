@@ -8,16 +8,15 @@ use Rattle.std.proofs.lemmas.Grind.{get_or-set_at}
 use Rattle.std.proofs.lemmas.List.{get_or-map, get_or-set_other, length-map}
 use Rattle.psu_settings.specs.declared.output.Output.{Output}
 use Rattle.psu_settings.specs.declared.output.Output.TheVariants.{First, Second, Third, Fourth}
-use Rattle.psu_settings.specs.declared.output_settings.OutputSettings.{OutputSettings}
 use Rattle.psu_settings.specs.declared.setting.Setting.TheVariants.{State}
 use Rattle.psu_settings.specs.Settings.{place_of, reset_output, with_setting}
 use Rattle.psu_settings.proofs.Ranges.{all_pass, both, each_passes, join}
 use Rattle.psu_outputs.specs.declared.quantities.Measured.{Measured}
 use Rattle.psu_outputs.specs.declared.supply.Supply.{Supply}
 use Rattle.psu_outputs.specs.Measuring.{is_limited, measured_on, trips}
-use Rattle.psu_outputs.specs.Outputs.{checked, conflicts, is_settled, reset_supply, supply_of, with_load, with_settings, without_trip}
+use Rattle.psu_outputs.specs.Outputs.{checked, is_settled, reset_supply, supply_of, with_settings, without_trip}
 use Rattle.psu_outputs.specs.Trips.{Change, IsAccepted, IsOver, AreAccepted, after, after_all, asked, clear_count, clear_none, clears, count, is_same, trip_count, trips_at}
-use Rattle.psu_outputs.proofs.Lists.{all_settled, free_at, free_once_cleared, length_set, neither, set_at}
+use Rattle.psu_outputs.proofs.Lists.{all_settled, free_at, free_once_cleared, length_set, set_at}
 use Rattle.psu_outputs.proofs.Settled.{off_while_tripped, own_settings, settled_cleared, settled_load}
 
 low : (output : Output) → place_of output < 4

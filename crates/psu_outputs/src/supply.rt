@@ -1,7 +1,7 @@
 //! One output with its load and its trip.
 ghost use Rattle.std.specs.Prelude.{◌≡◌, ◌≤◌};
 ghost use Rattle.psu_outputs.specs.Measuring.{measured};
-ghost use Rattle.psu_outputs.specs.Outputs.{checked, conflicts, with_load, with_settings, without_trip};
+ghost use Rattle.psu_outputs.specs.Outputs.{checked, conflicts, with_load, with_settings};
 
 use crate::{Measured, Milliohms};
 use psu_settings::{OutputSettings, Setting};
@@ -61,18 +61,6 @@ impl Supply {
         ensures { result ≡ conflicts self.now settings }
     {
         self.tripped && settings.on
-    }
-
-    /// Returns the output with other settings and its trip cleared; the settings may trip it again.
-    pub(crate) fn restored(self, settings: OutputSettings) -> Supply
-        requires { 1 ≤ self.load.0 }
-        ensures { result ≡ with_settings (without_trip self) settings }
-    {
-        Supply {
-            tripped: false,
-            ..self
-        }
-        .with_settings(settings)
     }
 
     /// Returns the output with other settings, which may trip it.
