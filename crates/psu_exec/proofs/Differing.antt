@@ -6,7 +6,7 @@ use Rattle.std.proofs.lemmas.List.{take_all}
 use Rattle.std.specs.List.{flat_map}
 use Rattle.psu_map.specs.Map.{Item, IsSorted}
 use Rattle.psu_map.specs.Batch.{Edit, changed}
-use Rattle.psu_outputs.specs.declared.output_settings.OutputSettings.{OutputSettings}
+use Rattle.psu_settings.specs.declared.output_settings.OutputSettings.{OutputSettings}
 use Rattle.psu_nv.specs.Commands.{settings_at}
 use Rattle.psu_nv.specs.Contents.{Contents, IsContents, enables_items, file_item, items_of, macros_items, recall_items, register_items, registers_items, user_items}
 use Rattle.psu_nv.proofs.Encoding.{prefix}

@@ -7,8 +7,8 @@ use Rattle.psu_map.specs.Batch.{Edit}
 use Rattle.psu_map.proofs.Keys.{same_true}
 use Rattle.psu_map.proofs.Lists.{all_at}
 use Rattle.psu_map.proofs.Maps.{all_own}
-use Rattle.psu_outputs.specs.declared.output_settings.OutputSettings.{OutputSettings}
-use Rattle.psu_outputs.specs.Settings.{bytes_of, is_reset, reset}
+use Rattle.psu_settings.specs.declared.output_settings.OutputSettings.{OutputSettings}
+use Rattle.psu_settings.specs.Settings.{bytes_of, is_reset, reset}
 use Rattle.psu_status.specs.declared.groups.Enables.{Enables}
 use Rattle.psu_nv.specs.Commands.{Command, ServiceEnable, EventEnable, PowerOnClear, Save, User, DefineMacro, RemoveMacro, PurgeMacros, StoreBytes, Delete, Copy, Move, StoreState, LoadState, StoreMacro, LoadMacro, Recall, apply, settings_at}
 use Rattle.psu_nv.specs.Contents.{Contents, Macro, enables_items, file_item, items_of, macros_items, macro_bytes, recall_items, register_items, user_items}

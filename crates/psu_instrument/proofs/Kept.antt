@@ -5,9 +5,9 @@ use Rattle.psu_lex.specs.declared.scpi_error.ScpiError.{ScpiError}
 use Rattle.psu_lex.specs.declared.scpi_error.ScpiError.TheVariants.{CommandProtected, DataOutOfRange, SettingsConflict, TooMuchData}
 use Rattle.psu_nv.specs.Commands as nv
 use Rattle.psu_outputs.specs.Outputs.{all_settings, any_conflicts, with_all}
-use Rattle.psu_outputs.specs.Settings.{after_set, is_in_range}
-use Rattle.psu_outputs.specs.declared.output.Output.{Output}
-use Rattle.psu_outputs.specs.declared.setting.Setting.{Setting}
+use Rattle.psu_settings.specs.Settings.{after_set, is_in_range}
+use Rattle.psu_settings.specs.declared.output.Output.{Output}
+use Rattle.psu_settings.specs.declared.setting.Setting.{Setting}
 use Rattle.psu_status.specs.declared.groups.Enables.{Enables}
 use Rattle.psu_tree.specs.Nonvolatile.{is_nonvolatile}
 use Rattle.psu_tree.specs.declared.queries.Action.TheVariants as action

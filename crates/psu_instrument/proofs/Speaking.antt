@@ -7,9 +7,9 @@ use Rattle.psu_lex.specs.Decimals.{fixed3_text}
 use Rattle.psu_lex.specs.declared.scpi_error.ScpiError.{ScpiError}
 use Rattle.psu_nv.specs.Commands as nv
 use Rattle.psu_outputs.specs.Outputs.{all_settings, any_conflicts}
-use Rattle.psu_outputs.specs.Settings.{after_set, is_in_range}
-use Rattle.psu_outputs.specs.declared.output.Output.{Output}
-use Rattle.psu_outputs.specs.declared.setting.Setting.{Setting}
+use Rattle.psu_settings.specs.Settings.{after_set, is_in_range}
+use Rattle.psu_settings.specs.declared.output.Output.{Output}
+use Rattle.psu_settings.specs.declared.setting.Setting.{Setting}
 use Rattle.psu_tree.specs.declared.queries.Action.TheVariants as action
 use Rattle.psu_tree.specs.declared.command.Command.{Command}
 use Rattle.psu_tree.specs.declared.command.Command.TheVariants as command

@@ -4,7 +4,7 @@ use Rattle.psu_lex.specs.Data.{definite_text}
 use Rattle.psu_lex.specs.declared.scpi_error.ScpiError.TheVariants.{CommandProtected, DataOutOfRange, TooMuchData}
 use Rattle.psu_nv.specs.Commands.{ServiceEnable, EventEnable, PowerOnClear, Save, User, Recall}
 use Rattle.psu_outputs.specs.Outputs.{all_settings, restored}
-use Rattle.psu_outputs.specs.Settings.{reset}
+use Rattle.psu_settings.specs.Settings.{reset}
 use Rattle.psu_status.specs.Status as reporting
 use Rattle.psu_tree.specs.declared.values.Enable.{Enable}
 use Rattle.psu_tree.specs.declared.values.Enable.TheVariants as enable

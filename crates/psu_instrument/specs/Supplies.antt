@@ -3,11 +3,12 @@
 use Rattle.std.specs.Prelude.{ℕ, not, Bool, if◌then◌else◌, Option, Some, None}
 use Rattle.psu_lex.specs.declared.scpi_error.ScpiError.TheVariants.{DataOutOfRange, SettingsConflict}
 use Rattle.psu_outputs.specs.Outputs.{supply_of, with_supply, with_load, without_trip, is_load, any_conflicts, with_all, all_settings}
-use Rattle.psu_outputs.specs.Settings.{is_in_range, after_set, measured}
+use Rattle.psu_outputs.specs.Measuring.{measured}
+use Rattle.psu_settings.specs.Settings.{is_in_range, after_set}
 use Rattle.psu_outputs.specs.declared.quantities.Measured.{Measured}
-use Rattle.psu_outputs.specs.declared.output.Output.{Output}
-use Rattle.psu_outputs.specs.declared.setting.Setting.{Setting}
-use Rattle.psu_outputs.specs.declared.setting.Setting.TheVariants as setting
+use Rattle.psu_settings.specs.declared.output.Output.{Output}
+use Rattle.psu_settings.specs.declared.setting.Setting.{Setting}
+use Rattle.psu_settings.specs.declared.setting.Setting.TheVariants as setting
 use Rattle.psu_outputs.specs.declared.supply.Supply.{Supply}
 use Rattle.psu_tree.specs.Commands.{greatest_of}
 use Rattle.psu_tree.specs.declared.values.Extreme.{Extreme}

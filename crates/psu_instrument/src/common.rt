@@ -3,7 +3,7 @@ ghost use Rattle.std.specs.Prelude.{◌≡◌, ℕ, Bool, false, Option, Some, N
 ghost use Rattle.psu_lex.specs.ByteStorage.{NeedsAllocation};
 ghost use Rattle.psu_nv.specs.Contents.{Contents as Kept};
 ghost use Rattle.psu_outputs.specs.Outputs.{restored};
-ghost use Rattle.psu_outputs.specs.Settings.{reset};
+ghost use Rattle.psu_settings.specs.Settings.{reset};
 ghost use Rattle.psu_status.specs.Status.{cleared};
 ghost use Rattle.psu_instrument.specs.Common.{choice, digit, enabled, enables_queried, event_status, flag_queried, flagged, recalled, saved, user_data};
 ghost use Rattle.psu_instrument.specs.Instrument.{with_supplies};

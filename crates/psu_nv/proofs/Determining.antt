@@ -4,9 +4,9 @@ use Rattle.std.specs.List.{flat_map, AllByRecursion}
 use Rattle.psu_map.specs.Map.{get}
 use Rattle.psu_map.proofs.Keys.{same_key}
 use Rattle.psu_map.proofs.Maps.{same_map}
-use Rattle.psu_outputs.specs.declared.output_settings.OutputSettings.{OutputSettings}
-use Rattle.psu_outputs.specs.Settings.{AreSettings, reset, bytes_of, is_reset}
-use Rattle.psu_outputs.proofs.Apart.{same_settings}
+use Rattle.psu_settings.specs.declared.output_settings.OutputSettings.{OutputSettings}
+use Rattle.psu_settings.specs.Settings.{AreSettings, reset, bytes_of, is_reset}
+use Rattle.psu_settings.proofs.Apart.{same_settings}
 use Rattle.psu_status.specs.declared.groups.Enables.{Enables as EnableRegisters}
 use Rattle.psu_nv.specs.Contents.{Macro, Contents, contents_of, IsContents, IsMacro, enables_items, user_items, macros_items, macro_bytes, recall_items, items_of}
 use Rattle.psu_nv.specs.Commands.{settings_at}

@@ -4,7 +4,7 @@ use Rattle.std.specs.List.{AllByRecursion}
 use Rattle.std.proofs.Math.Seq.{take-suc}
 use Rattle.std.proofs.lemmas.List.{length-take-le}
 use Rattle.psu_map.specs.Map.{Item, item_of, Before, IsSorted}
-use Rattle.psu_outputs.specs.declared.output_settings.OutputSettings.{OutputSettings}
+use Rattle.psu_settings.specs.declared.output_settings.OutputSettings.{OutputSettings}
 use Rattle.psu_nv.specs.Contents.{Contents, enables_items, register_items, registers_items, user_items, macros_items, file_item}
 use Rattle.psu_nv.specs.Commands.{settings_at}
 use Rattle.psu_nv.proofs.Parts.{LedBelow, AllBelow, Below, all-append, all-map, below_key, enables_led, registers_below, registers_before, user_below, macros_below, files_before, files_below}

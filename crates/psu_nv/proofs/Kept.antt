@@ -7,8 +7,8 @@ use Rattle.std.proofs.lemmas.Bool.Decides.{nat_tests}
 use Rattle.psu_map.specs.Map.{Item, item_of, get, IsSorted}
 use Rattle.psu_map.proofs.Keys.{same_key}
 use Rattle.psu_map.proofs.Maps.{same_map}
-use Rattle.psu_outputs.specs.declared.output_settings.OutputSettings.{OutputSettings}
-use Rattle.psu_outputs.specs.Settings.{AreSettings, reset, bytes_of, is_reset}
+use Rattle.psu_settings.specs.declared.output_settings.OutputSettings.{OutputSettings}
+use Rattle.psu_settings.specs.Settings.{AreSettings, reset, bytes_of, is_reset}
 use Rattle.psu_lex.specs.Names.{is_name}
 use Rattle.psu_status.specs.declared.groups.Enables.{Enables as EnableRegisters}
 use Rattle.psu_nv.specs.Decoding.{is_between}

@@ -7,8 +7,8 @@ use Rattle.std.specs.declared.cmp.Ordering.TheVariants.{Less}
 use Rattle.std.specs.Cmp.{nat_cmp_is}
 use Rattle.std.specs.Cmp.Lexicographic.{slice_cmp}
 use Rattle.psu_map.specs.Map.{Item, item_of, Before, IsSorted}
-use Rattle.psu_outputs.specs.declared.output_settings.OutputSettings.{OutputSettings}
-use Rattle.psu_outputs.specs.Settings.{bytes_of, is_reset}
+use Rattle.psu_settings.specs.declared.output_settings.OutputSettings.{OutputSettings}
+use Rattle.psu_settings.specs.Settings.{bytes_of, is_reset}
 use Rattle.psu_status.specs.declared.groups.Enables.{Enables}
 use Rattle.psu_nv.specs.Contents.{Macro, Contents, enables_items, register_items, registers_items, user_items, macros_items, file_item, recall_items, items_of}
 

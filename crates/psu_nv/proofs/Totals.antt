@@ -17,8 +17,8 @@ use Rattle.psu_nv.proofs.Labels.{label_short}
 use Rattle.psu_nv.specs.Commands.{without_label, macro_of}
 use Rattle.psu_nv.proofs.Items.{all_put, all_without}
 use Rattle.psu_map.specs.Map.{Item, item_of, get, put, without, cost, IsSorted}
-use Rattle.psu_outputs.specs.declared.output_settings.OutputSettings.{OutputSettings}
-use Rattle.psu_outputs.specs.Settings.{AreSettings, bytes_of, is_reset}
+use Rattle.psu_settings.specs.declared.output_settings.OutputSettings.{OutputSettings}
+use Rattle.psu_settings.specs.Settings.{AreSettings, bytes_of, is_reset}
 use Rattle.psu_nv.specs.Contents.{Macro, Contents, IsMacro, body_at, has_label, enables_items, register_items, registers_items, user_items, macro_bytes, macros_items, file_item, recall_items, items_of, cost_of}
 use Rattle.psu_nv.specs.Costs.{page_count, registers_cost, macros_length, macros_cost, size_at, pages_of, IsShort}
 

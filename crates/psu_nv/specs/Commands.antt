@@ -8,8 +8,8 @@ use Rattle.std.specs.Int.{w16, from_be_bytes}
 use Rattle.psu_map.specs.Map.{Item, get, put, without}
 use Rattle.psu_lex.specs.declared.scpi_error.ScpiError.{ScpiError}
 use Rattle.psu_lex.specs.declared.scpi_error.ScpiError.TheVariants.{IllegalMacroLabel, MacroDefinitionTooLong, MacroRedefinitionNotAllowed, MacroHeaderNotFound, FileNameError, FileNameNotFound, MassStorageError, MediaFull}
-use Rattle.psu_outputs.specs.declared.output_settings.OutputSettings.{OutputSettings}
-use Rattle.psu_outputs.specs.Settings.{reset, is_allowed, bytes_of}
+use Rattle.psu_settings.specs.declared.output_settings.OutputSettings.{OutputSettings}
+use Rattle.psu_settings.specs.Settings.{reset, is_allowed, bytes_of}
 use Rattle.psu_status.specs.declared.groups.Enables.{Enables}
 use Rattle.psu_lex.specs.Names.{is_label, is_name}
 use Rattle.psu_nv.specs.Labels.{same_label}

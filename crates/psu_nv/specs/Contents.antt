@@ -5,8 +5,8 @@ use Rattle.std.specs.Option.{ForSome}
 use Rattle.std.specs.List.{flat_map, AllByRecursion}
 use Rattle.std.specs.Int.{w16, to_be_bytes}
 use Rattle.psu_map.specs.Map.{Item, item_of, cost, IsSorted}
-use Rattle.psu_outputs.specs.declared.output_settings.OutputSettings.{OutputSettings}
-use Rattle.psu_outputs.specs.Settings.{AreSettings, reset, is_reset, bytes_of}
+use Rattle.psu_settings.specs.declared.output_settings.OutputSettings.{OutputSettings}
+use Rattle.psu_settings.specs.Settings.{AreSettings, reset, is_reset, bytes_of}
 use Rattle.psu_status.specs.declared.groups.Enables.{Enables}
 use Rattle.psu_lex.specs.Names.{is_label, is_name}
 use Rattle.psu_nv.specs.Labels.{same_label}

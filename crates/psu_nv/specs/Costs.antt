@@ -1,8 +1,8 @@
 -- The cost of contents, part by part.
 use Rattle.std.specs.Prelude.{ℕ, ◌+◌, ◌/◌, ◌≤◌, Option, Some, None, if◌then◌else◌, List, [], ◌∷◌, length, sum_by}
 use Rattle.psu_map.specs.Map.{Item}
-use Rattle.psu_outputs.specs.declared.output_settings.OutputSettings.{OutputSettings}
-use Rattle.psu_outputs.specs.Settings.{is_reset}
+use Rattle.psu_settings.specs.declared.output_settings.OutputSettings.{OutputSettings}
+use Rattle.psu_settings.specs.Settings.{is_reset}
 use Rattle.psu_nv.specs.Labels.{same_label}
 use Rattle.psu_nv.specs.Contents.{Macro}
 

@@ -1,7 +1,7 @@
 //! The cost of contents after a command that its names and labels do not refuse, part by part.
 ghost use Rattle.std.specs.Prelude.{◌≡◌, ◌+◌, ◌<◌, ◌≤◌, ◌^◌, None, length, slice_set};
 ghost use Rattle.std.specs.List.{AllByRecursion};
-ghost use Rattle.psu_outputs.specs.Settings.{AreSettings};
+ghost use Rattle.psu_settings.specs.Settings.{AreSettings};
 ghost use Rattle.psu_map.specs.Map.{cost};
 ghost use Rattle.psu_nv.specs.Contents.{enables_items, user_items, cost_of, fits};
 ghost use Rattle.psu_nv.specs.Commands.{refused, apply};
@@ -13,7 +13,7 @@ use crate::limits::MACROS_MOST;
 use crate::pages::{Pages, enables_pages, user_pages};
 use crate::recall::recall_pages;
 use crate::{Contents, NvCommand, Register};
-use psu_outputs::Settings;
+use psu_settings::Settings;
 use std::alloc::Allocator;
 
 impl<A: Allocator + Copy> Contents<A> {

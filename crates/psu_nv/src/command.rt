@@ -1,6 +1,6 @@
 //! The nonvolatile commands.
 use crate::{FileBytes, Register, UserData};
-use psu_outputs::Settings;
+use psu_settings::Settings;
 use psu_status::Enables;
 
 /// A nonvolatile command with its parameters. What it borrows is copied once, into the contents.

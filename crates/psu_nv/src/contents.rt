@@ -1,7 +1,7 @@
 //! The nonvolatile contents, as one value.
 ghost use Rattle.std.specs.Prelude.{◌≡◌, ◌≤◌, length, map, IfOk, IfSome, option_map, Option, Some, None};
 ghost use Rattle.psu_map.specs.Map.{get};
-ghost use Rattle.psu_outputs.specs.Settings.{is_reset};
+ghost use Rattle.psu_settings.specs.Settings.{is_reset};
 ghost use Rattle.psu_nv.specs.Contents.{fresh};
 ghost use Rattle.psu_nv.specs.Commands.{settings_at};
 
@@ -10,7 +10,7 @@ use crate::macros::Macros;
 use crate::registers::Registers;
 use crate::{File, FileKind, Label, Register, UserData};
 use psu_map::Pair;
-use psu_outputs::Settings;
+use psu_settings::Settings;
 use psu_status::Enables;
 use std::alloc::{AllocError, Allocator};
 use std::marker::Model;

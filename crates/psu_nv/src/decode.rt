@@ -3,8 +3,8 @@ ghost use Rattle.std.specs.Prelude.{◌≡◌, ◌∷◌, [], ◌<◌, ◌≤◌
 ghost use Rattle.psu_nv.specs.declared.decode.DecodeFault.TheVariants.{Memory, BadValue};
 ghost use Rattle.std.specs.Option.{ForSome};
 ghost use Rattle.std.specs.List.{AllByRecursion};
-ghost use Rattle.psu_outputs.specs.declared.output_settings.OutputSettings.{OutputSettings as Each};
-ghost use Rattle.psu_outputs.specs.Settings.{AreSettings, reset};
+ghost use Rattle.psu_settings.specs.declared.output_settings.OutputSettings.{OutputSettings as Each};
+ghost use Rattle.psu_settings.specs.Settings.{AreSettings, reset};
 ghost use Rattle.psu_map.specs.Map.{get};
 ghost use Rattle.psu_nv.specs.Contents.{Macro, IsContents, contents_of, enables_items, register_items, user_items, macros_items, items_of, IsMacro, HasDistinct};
 ghost use Rattle.psu_nv.specs.Parts.{value_in};
@@ -20,7 +20,7 @@ use crate::written::{Written, WrittenMacros, macros_of};
 use crate::{Contents, REGISTERS, Register, UserData};
 use arrayvec::ArrayVec;
 use psu_map::Items;
-use psu_outputs::Settings;
+use psu_settings::Settings;
 use psu_status::Enables;
 use std::alloc::{AllocError, AllocFailed, Allocator};
 

@@ -8,7 +8,7 @@ ghost use Rattle.psu_nv.specs.Views.{part_of};
 
 use crate::{Contents, Part, REGISTERS, Register};
 use psu_map::{Batch, Items, Value};
-use psu_outputs::Settings;
+use psu_settings::Settings;
 use psu_status::Enables;
 use std::alloc::{AllocError, Allocator};
 

@@ -3,7 +3,7 @@ ghost use Rattle.std.specs.Prelude.{◌≡◌, Some, None, if◌then◌else◌};
 ghost use Rattle.psu_nv.specs.Views.{code_of, kind_of, kind_text, stored_kind};
 ghost use Rattle.psu_nv.specs.Commands.{is_state, settings_in};
 
-use psu_outputs::Settings;
+use psu_settings::Settings;
 
 /// A file: its type, and its bytes.
 #[derive(Clone, Copy)]

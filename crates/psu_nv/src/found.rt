@@ -5,7 +5,7 @@ ghost use Rattle.psu_nv.specs.Commands.{body_of, has_file, bytes_in, value_of, i
 
 use crate::Contents;
 use crate::file::state_in;
-use psu_outputs::Settings;
+use psu_settings::Settings;
 use std::alloc::Allocator;
 
 impl<A: Allocator + Copy> Contents<A> {

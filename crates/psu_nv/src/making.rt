@@ -8,7 +8,7 @@ ghost use Rattle.psu_nv.specs.Commands.{macro_of, without_label, without_mss, ke
 
 use crate::body::Body;
 use crate::{Contents, Label, Register, UserData};
-use psu_outputs::Settings;
+use psu_settings::Settings;
 use psu_status::Enables;
 use std::alloc::{AllocError, Allocator};
 

@@ -1,11 +1,11 @@
 //! The registers of contents.
 ghost use Rattle.std.specs.Prelude.{◌≡◌, ◌≤◌, replicate, slice_set, if◌then◌else◌};
-ghost use Rattle.psu_outputs.specs.Settings.{reset, is_reset};
+ghost use Rattle.psu_settings.specs.Settings.{reset, is_reset};
 ghost use Rattle.psu_nv.specs.Commands.{settings_at};
 ghost use Rattle.psu_nv.specs.Costs.{registers_cost};
 
 use crate::{REGISTERS, Register};
-use psu_outputs::Settings;
+use psu_settings::Settings;
 use std::marker::Model;
 
 // The settings of a hundred registers, whether each of them holds those of `*RST`, and the pages that they cost in all,
@@ -19,8 +19,8 @@ pub(crate) struct Registers {
 
 impl Model for Registers {
     ghost use Rattle.std.specs.Prelude.{List, ◌≡◌, length, map};
-    ghost use Rattle.psu_outputs.specs.Settings.{is_reset};
-    ghost use Rattle.psu_outputs.specs.declared.output_settings.OutputSettings.{OutputSettings};
+    ghost use Rattle.psu_settings.specs.Settings.{is_reset};
+    ghost use Rattle.psu_settings.specs.declared.output_settings.OutputSettings.{OutputSettings};
     ghost use Rattle.psu_nv.specs.Costs.{registers_cost};
 
     ghost Value = { List (List OutputSettings) };

@@ -2,7 +2,7 @@
 ghost use Rattle.std.specs.Prelude.{◌≡◌, ◌+◌, ◌-◌, ◌<◌, ◌≤◌, ◌^◌, List, ℕ, ◌++◌, ◌∷◌, [], length, None, true};
 ghost use Rattle.psu_map.specs.Map.{get, put, without, cost};
 ghost use Rattle.psu_nv.specs.Contents.{has_label, Macro};
-ghost use Rattle.psu_outputs.specs.Settings.{bytes_of};
+ghost use Rattle.psu_settings.specs.Settings.{bytes_of};
 ghost use Rattle.psu_nv.specs.Commands.{Move, macro_of, refused, settings_at, value_of, without_label};
 ghost use Rattle.psu_nv.specs.Costs.{macros_cost, macros_length, size_at, pages_of};
 

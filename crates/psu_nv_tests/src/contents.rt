@@ -3,7 +3,7 @@ use crate::holds::holds;
 use psu_lex::ScpiError;
 use psu_map::{Batch, Items};
 use psu_nv::{Contents, FileBytes, NvCommand, Part, Register};
-use psu_outputs::{Millivolts, Output, Setting, Settings};
+use psu_settings::{Millivolts, Output, Setting, Settings};
 use psu_tables::{bytes, row};
 use std::alloc::Global;
 use std::process::Abort;

@@ -1,6 +1,6 @@
-mod Bytes
-mod Four
+mod Blank
+mod Lists
 mod Ranges
-mod Resets
 mod Settled
-pub mod Apart
+mod Trips
+mod Written

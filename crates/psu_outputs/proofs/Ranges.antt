@@ -1,56 +1,27 @@
--- A change of settings keeps each of the four outputs within its ranges.
-use Rattle.std.proofs.Common.{◌≡◌, ℕ, zero, suc, ◌<◌, Bool, true, false, cond, List, [], ◌∷◌, length, get_or, refl, ◌∙◌, ap, arith}
-use Rattle.std.specs.Prelude.{◌&&◌, nat_le, slice_set}
-use Rattle.std.specs.List.{list_all}
-use Rattle.psu_outputs.specs.declared.output_settings.OutputSettings.{OutputSettings}
-use Rattle.psu_outputs.specs.declared.setting.Setting.{Setting}
-use Rattle.psu_outputs.specs.declared.setting.Setting.TheVariants.{Voltage, Current, ProtectionLevel, Protection, State}
+-- A change of an output keeps it within its ranges.
+use Rattle.std.proofs.Common.{◌≡◌, ◌≤◌, ℕ, Bool, true, false, cond}
+use Rattle.std.specs.Prelude.{nat_le}
+use Rattle.std.proofs.lemmas.Bool.{leb-true}
+use Rattle.psu_settings.specs.declared.output_settings.OutputSettings.{OutputSettings}
+use Rattle.psu_settings.specs.declared.setting.Setting.{Setting}
+use Rattle.psu_settings.specs.declared.setting.Setting.TheVariants.{State}
+use Rattle.psu_settings.specs.Settings.{is_allowed, is_in_range, with_setting}
+use Rattle.psu_settings.proofs.Ranges.{both, join, set_allowed}
 use Rattle.psu_outputs.specs.declared.supply.Supply.{Supply}
-use Rattle.psu_outputs.specs.Settings.{is_allowed, is_in_range, with_setting, trips}
+use Rattle.psu_outputs.specs.Measuring.{trips}
 use Rattle.psu_outputs.specs.Outputs.{is_sound, is_load, checked, with_load, with_settings}
-
-both : (a b : Bool) → (a && b) ≡ true → (a ≡ true) × (b ≡ true)
-both true b e = (refl, e)
-both false b e = absurd cc
-
-join : (a b : Bool) → a ≡ true → b ≡ true → (a && b) ≡ true
-join a b e f = ap (λ (x : Bool). x && b) e ∙ f
-
--- if all elements pass a test, so does the one at a place, and so do all after one is replaced by one that passes
-pub each_passes : {X : Type 0} (p : X → Bool) (xs : List X) (i : ℕ) (d : X) → list_all p xs ≡ true → i < length xs → p (get_or xs i d) ≡ true
-each_passes p [] i d e lt = absurd (omega arith)
-each_passes p (x ∷ xs) zero d e lt = (both (p x) (list_all p xs) e).0
-each_passes p (x ∷ xs) (suc i) d e lt = each_passes p xs i d (both (p x) (list_all p xs) e).1 (omega arith)
-
-pub all_pass : {X : Type 0} (p : X → Bool) (xs : List X) (i : ℕ) (y : X) → list_all p xs ≡ true → p y ≡ true → list_all p (slice_set xs i y) ≡ true
-all_pass p [] i y e f = refl
-all_pass p (x ∷ xs) zero y e f = join (p y) (list_all p xs) f (both (p x) (list_all p xs) e).1
-all_pass p (x ∷ xs) (suc i) y e f = let parts = both (p x) (list_all p xs) e in join (p x) (list_all p (slice_set xs i y)) parts.0 (all_pass p xs i y parts.1 f)
-
-pub set_allowed : (o : OutputSettings) (s : Setting) → is_allowed o ≡ true → is_in_range s ≡ true → is_allowed (with_setting o s) ≡ true
-set_allowed o (Voltage v) e f = let parts = both (nat_le o.voltage.0 60000) (nat_le o.current.0 5000 && nat_le o.level.0 60000) e in join (nat_le v.0 60000) (nat_le o.current.0 5000 && nat_le o.level.0 60000) f parts.1
-set_allowed o (Current i) e f =
-    let parts = both (nat_le o.voltage.0 60000) (nat_le o.current.0 5000 && nat_le o.level.0 60000) e in
-    let more = both (nat_le o.current.0 5000) (nat_le o.level.0 60000) parts.1 in
-    join (nat_le o.voltage.0 60000) (nat_le i.0 5000 && nat_le o.level.0 60000) parts.0 (join (nat_le i.0 5000) (nat_le o.level.0 60000) f more.1)
-set_allowed o (ProtectionLevel v) e f =
-    let parts = both (nat_le o.voltage.0 60000) (nat_le o.current.0 5000 && nat_le o.level.0 60000) e in
-    let more = both (nat_le o.current.0 5000) (nat_le o.level.0 60000) parts.1 in
-    join (nat_le o.voltage.0 60000) (nat_le o.current.0 5000 && nat_le v.0 60000) parts.0 (join (nat_le o.current.0 5000) (nat_le v.0 60000) more.0 f)
-set_allowed o (Protection on) e f = e
-set_allowed o (State on) e f = e
 
 checked_sound : (s : Supply) → is_sound s ≡ true → is_sound (checked s) ≡ true
 checked_sound s e = by (trips s.settings s.load.0)
   where
-    by : (b : Bool) → is_sound (cond b (record { settings = with_setting s.settings (State false); load = s.load; tripped = true }) s) ≡ true
+    by : (b : Bool) → is_sound (cond b (record s { settings = with_setting s.settings (State false); tripped = true }) s) ≡ true
     by true = e
     by false = e
 
 pub settings_sound : (s : Supply) (settings : OutputSettings) → is_sound s ≡ true → is_allowed settings ≡ true → is_sound (with_settings s settings) ≡ true
 settings_sound s settings e f =
     let parts = both (is_allowed s.settings) (is_load s.load.0) e in
-    checked_sound (record { settings = settings; load = s.load; tripped = s.tripped }) (join (is_allowed settings) (is_load s.load.0) f parts.1)
+    checked_sound (record s { settings = settings }) (join (is_allowed settings) (is_load s.load.0) f parts.1)
 
 -- one setting is changed within its range
 pub thing_sound : (s : Supply) (thing : Setting) → is_sound s ≡ true → is_in_range thing ≡ true → is_sound (with_settings s (with_setting s.settings thing)) ≡ true
@@ -59,4 +30,7 @@ thing_sound s thing e f = settings_sound s (with_setting s.settings thing) e (se
 pub load_sound : (s : Supply) (load : ℕ) → is_sound s ≡ true → is_load load ≡ true → is_sound (with_load s load) ≡ true
 load_sound s load e f =
     let parts = both (is_allowed s.settings) (is_load s.load.0) e in
-    checked_sound (record { settings = s.settings; load = record { 0 = load }; tripped = s.tripped }) (join (is_allowed s.settings) (is_load load) parts.0 f)
+    checked_sound (record s { load = record { 0 = load } }) (join (is_allowed s.settings) (is_load load) parts.0 f)
+
+pub some_load : (s : Supply) → is_sound s ≡ true → 1 ≤ s.load.0
+some_load s e = leb-true 1 s.load.0 (both (nat_le 1 s.load.0) (nat_le s.load.0 10000000) (both (is_allowed s.settings) (is_load s.load.0) e).1).0

@@ -2,20 +2,15 @@
 use Rattle.std.proofs.Common.{rules, ◌≡◌, ℕ, zero, suc, ◌<◌, Bool, true, false, cond, not, List, [], ◌∷◌, length, get_or, refl, sym, ◌∙◌, ap, arith}
 use Rattle.std.specs.Prelude.{◌&&◌, ◌||◌, nat_lt, slice_set}
 use Rattle.std.specs.List.{list_all}
-use Rattle.psu_outputs.specs.declared.output_settings.OutputSettings.{OutputSettings}
-use Rattle.psu_outputs.specs.declared.output.Output.{Output}
-use Rattle.psu_outputs.specs.declared.setting.Setting.{Setting}
-use Rattle.psu_outputs.specs.declared.setting.Setting.TheVariants.{State}
+use Rattle.psu_settings.specs.declared.output_settings.OutputSettings.{OutputSettings}
+use Rattle.psu_settings.specs.declared.output.Output.{Output}
+use Rattle.psu_settings.specs.declared.setting.Setting.{Setting}
+use Rattle.psu_settings.specs.declared.setting.Setting.TheVariants.{State}
+use Rattle.psu_settings.specs.Settings.{after_set, place_of, reset_output, with_setting}
+use Rattle.psu_settings.proofs.Ranges.{both, join}
 use Rattle.psu_outputs.specs.declared.supply.Supply.{Supply}
-use Rattle.psu_outputs.specs.Settings.{after_set, place_of, reset_output, with_setting, trips}
+use Rattle.psu_outputs.specs.Measuring.{trips}
 use Rattle.psu_outputs.specs.Outputs.{all_settings, any_conflicts, checked, conflicts, is_settled, with_all, with_load, with_settings, without_trip}
-
-both : (a b : Bool) → (a && b) ≡ true → (a ≡ true) × (b ≡ true)
-both true b e = (refl, e)
-both false b e = absurd cc
-
-join : (a b : Bool) → a ≡ true → b ≡ true → (a && b) ≡ true
-join a b e f = ap (λ (x : Bool). x && b) e ∙ f
 
 not_so : (a : Bool) → not a ≡ true → a ≡ false
 not_so true e = absurd cc
@@ -29,19 +24,19 @@ never_trips false level = refl
 pub settled_checked : (s : Supply) → (s.tripped && s.settings.on) ≡ false → is_settled (checked s) ≡ true
 settled_checked s e = by (trips s.settings s.load.0) refl
   where
-    by : (b : Bool) → trips s.settings s.load.0 ≡ b → is_settled (cond b (record { settings = with_setting s.settings (State false); load = s.load; tripped = true }) s) ≡ true
+    by : (b : Bool) → trips s.settings s.load.0 ≡ b → is_settled (cond b (record s { settings = with_setting s.settings (State false); tripped = true }) s) ≡ true
     by true t = ap (λ (x : Bool). not x && true) (never_trips s.settings.protection s.settings.level.0)
     by false t = ap (λ (x : Bool). not x && not (s.tripped && s.settings.on)) t ∙ ap not e
 
 pub settled_set : (s : Supply) (o : OutputSettings) → conflicts s o ≡ false → is_settled (with_settings s o) ≡ true
-settled_set s o e = settled_checked (record { settings = o; load = s.load; tripped = s.tripped }) e
+settled_set s o e = settled_checked (record s { settings = o }) e
 
 -- a tripped output that is settled is off
 pub off_while_tripped : (s : Supply) → is_settled s ≡ true → (s.tripped && s.settings.on) ≡ false
 off_while_tripped s e = not_so (s.tripped && s.settings.on) (both (not (trips s.settings s.load.0)) (not (s.tripped && s.settings.on)) e).1
 
 pub settled_load : (s : Supply) (load : ℕ) → is_settled s ≡ true → is_settled (with_load s load) ≡ true
-settled_load s load e = settled_checked (record { settings = s.settings; load = record { 0 = load }; tripped = s.tripped }) (off_while_tripped s e)
+settled_load s load e = settled_checked (record s { load = record { 0 = load } }) (off_while_tripped s e)
 
 pub settled_cleared : (s : Supply) → is_settled s ≡ true → is_settled (without_trip s) ≡ true
 settled_cleared s e = join (not (trips s.settings s.load.0)) true (both (not (trips s.settings s.load.0)) (not (s.tripped && s.settings.on)) e).0 refl
@@ -50,7 +45,7 @@ settled_cleared s e = join (not (trips s.settings s.load.0)) true (both (not (tr
 pub own_settings : (s : Supply) → is_settled s ≡ true → with_settings s s.settings ≡ s
 own_settings s e =
     let quiet = not_so (trips s.settings s.load.0) (both (not (trips s.settings s.load.0)) (not (s.tripped && s.settings.on)) e).0 in
-    ap (λ (b : Bool). cond b (record { settings = with_setting s.settings (State false); load = s.load; tripped = true }) s) quiet
+    ap (λ (b : Bool). cond b (record s { settings = with_setting s.settings (State false); tripped = true }) s) quiet
 
 all_as_they_are : (supplies : List Supply) → list_all is_settled supplies ≡ true → with_all supplies (all_settings supplies) ≡ supplies
 all_as_they_are [] e = refl

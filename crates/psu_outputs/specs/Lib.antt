@@ -1,2 +1,3 @@
+pub mod Measuring
 pub mod Outputs
-pub mod Settings
+pub mod Trips

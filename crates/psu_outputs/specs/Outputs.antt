@@ -2,11 +2,12 @@
 -- project's profile.
 use Rattle.std.specs.Prelude.{◌≡◌, ℕ, ◌+◌, ◌&&◌, ◌||◌, nat_le, not, Bool, true, false, if◌then◌else◌, List, [], ◌∷◌, length, map, slice_index_or, slice_set}
 use Rattle.std.specs.List.{list_any, list_all}
-use Rattle.psu_outputs.specs.declared.output.Output.{Output}
-use Rattle.psu_outputs.specs.declared.setting.Setting.TheVariants.{State}
-use Rattle.psu_outputs.specs.declared.output_settings.OutputSettings.{OutputSettings}
+use Rattle.psu_settings.specs.declared.output.Output.{Output}
+use Rattle.psu_settings.specs.declared.setting.Setting.TheVariants.{State}
+use Rattle.psu_settings.specs.declared.output_settings.OutputSettings.{OutputSettings}
 use Rattle.psu_outputs.specs.declared.supply.Supply.{Supply}
-use Rattle.psu_outputs.specs.Settings.{place_of, reset_output, is_allowed, with_setting, measured, trips}
+use Rattle.psu_settings.specs.Settings.{place_of, reset_output, is_allowed, with_setting}
+use Rattle.psu_outputs.specs.Measuring.{measured, trips}
 
 -- as at power-on: the settings of `*RST`, a load of 10 ohms, not tripped
 abbrev pub reset_supply : Supply
@@ -42,7 +43,7 @@ AreSettled supplies = list_all is_settled supplies ≡ true
 -- tripped.
 abbrev pub checked : Supply → Supply
 checked s =
-    if trips s.settings s.load.0 then record { settings = with_setting s.settings (State false); load = s.load; tripped = true }
+    if trips s.settings s.load.0 then record s { settings = with_setting s.settings (State false); tripped = true }
     else s
 
 -- a tripped output can't be switched on
@@ -55,7 +56,7 @@ any_conflicts (s ∷ supplies) [] = false
 any_conflicts (s ∷ supplies) (o ∷ outputs) = conflicts s o || any_conflicts supplies outputs
 
 abbrev pub with_settings : Supply → OutputSettings → Supply
-with_settings s settings = checked (record { settings = settings; load = s.load; tripped = s.tripped })
+with_settings s settings = checked (record s { settings = settings })
 
 -- each output with its settings
 abbrev pub with_all : List Supply → List OutputSettings → List Supply
@@ -64,11 +65,11 @@ with_all (s ∷ supplies) [] = []
 with_all (s ∷ supplies) (o ∷ outputs) = with_settings s o ∷ with_all supplies outputs
 
 abbrev pub with_load : Supply → ℕ → Supply
-with_load s load = checked (record { settings = s.settings; load = record { 0 = load }; tripped = s.tripped })
+with_load s load = checked (record s { load = record { 0 = load } })
 
 -- a trip is cleared, and the output stays off
 abbrev pub without_trip : Supply → Supply
-without_trip s = record { settings = s.settings; load = s.load; tripped = false }
+without_trip s = record s { tripped = false }
 
 -- each output with its settings, after all trips are cleared
 abbrev pub restored : List Supply → List OutputSettings → List Supply

@@ -1,21 +1,17 @@
 //! The four outputs: their settings, what is measured with a resistor at each, and the protection that trips.
 //!
-//! Settings are those of SCPI-1999 (volume 2, SOURce and OUTPut); the electrical rules are this project's profile.
+//! The settings stand in psu_settings. The electrical rules are this project's profile.
 #![tactic(auto)]
 
 mod laws;
-mod output;
-mod output_settings;
+mod measuring;
 mod outputs;
 mod quantities;
-mod setting;
-mod settings;
 mod supply;
 
-pub use laws::bytes_determine_settings;
-pub use output::Output;
-pub use output_settings::OutputSettings;
+pub use laws::{each_trip_has_its_cause, each_trip_is_once};
 pub use outputs::Outputs;
-pub use quantities::{Measured, Milliamperes, Milliohms, Millivolts};
-pub use setting::Setting;
-pub use settings::Settings;
+pub use psu_settings::{
+    Milliamperes, Millivolts, Output, OutputSettings, Setting, Settings, bytes_determine_settings,
+};
+pub use quantities::{Measured, Milliohms};

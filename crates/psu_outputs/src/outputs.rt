@@ -1,14 +1,16 @@
 //! The four outputs, with their loads and trips.
-ghost use Rattle.std.specs.Prelude.{◌≡◌, ◌⊎◌, OnOk, OnErr, IfErr, false, true, replicate, if◌then◌else◌};
+ghost use Rattle.std.specs.Prelude.{◌≡◌, ◌⊎◌, OnOk, OnErr, IfErr, false, true, map, replicate, if◌then◌else◌};
 ghost use Rattle.std.specs.List.{list_any};
 ghost use Rattle.psu_outputs.specs.declared.supply.Supply.{Supply as Each};
-ghost use Rattle.psu_outputs.specs.Settings.{after_set, is_in_range, measured};
-ghost use Rattle.psu_outputs.specs.Outputs.{reset_supply, supply_of, with_supply, all_settings, any_conflicts, with_all, with_load, without_trip, restored, is_load, is_in_limit, conditions};
+ghost use Rattle.psu_settings.specs.Settings.{after_set, is_in_range};
+ghost use Rattle.psu_outputs.specs.Measuring.{measured};
+ghost use Rattle.psu_outputs.specs.Outputs.{reset_supply, supply_of, with_supply, all_settings, any_conflicts, with_all, with_load, without_trip, restored, is_load, is_in_limit, AreSupplies, conditions};
 ghost use Rattle.psu_lex.specs.declared.scpi_error.ScpiError.TheVariants.{DataOutOfRange, SettingsConflict};
 
 use crate::supply::Supply;
-use crate::{Measured, Milliohms, Output, OutputSettings, Setting, Settings};
+use crate::{Measured, Milliohms};
 use psu_lex::ScpiError;
+use psu_settings::{Output, OutputSettings, Setting, Settings};
 use std::marker::Model;
 
 /// The four outputs: settings, loads and trips. No call allocates.
@@ -46,8 +48,11 @@ impl Outputs {
     pub fn get(&self) -> Settings
         ensures { result ≡ all_settings self.now }
     {
-        let [a, b, c, d] = self.supplies;
-        Settings::of_outputs([a.settings, b.settings, c.settings, d.settings])
+        let mut settings = [OutputSettings::RESET; 4];
+        for place in 0..4usize {
+            settings[place] = self.supplies[place].settings;
+        }
+        Settings::of_outputs(settings)
     }
 
     /// Changes all settings of the outputs; each output may then trip. Settings that switch a tripped output on are
@@ -56,17 +61,11 @@ impl Outputs {
         ensures set { OnOk result ((any_conflicts self.old settings ≡ false) × (self.new ≡ with_all self.old settings)) }
         ensures refused { IfErr result (λ error. (error ≡ SettingsConflict) × (any_conflicts self.old settings ≡ true) × (self.new ≡ self.old)) }
     {
-        let [a, b, c, d] = self.supplies;
-        let [p, q, r, s] = settings.outputs();
-        if a.conflicts(p) || b.conflicts(q) || c.conflicts(r) || d.conflicts(s) {
+        let settings = settings.outputs();
+        if self.conflicts(&settings) {
             return Err(ScpiError::SettingsConflict);
         }
-        self.supplies = [
-            a.with_settings(p),
-            b.with_settings(q),
-            c.with_settings(r),
-            d.with_settings(s),
-        ];
+        self.supplies = with_all(self.supplies, &settings);
         Ok(())
     }
 
@@ -98,9 +97,7 @@ impl Outputs {
     pub fn restore(&mut self, settings: Settings)
         ensures { self.new ≡ restored self.old settings }
     {
-        let [a, b, c, d] = self.supplies;
-        let [p, q, r, s] = settings.outputs();
-        self.supplies = [a.restored(p), b.restored(q), c.restored(r), d.restored(s)];
+        self.supplies = with_all(without_trips(self.supplies), &settings.outputs());
     }
 
     /// The settings of one output.
@@ -160,6 +157,18 @@ impl Outputs {
         bit(self.is_tripped(), 1) + bit(self.is_in_limit(), 2)
     }
 
+    // Whether the settings switch a tripped output on.
+    fn conflicts(&self, settings: &[OutputSettings; 4]) -> bool
+        ensures { result ≡ any_conflicts self.now settings.now }
+    {
+        for place in 0..4usize {
+            if self.supplies[place].conflicts(settings[place]) {
+                return true;
+            }
+        }
+        false
+    }
+
     // Whether an output is tripped.
     fn is_tripped(&self) -> bool
         ensures { result ≡ list_any (λ (s : Each). s.tripped) self.now }
@@ -178,6 +187,30 @@ impl Outputs {
         }
         false
     }
+}
+
+// Returns the outputs with other settings, which may trip them.
+fn with_all(supplies: [Supply; 4], settings: &[OutputSettings; 4]) -> [Supply; 4]
+    requires { AreSupplies supplies }
+    ensures { result ≡ with_all supplies settings.now }
+{
+    let mut supplies = supplies;
+    for place in 0..4usize {
+        supplies[place] = supplies[place].with_settings(settings[place]);
+    }
+    supplies
+}
+
+// Returns the outputs with their trips cleared.
+fn without_trips(supplies: [Supply; 4]) -> [Supply; 4]
+    requires { AreSupplies supplies }
+    ensures { result ≡ map without_trip supplies }
+{
+    let mut supplies = supplies;
+    for place in 0..4usize {
+        supplies[place].tripped = false;
+    }
+    supplies
 }
 
 // The value if `on`, else 0.

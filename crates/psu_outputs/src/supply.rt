@@ -1,9 +1,10 @@
 //! One output with its load and its trip.
 ghost use Rattle.std.specs.Prelude.{◌≡◌, ◌≤◌};
-ghost use Rattle.psu_outputs.specs.Settings.{measured};
-ghost use Rattle.psu_outputs.specs.Outputs.{checked, conflicts, with_load, with_settings, without_trip};
+ghost use Rattle.psu_outputs.specs.Measuring.{measured};
+ghost use Rattle.psu_outputs.specs.Outputs.{checked, conflicts, with_load, with_settings};
 
-use crate::{Measured, Milliohms, OutputSettings, Setting};
+use crate::{Measured, Milliohms};
+use psu_settings::{OutputSettings, Setting};
 
 /// One output: its settings, the load connected to it, and whether it is tripped.
 #[derive(Clone, Copy, Debug, PartialEq, Eq)]
@@ -26,7 +27,7 @@ impl Supply {
         requires { 1 ≤ self.now.load.0 }
         ensures { result ≡ measured self.now.settings self.now.load.0 }
     {
-        self.settings.measured(self.load)
+        Measured::of(self.settings, self.load)
     }
 
     // Returns the output tripped and off if its protection is on and the measured voltage is above the level, else
@@ -39,8 +40,8 @@ impl Supply {
         if self.settings.protection && measured.voltage.0 > self.settings.level.0 {
             Supply {
                 settings: self.settings.with(Setting::State(false)),
-                load: self.load,
                 tripped: true,
+                ..self
             }
         } else {
             self
@@ -60,18 +61,6 @@ impl Supply {
         ensures { result ≡ conflicts self.now settings }
     {
         self.tripped && settings.on
-    }
-
-    /// Returns the output with other settings and its trip cleared; the settings may trip it again.
-    pub(crate) fn restored(self, settings: OutputSettings) -> Supply
-        requires { 1 ≤ self.load.0 }
-        ensures { result ≡ with_settings (without_trip self) settings }
-    {
-        Supply {
-            tripped: false,
-            ..self
-        }
-        .with_settings(settings)
     }
 
     /// Returns the output with other settings, which may trip it.

@@ -16,7 +16,7 @@ use Rattle.psu_tree.specs.declared.text.Choice.TheVariants.{Amount}
 use Rattle.psu_tree.specs.declared.command.Command.{Command}
 use Rattle.psu_tree.specs.declared.form.Form.{Form}
 use Rattle.psu_tree.specs.declared.form.Form.TheVariants as f
-use Rattle.psu_outputs.specs.declared.output.Output.{Output}
+use Rattle.psu_settings.specs.declared.output.Output.{Output}
 
 -- the laws of psu_lex
 pub record Lawful : Type 0 where

@@ -15,7 +15,7 @@ use Rattle.psu_tree.specs.declared.command.Command.TheVariants as c
 use Rattle.psu_tree.specs.declared.values.Flag.TheVariants.{UserDataProtection, Recall}
 use Rattle.psu_tree.specs.declared.form.Form.{Form}
 use Rattle.psu_tree.specs.declared.form.Form.TheVariants as f
-use Rattle.psu_outputs.specs.declared.output.Output.{Output}
+use Rattle.psu_settings.specs.declared.output.Output.{Output}
 use Rattle.psu_tree.proofs.SomeTaken.{some_whole, some_switch, some_amount, some_word, some_string, some_block}
 
 -- each is a datum when some text follows it

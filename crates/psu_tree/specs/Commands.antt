@@ -12,7 +12,7 @@ use Rattle.psu_tree.specs.declared.form.Form.{Form}
 use Rattle.psu_tree.specs.declared.form.Form.TheVariants as f
 use Rattle.psu_tree.specs.declared.values.Level.{Level}
 use Rattle.psu_tree.specs.declared.values.Level.TheVariants as level
-use Rattle.psu_outputs.specs.declared.output.Output.{Output}
+use Rattle.psu_settings.specs.declared.output.Output.{Output}
 
 -- no parameter
 abbrev pub alone : Command → List Datum → Result Command ScpiError

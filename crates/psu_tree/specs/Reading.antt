@@ -15,8 +15,8 @@ use Rattle.psu_tree.specs.Table.{table}
 use Rattle.psu_tree.specs.declared.command.Command.{Command}
 use Rattle.psu_tree.specs.declared.form.Form.{Form}
 use Rattle.psu_tree.specs.declared.command.MacroCall as rust_call
-use Rattle.psu_outputs.specs.declared.output.Output.{Output}
-use Rattle.psu_outputs.specs.declared.output.Output.TheVariants.{First, Second, Third, Fourth}
+use Rattle.psu_settings.specs.declared.output.Output.{Output}
+use Rattle.psu_settings.specs.declared.output.Output.TheVariants.{First, Second, Third, Fourth}
 
 -- ---- numeric suffixes
 

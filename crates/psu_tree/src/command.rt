@@ -7,7 +7,7 @@ use crate::{
     Switch, Text, Transfer,
 };
 use psu_lex::{Data, ScpiError};
-use psu_outputs::Output;
+use psu_settings::Output;
 use psu_status::{Filter, Group};
 
 /// A parsed command with its values. It borrows its texts from the message.

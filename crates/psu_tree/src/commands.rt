@@ -4,7 +4,7 @@ ghost use Rattle.psu_lex.specs.Shown.{HoldsData};
 ghost use Rattle.psu_lex.specs.Syntax.{Datum as DatumData};
 ghost use Rattle.psu_tree.specs.Commands.{CommandReads};
 ghost use Rattle.psu_tree.specs.declared.form.Form.TheVariants as f;
-ghost use Rattle.psu_outputs.specs.declared.output.Output.{Output as SomeOutput};
+ghost use Rattle.psu_settings.specs.declared.output.Output.{Output as SomeOutput};
 
 use crate::counts::alone;
 use crate::double::{label_and_body, label_and_name, name_and_bytes, register_and_name, two_names};
@@ -17,7 +17,7 @@ use crate::{
     Command, Enable, Flag, Form, Level, OnFile, OnMacro, OnNames, OnRegister, Switch, Transfer,
 };
 use psu_lex::{Data, FILE_MOST, ScpiError, USER_DATA_MOST};
-use psu_outputs::Output;
+use psu_settings::Output;
 use psu_status::{Filter, Group};
 
 // Parses an enable register command: the value of the register.

@@ -11,7 +11,7 @@ ghost use Rattle.psu_tree.specs.Taken.{Gives};
 use crate::walks::is_same;
 use crate::{Choice, Extreme, Level, Text};
 use psu_lex::{Datum, DatumClass, ScpiError, Written, number};
-use psu_outputs::{Milliamperes, Millivolts};
+use psu_settings::{Milliamperes, Millivolts};
 
 // Whether the text is this word, ignoring case.
 fn is_word(text: &[u8], word: &[u8]) -> bool

@@ -14,7 +14,7 @@ use crate::words::{Words, add_words};
 use crate::{Command, Form, MacroCall, Path, Request};
 use arrayvec::ArrayVec;
 use psu_lex::{Data, HeaderMark, ScpiError, Syntax, Unit, UnitHeader, is_label, syntax};
-use psu_outputs::Output;
+use psu_settings::Output;
 use std::mem;
 
 // Returns a form and the output of its header, or the error of the header.

@@ -5,7 +5,7 @@ ghost use Rattle.psu_tree.specs.Reading.{output_at, output_of, suffix_of};
 
 use crate::walks::number_of;
 use psu_lex::ScpiError;
-use psu_outputs::Output;
+use psu_settings::Output;
 
 // Returns the output of a number.
 fn output_at(number: usize) -> Result<Output, ScpiError>

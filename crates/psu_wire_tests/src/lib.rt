@@ -31,6 +31,8 @@ mod readings;
 #[cfg(test)]
 mod sessions;
 #[cfg(test)]
+mod settings;
+#[cfg(test)]
 mod status;
 #[cfg(test)]
 mod streams;

@@ -3,7 +3,7 @@
 use crate::holds::holds;
 use crate::tree::{read, read_units};
 use psu_lex::{ScpiError, Units};
-use psu_outputs::Output;
+use psu_settings::Output;
 use psu_tables::bracketed;
 use psu_tree::{Command, Enable, Flag, Level, Path, Query, Switch, request};
 

@@ -1,7 +1,7 @@
 use Rattle.std.proofs.Common.{arith, sym, ◌∙◌, ap, length, List, subst}
 use Rattle.std.specs.List.{AllByRecursion}
-use Rattle.psu_outputs.specs.Settings.{AreSettings}
-use Rattle.psu_outputs.specs.declared.output_settings.OutputSettings.{OutputSettings}
+use Rattle.psu_settings.specs.Settings.{AreSettings}
+use Rattle.psu_settings.specs.declared.output_settings.OutputSettings.{OutputSettings}
 use Rattle.psu_nv.proofs.Kept.{each_reset, kept_part, kept_register, at_error}
 use Rattle.psu_nv.specs.Parts.{Register}
 use Rattle.psu_nv.specs.Decoding.{RepresentsContents}

@@ -1,6 +1,6 @@
 use Rattle.std.proofs.Common.{◌≡◌, ◌<◌, ℕ, ◌∷◌, [], length, slice_index_or}
 use Rattle.std.specs.List.{AllByRecursion}
-use Rattle.psu_outputs.specs.Settings.{AreSettings, reset}
+use Rattle.psu_settings.specs.Settings.{AreSettings, reset}
 use Rattle.psu_map.specs.Map.{get}
 use Rattle.psu_nv.specs.Contents.{register_items}
 use Rattle.psu_nv.specs.Parts.{value_in}

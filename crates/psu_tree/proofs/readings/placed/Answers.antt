@@ -4,7 +4,7 @@ use Rattle.psu_lex.specs.declared.scpi_error.ScpiError.{ScpiError}
 use Rattle.psu_tree.specs.Headers.{form_for}
 use Rattle.psu_tree.specs.Reading.{placed}
 use Rattle.psu_tree.specs.Table.{table}
-use Rattle.psu_outputs.specs.declared.output.Output.{Output}
+use Rattle.psu_settings.specs.declared.output.Output.{Output}
 use Rattle.psu_tree.specs.declared.form.Form.{Form}
 use Rattle.psu_tree.proofs.readings.placed.Goals as goal
 

@@ -1,5 +1,5 @@
 use Rattle.std.proofs.Common.{◌≡◌, ◌<◌, ◌≤◌, ◌-◌, ℕ, true, false}
-use Rattle.psu_outputs.specs.Settings.{is_reset}
+use Rattle.psu_settings.specs.Settings.{is_reset}
 use Rattle.psu_nv.specs.Commands.{settings_at}
 use Rattle.psu_nv.specs.Parts.{Register}
 use Rattle.psu_exec.specs.Changed.{is_changed}

@@ -1,6 +1,6 @@
 use Rattle.std.proofs.Common.{◌<◌, ◌∙◌, ◌++◌, List, sym, ap, length, arith}
 use Rattle.std.proofs.lemmas.List.{append-nil, take_all}
-use Rattle.psu_outputs.specs.declared.output_settings.OutputSettings.{OutputSettings}
+use Rattle.psu_settings.specs.declared.output_settings.OutputSettings.{OutputSettings}
 use Rattle.psu_nv.specs.Contents.{Contents, enables_items, registers_items}
 use Rattle.psu_nv.proofs.Encoding.{before_register, next_register}
 use Rattle.psu_nv.proofs.contents.Contents.append_registers.Goals as goal

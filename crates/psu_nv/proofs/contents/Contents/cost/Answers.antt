@@ -1,6 +1,6 @@
 use Rattle.std.proofs.Common.{◌∙◌, ap, subst}
 use Rattle.std.specs.List.{AllByRecursion}
-use Rattle.psu_outputs.specs.Settings.{AreSettings}
+use Rattle.psu_settings.specs.Settings.{AreSettings}
 use Rattle.psu_map.specs.Map.{cost}
 use Rattle.psu_nv.specs.Contents.{Contents, enables_items, user_items, recall_items}
 use Rattle.psu_nv.specs.Costs.{registers_cost}

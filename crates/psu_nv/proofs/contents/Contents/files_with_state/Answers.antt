@@ -1,6 +1,6 @@
 use Rattle.std.proofs.Common.{◌≡◌, ◌<◌, ap, subst, ◌∷◌, length, get_or, arith}
 use Rattle.std.specs.List.{AllByRecursion}
-use Rattle.psu_outputs.specs.Settings.{AreSettings, reset, bytes_of}
+use Rattle.psu_settings.specs.Settings.{AreSettings, reset, bytes_of}
 use Rattle.psu_nv.specs.Contents.{Contents}
 use Rattle.psu_nv.proofs.Finding.{all_at}
 use Rattle.psu_nv.proofs.Totals.{twenty_eight}

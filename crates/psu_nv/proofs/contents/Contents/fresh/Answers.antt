@@ -1,8 +1,8 @@
 use Rattle.std.proofs.Common.{ℕ, List, length, sym, ap, subst, arith}
 use Rattle.std.specs.List.{AllByRecursion}
 use Rattle.psu_map.specs.Map.{IsSorted}
-use Rattle.psu_outputs.specs.declared.output_settings.OutputSettings.{OutputSettings}
-use Rattle.psu_outputs.specs.Settings.{AreSettings}
+use Rattle.psu_settings.specs.declared.output_settings.OutputSettings.{OutputSettings}
+use Rattle.psu_settings.specs.Settings.{AreSettings}
 use Rattle.psu_nv.specs.Contents.{Macro, IsMacro, HasDistinct, IsFile}
 use Rattle.psu_nv.proofs.Kept.{each_reset}
 use Rattle.psu_nv.proofs.contents.Contents.fresh.Goals as goal

@@ -1,6 +1,6 @@
 use Rattle.std.proofs.Common.{◌∙◌, ap, arith, false, slice_index_or}
 use Rattle.std.proofs.lemmas.List.{get_or-map}
-use Rattle.psu_outputs.specs.Settings.{is_reset, reset}
+use Rattle.psu_settings.specs.Settings.{is_reset, reset}
 use Rattle.psu_nv.proofs.registers.Registers.is_reset.Goals as goal
 
 pub returns : goal.returns

@@ -1,6 +1,6 @@
 use Rattle.std.proofs.Common.{◌∙◌, length-set}
 use Rattle.std.proofs.lemmas.List.{map-set}
-use Rattle.psu_outputs.specs.Settings.{is_reset}
+use Rattle.psu_settings.specs.Settings.{is_reset}
 use Rattle.psu_nv.proofs.registers.Registers.set.Goals as goal
 
 pub invariant_of-self : goal.invariant_of-self

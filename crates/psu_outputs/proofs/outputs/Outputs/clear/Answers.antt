@@ -1,7 +1,7 @@
 use Rattle.std.proofs.Common.{◌≡◌, ◌<◌, ◌∙◌, length, get_or, arith, length-set}
 use Rattle.psu_outputs.specs.declared.supply.Supply.{Supply}
 use Rattle.psu_outputs.specs.Outputs.{is_settled, is_sound}
-use Rattle.psu_outputs.proofs.Ranges.{each_passes, all_pass}
+use Rattle.psu_settings.proofs.Ranges.{each_passes, all_pass}
 use Rattle.psu_outputs.proofs.Settled.{settled_cleared}
 use Rattle.psu_outputs.proofs.outputs.Outputs.clear.Goals as goal
 

@@ -1,34 +1,21 @@
-use Rattle.std.proofs.Common.{◌≡◌, ◌∙◌, ℕ, Bool, true, false, get_or, refl, ap, arith}
-use Rattle.std.specs.Prelude.{◌&&◌}
-use Rattle.psu_outputs.specs.declared.supply.Supply.{Supply}
-use Rattle.psu_outputs.specs.declared.output_settings.OutputSettings.{OutputSettings}
-use Rattle.psu_outputs.proofs.Four.{sound_restored, all_restored}
-use Rattle.psu_outputs.specs.Outputs.{without_trip}
-use Rattle.psu_outputs.proofs.Settled.{settled_set}
+use Rattle.std.proofs.Common.{◌≡◌, length, map, sym, ◌∙◌, ap, subst}
+use Rattle.std.proofs.lemmas.List.{length-map}
+use Rattle.psu_outputs.specs.Outputs.{AreSettled, AreSupplies, with_all, without_trip}
+use Rattle.psu_outputs.proofs.Lists.{all_settled, all_sound, free_once_cleared, length_set, sound_once_cleared}
 use Rattle.psu_outputs.proofs.outputs.Outputs.restore.Goals as goal
 
-abbrev blank_output : OutputSettings
-blank_output = record { voltage = record { 0 = 0 }; current = record { 0 = 0 }; level = record { 0 = 0 }; protection = false; on = false }
-
-abbrev blank : Supply
-blank = record { settings = blank_output; load = record { 0 = 0 }; tripped = false }
-
-and_four : (a b c d : Bool) → a ≡ true → b ≡ true → c ≡ true → d ≡ true → (a && (b && (c && (d && true)))) ≡ true
-and_four a b c d ea eb ec ed = ap (λ (x : Bool). x && (b && (c && (d && true)))) ea ∙ ap (λ (x : Bool). x && (c && (d && true))) eb ∙ ap (λ (x : Bool). x && (d && true)) ec ∙ ap (λ (x : Bool). x && true) ed
+pub with_all-self-inside-requires : goal.with_all-self-inside-requires
+with_all-self-inside-requires c =
+    let supplies = c.self.inside.supplies in
+    subst AreSupplies (sym c.without_trips.ensures) (length-map supplies without_trip ∙ c.self.invariant.0.0, sound_once_cleared supplies c.self.invariant.0.1)
 
 pub invariant_of-self : goal.invariant_of-self
 invariant_of-self c =
-    let sound = sound_restored c.self.inside.supplies c.outputs.result blank blank_output c.self.invariant.0 c.outputs.ensures.allowed in
-    let given = c.outputs.result in
     let supplies = c.self.inside.supplies in
-    let settled = λ (k : ℕ). settled_set (without_trip (get_or supplies k blank)) (get_or given k blank_output) refl in (
-      (refl, rw (c.restored.ensures, c.restored-2.ensures, c.restored-3.ensures, c.restored-4.ensures) (and_four _ _ _ _ (sound 0 (omega arith)) (sound 1 (omega arith)) (sound 2 (omega arith)) (sound 3 (omega arith)))),
-      rw (c.restored.ensures, c.restored-2.ensures, c.restored-3.ensures, c.restored-4.ensures) (and_four _ _ _ _ (settled 0) (settled 1) (settled 2) (settled 3)),
+    let cleared = map without_trip supplies in
+    let settings = c.outputs.result in
+    let made : with_all cleared settings ≡ c.with_all-self-inside.result = sym (c.with_all-self-inside.ensures ∙ ap (λ l. with_all l settings) c.without_trips.ensures) in
+    let four : length cleared ≡ 4 = length-map supplies without_trip ∙ c.self.invariant.0.0 in (
+      subst AreSupplies made (length_set cleared settings (four ∙ sym c.outputs.ensures.allowed.0) ∙ four, all_sound cleared settings (sound_once_cleared supplies c.self.invariant.0.1) c.outputs.ensures.allowed.1),
+      subst AreSettled made (all_settled cleared settings (free_once_cleared supplies settings)),
     )
-
-pub returns : goal.returns
-returns c =
-    let set = all_restored c.self.inside.supplies c.outputs.result blank blank_output c.self.invariant.0 c.outputs.ensures.allowed in
-    let given : c.outputs.result ≡ c.args.settings = c.outputs.ensures.value in
-    let was : c.self.inside.supplies ≡ c.args.self.now = c.self.view_is in
-    rw (c.restored.ensures, c.restored-2.ensures, c.restored-3.ensures, c.restored-4.ensures, ← was, ← given) set

@@ -1,13 +1,12 @@
 use Rattle.std.proofs.Common.{rules, ◌≡◌, inr, ◌<◌, ◌∙◌, true, false, length, get_or, refl, sym, ap, arith, length-set, set}
 use Rattle.psu_outputs.specs.declared.supply.Supply.{Supply}
-use Rattle.psu_outputs.specs.Settings.{is_in_range}
+use Rattle.psu_settings.specs.Settings.{is_in_range}
 use Rattle.psu_outputs.specs.Outputs.{conflicts, is_settled, is_sound, with_settings}
-use Rattle.psu_outputs.proofs.Ranges.{each_passes, all_pass, thing_sound}
+use Rattle.psu_outputs.proofs.Blank.{blank}
+use Rattle.psu_settings.proofs.Ranges.{each_passes, all_pass}
+use Rattle.psu_outputs.proofs.Ranges.{thing_sound}
 use Rattle.psu_outputs.proofs.Settled.{settled_set, thing_conflicts, thing_set}
 use Rattle.psu_outputs.proofs.outputs.Outputs.set_one.Goals as goal
-
-abbrev blank : Supply
-blank = record { settings = record { voltage = record { 0 = 0 }; current = record { 0 = 0 }; level = record { 0 = 0 }; protection = false; on = false }; load = record { 0 = 0 }; tripped = false }
 
 pub returns-then-conflicts-clause-refused : goal.returns-then-conflicts-clause-refused
 returns-then-conflicts-clause-refused c =

@@ -1,5 +1,0 @@
-use Rattle.psu_outputs.proofs.Apart.{same_settings}
-use Rattle.psu_outputs.proofs.laws.bytes_determine_settings.Goals as goal
-
-pub returns : goal.returns
-returns c = same_settings
