@@ -1,3 +1,1 @@
 pub mod Seats
-pub mod Lives
-pub mod Threads

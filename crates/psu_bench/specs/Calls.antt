@@ -3,7 +3,7 @@ use Rattle.std.specs.Prelude.{Option, Some, None, ⊤}
 use Rattle.psu_disk.specs.Disk.{DiskState}
 use Rattle.psu_exec.specs.Device.{State, target}
 use Rattle.psu_exec.specs.Calls.{Entry, JobEnd, Allows}
-use Rattle.psu_exec.specs.World.{IsTrueOf, accepted_end}
+use Rattle.psu_exec.specs.AcceptedEnd.{IsTrueOf, accepted_end}
 
 -- if an end is accepted, it is true of some disk
 abbrev pub EndHasDisk : State → Option JobEnd → Type 0

@@ -7,5 +7,3 @@ pub mod Lines
 pub mod PowerOn
 pub mod Reports
 pub mod Tries
-pub mod Lives
-pub mod Threads

@@ -9,13 +9,13 @@ use Rattle.psu_nv.proofs.Determining.{same_contents}
 use Rattle.psu_nv.specs.Contents.{items_of}
 use Rattle.psu_exec.specs.Calls.{Entry}
 use Rattle.psu_exec.specs.Device.{State, power_on}
-use Rattle.psu_exec.specs.World.{after}
+use Rattle.psu_power_loss.specs.World.{after}
 use Rattle.psu_turn.specs.History.{HistoryLeads}
 use Rattle.psu_turn.specs.Seats.{Sight, Begins}
 use Rattle.psu_turn.specs.declared.numbered.Numbered.{Numbered}
 use Rattle.psu_bench.specs.Calls.{AllowsOn}
 use Rattle.psu_bench.specs.PowerOn.{BeginsWith}
-use Rattle.psu_bench.specs.Threads.{DisksLeavePrefix, RoundsHaveSteps}
+use Rattle.psu_bench_power_loss.specs.Threads.{DisksLeavePrefix, RoundsHaveSteps}
 use Rattle.psu_durability.specs.Served.{PowersOnAfterRounds, PowersOnAgain}
 
 module _ {D : Type 0} (G : Ghosts D) (leaves : DisksLeavePrefix D Global G) where

@@ -7,8 +7,8 @@ use Rattle.psu_map.specs.Map.{Item}
 use Rattle.psu_items.specs.Image.{Represents}
 use Rattle.psu_items.specs.Standing.{MapOn}
 use Rattle.psu_nv.specs.Contents.{items_of}
-use Rattle.psu_exec.specs.Headline.{IsPrefix}
-use Rattle.psu_exec.specs.World.{World, after}
+use Rattle.psu_power_loss.specs.Headline.{IsPrefix}
+use Rattle.psu_power_loss.specs.World.{World, after}
 use Rattle.psu_run.specs.Output.{Written}
 use Rattle.psu_run.specs.Points.{RunPoint}
 use Rattle.psu_run.specs.Results.{WritesTo}

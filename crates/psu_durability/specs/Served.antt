@@ -5,14 +5,14 @@ use Rattle.psu_disk.specs.Disk.{DiskState}
 use Rattle.psu_disk.specs.declared.disk.Disk.{Ghosts}
 use Rattle.psu_exec.specs.Calls.{Entry}
 use Rattle.psu_exec.specs.Device.{State, power_on}
-use Rattle.psu_exec.specs.Headline.{IsPrefix}
-use Rattle.psu_exec.specs.World.{World, IsStart, after}
+use Rattle.psu_power_loss.specs.Headline.{IsPrefix}
+use Rattle.psu_power_loss.specs.World.{World, IsStart, after}
 use Rattle.psu_turn.specs.History.{HistoryLeads}
 use Rattle.psu_turn.specs.Seats.{Sight, Begins}
 use Rattle.psu_turn.specs.declared.numbered.Numbered.{Numbered}
 use Rattle.psu_bench.specs.Calls.{AllowsOn}
-use Rattle.psu_bench.specs.Lives.{Lives, calls_in}
-use Rattle.psu_bench.specs.Threads.{AreOfRounds, HasSteps, HaveDisks, IsPossibleAfter, ThreadStep, shown}
+use Rattle.psu_bench_power_loss.specs.Lives.{Lives, calls_in}
+use Rattle.psu_bench_power_loss.specs.Threads.{AreOfRounds, HasSteps, HaveDisks, IsPossibleAfter, ThreadStep, shown}
 use Rattle.psu_durability.specs.Premise.{KeepsModel}
 
 -- Since a power-on in world w threads have made these steps. The device powers on with the contents after a prefix of the

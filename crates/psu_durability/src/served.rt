@@ -2,7 +2,8 @@
 ghost use Rattle.std.specs.Prelude.{IfOk};
 ghost use Rattle.psu_durability.specs.Served.{PowersOnAfterRounds, PowersOnAgain};
 
-use psu_bench::{Access, Gate, Served, power_on, threads_are_events};
+use psu_bench::{Access, Gate, Served, power_on};
+use psu_bench_power_loss::threads_are_events;
 use psu_disk::{Disk, FileDisk};
 use psu_exec::StartFault;
 use std::alloc::Global;

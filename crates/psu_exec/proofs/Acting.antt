@@ -1,5 +1,5 @@
 -- The effect of a command, as the step of its unit.
-use Rattle.std.proofs.Common.{◌≡◌, ◌⊎◌, inl, inr, ℕ, Bool, true, false, Some, None, Ok, Err, List, refl, sym, ap, subst, ◌∙◌}
+use Rattle.std.proofs.Common.{◌≡◌, ◌⊎◌, inl, inr, ℕ, Bool, true, false, ◌&&◌, ◌||◌, Some, is_some, None, Ok, Err, List, refl, sym, ap, subst, ◌∙◌}
 use Rattle.psu_lex.specs.declared.scpi_error.ScpiError.{ScpiError}
 use Rattle.psu_lex.specs.declared.scpi_error.ScpiError.TheVariants.{MediaFull, OutOfMemory}
 use Rattle.psu_nv.specs.Commands as nv
@@ -12,7 +12,7 @@ use Rattle.psu_instrument.specs.Instrument.{Instrument}
 use Rattle.psu_instrument.specs.Meaning.{ActsAs, Meaning, Refuses, Does, Keeps, Completes}
 use Rattle.psu_instrument.specs.declared.act.Act.TheVariants as act
 use Rattle.psu_instrument.specs.declared.act.Completion.{Completion}
-use Rattle.psu_exec.specs.Device.{Reply, Answer, Done, Error, Held, Later, State, Flush, MayMean, MayRun, RunGives, Step, LockedOut, TooEarly, Runs, after_meant, followed, here, is_denied, is_later, is_whole, kept_unless, meant, refused, NeedsMemory, with_instrument}
+use Rattle.psu_exec.specs.Device.{Reply, Answer, Done, Error, Held, Later, State, Flush, MayMean, MayRun, RunGives, Step, LockedOut, TooEarly, Runs, after_meant, followed, here, is_denied, is_full, is_late, is_later, is_whole, kept_unless, meant, refused, NeedsMemory, wait_of, with_instrument}
 use Rattle.psu_exec.specs.Consistent.{IsConsistent}
 use Rattle.psu_exec.proofs.RqsUpdates.{followed_same}
 use Rattle.psu_exec.proofs.Changes.{sound_after}
@@ -100,3 +100,10 @@ not_made f change e found whole (inl m) takes = inr (ap Error m.0, subst (NeedsM
 not_made f change e found whole (inr m) takes = inl (ap Error m.0 ∙ sym (answers false m.1)) where
   answers : (b : Bool) → fits f.limit (nv.apply f.contents change) ≡ b → kept_unless (nv.refused f.contents change) (is_whole f.store) (fits f.limit (nv.apply f.contents change)) ≡ kept_unless None true b
   answers b fit = rw (found, whole, fit) refl
+
+-- where a change is not late, no flush has to make room for it
+pub not_full : (f : Flush) (session : ℕ) → is_late f session true ≡ false → is_full f ≡ false
+not_full f session h = at (is_some (wait_of f session)) (is_full f) h where
+  at : (waits full : Bool) → (waits || (full && true)) ≡ false → full ≡ false
+  at false false e = refl
+  at other another e = cc

@@ -1,22 +1,8 @@
--- Calls for sessions that aren't open: the history and the disk are unchanged after one, and a call is none if its session
--- is open, or if it is for no session.
+-- A call is none for a session that isn't open if its session is open, or if it is for no session.
 use Rattle.std.proofs.Common.{◌≡◌, inl, inr, ℕ, true, List, Option, Some, refl, sym, ◌∙◌}
-use Rattle.psu_disk.specs.Disk.{DiskState}
 use Rattle.psu_tree.specs.declared.command.Request.{Request}
 use Rattle.psu_exec.specs.Device.{Reply, State, is_open}
 use Rattle.psu_exec.specs.Calls.{Allows, Entry, IsIgnored, JobEnd, Serves, Taken}
-use Rattle.psu_exec.specs.World.{DiskAfter, PastUnit, World, recorded}
-
-pub ignored_recorded : (s : State) (c : Entry) (us : List PastUnit) → IsIgnored s c → recorded s c us ≡ us
-ignored_recorded s (Entry.Executed session request reply) us none = rw none.1 refl
-ignored_recorded s (Entry.Settled session reply) us none = rw none.1 refl
-ignored_recorded s (Entry.Closed session granted) us none = rw none.0 refl
-ignored_recorded s (Entry.Cleared session) us none = rw none refl
-ignored_recorded s other us none = refl
-
-pub ignored_disk : (w : World) (c : Entry) (d : DiskState) → IsIgnored w.state c → DiskAfter w c d → d ≡ w.disk
-ignored_disk w (Entry.GaveBack finished (Some over)) d none e = absurd none
-ignored_disk w other d none e = e
 
 pub serves_executed : (s new : State) (session : ℕ) (request : Request) (reply : Reply) → is_open s session ≡ true → Allows s (Entry.Executed session request reply) new → Serves s (Entry.Executed session request reply) new
 serves_executed s new session request reply here (inl a) = a

@@ -5,7 +5,7 @@ use Rattle.psu_exec.specs.Device.{place_of, State, is_open}
 use Rattle.psu_exec.specs.Calls.{Opened, Serves, free_from, with_session, least_free}
 use Rattle.psu_exec.specs.ServiceStates.{opened_service_state}
 use Rattle.psu_exec.proofs.Ignored.{serves_opened}
-use Rattle.psu_exec.specs.Headline.{OpensLeast, OpensTheLeast, PlacesAreApart}
+use Rattle.psu_exec.specs.Opening.{OpensLeast, OpensTheLeast, PlacesAreApart}
 
 -- a place that is free: its number, and what is before it
 record Free (n : ℕ) (list : List Bool) (session : ℕ) : Type 0 where

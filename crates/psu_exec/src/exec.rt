@@ -3,7 +3,7 @@ ghost use Rattle.std.specs.Prelude.{◌≡◌, ◌==◌, [], IfOk, IfErr, Some, 
 ghost use Rattle.psu_nv.specs.Contents.{Contents as Kept, items_of, IsContents, fits};
 ghost use Rattle.psu_exec.specs.Consistent.{IsConsistent};
 ghost use Rattle.psu_exec.specs.Device.{State, followed, is_open, power_on, with_device};
-ghost use Rattle.psu_exec.specs.Headline.{AreBad};
+ghost use Rattle.psu_exec.specs.Starts.{AreBad};
 ghost use Rattle.psu_exec.specs.ServiceStates.{enabled_of};
 ghost use Rattle.psu_exec.specs.Shown.{cause_of};
 ghost use Rattle.psu_locks.specs.Locks.{no_locks};

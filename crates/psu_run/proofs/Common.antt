@@ -10,7 +10,7 @@ pub use Rattle.psu_exec.specs.Device.{Answer, Expand, Flush, Later, MayAnswer, P
 pub use Rattle.psu_exec.specs.Exec.{Exec}
 pub use Rattle.psu_exec.specs.Jobs.{finished_disk, finished_of, idle_disk, job_data, job_disk, job_store}
 pub use Rattle.psu_exec.specs.Shown.{outcome_of}
-pub use Rattle.psu_exec.specs.World.{DiskAfter, Running, World, after, recorded, without_power}
+pub use Rattle.psu_power_loss.specs.World.{DiskAfter, Running, World, after, recorded, without_power}
 pub use Rattle.psu_exec.specs.declared.idle_store.Condition.TheVariants.{Whole, Worn}
 pub use Rattle.psu_exec.specs.declared.idle_store.IdleStore.{IdleStore}
 pub use Rattle.psu_instrument.specs.Macros.{HoldsParameters}

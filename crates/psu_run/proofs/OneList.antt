@@ -1,10 +1,10 @@
 -- The steps of a run, with its power losses, and runs one after another on the same disk, as one list of events of the
 -- theorem on power loss; and what the images at the points of a run represent.
 use Rattle.psu_run.proofs.Common.{Any, ◌≡◌, ℕ, suc, ◌+◌, false, Option, Some, None, List, [], ◌∷◌, ◌++◌, length, refl, sym, ◌∙◌, subst, inl, inr, arith, ⊎_elim, ap, append-nil, take, DiskState, EachIsEither, EachRepresents, Entry, EventsLead, IsAlong, IsCrashImage, IsEither, IsLeftBy, Item, LeadsTo, Opened, PowersOn, Represents, RunPoint, Running, StandsForPrefix, Steps, World, after, count_held, get_or_past, items_of, left_size, nil_from_length, power_on, reads_left, represents_one, take-nil, target, without_power, Serves}
-use Rattle.psu_exec.specs.World.{Stopped, Restarting, Event, Call, DiskCall, Loss, Stop, Restart, Moves, Writes, Syncs, KeepsMaps, Happens, IsStart, Run, CallsBy}
-use Rattle.psu_exec.proofs.Invariant.{only_left, kept_at_start, left_in_life}
+use Rattle.psu_power_loss.specs.World.{Stopped, Restarting, Event, Call, DiskCall, Loss, Stop, Restart, Moves, Writes, Syncs, KeepsMaps, Happens, IsStart, Run, CallsBy}
+use Rattle.psu_power_loss.proofs.Invariant.{only_left, kept_at_start, left_in_life}
 use Rattle.psu_nv.specs.Commands.{Command as Change, applied}
-use Rattle.psu_exec.proofs.Events.{other_disk, prefix_is_left, run_keeps, while_running}
+use Rattle.psu_power_loss.proofs.Events.{other_disk, prefix_is_left, run_keeps, while_running}
 
 -- ---- lists of events
 

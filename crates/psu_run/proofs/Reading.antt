@@ -1,6 +1,6 @@
 -- The output of a piece is written, one piece after another, up to the end of the input; and the result of a whole run.
 use Rattle.std.specs.Io.KnownBytes.{Consumes, IsAtEnd}
-use Rattle.psu_exec.proofs.Moments.{keeps_map}
+use Rattle.psu_power_loss.proofs.Moments.{keeps_map}
 use Rattle.psu_run.proofs.Common.{◌≡◌, ◌≢◌, ℕ, ◌+◌, ◌-◌, ◌≤◌, true, false, List, [], ◌∷◌, ◌++◌, length, take, drop, refl, sym, ap, ◌∙◌, subst, inr, arith, append_assoc, Some, None, Option, length-append, IfSome, IsErrAnd, Result, inl, Answers, Brings, DiskState, EachRepresents, Ends, EndsEarly, Exec, FaultOf, ForSome, Ghosts, IsAlong, IsAt, IsByFailure, IsCrashImage, IsOfRun, IsOldOrSame, IsScript, IsTied, LeavesOnly, Message, OutputState, PowersOn, Ran, RunCause, RunFault, RunPoint, RunTo, Runs, Says, SaysUntil, ScriptAlone, StopsFor, World, Write, WritesShort, WritesTo, and_then, at_power_on, common_steps, disk_in, failures_of, has, held, is_broken, items_of, message_of, messages, take-add, weaken, append-nil, nil_from_length, same_Some, Consumes-trans, Consumes-nil, Writes, Written, after, fault_disk, disk_of}
 use Rattle.psu_run.proofs.Cuts.{line_end, line_last, short_after, until_none, writes_then}
 use Rattle.psu_run.proofs.Feeding.{EndsIn, Fed, early_now, early_then, ends_then, stopped_then}

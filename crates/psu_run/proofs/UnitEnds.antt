@@ -1,6 +1,6 @@
 -- The steps of a job, of a flush, of a wait and of a unit; the changes that a flush leaves unflushed; and why a unit may be `Later`.
 use Rattle.psu_run.proofs.Common.{true, ◌≡◌, ◌⊎◌, ℕ, suc, ◌≤◌, Some, List, [], refl, sym, ap, ◌∙◌, subst, inr, arith, ◌<◌, None, Allows, Begins, Calls, Cleared, Commit, DeviceStops, Exec, Executed, Flush, GaveBack, Ghosts, HasFailed, IsAlong, IsAt, IsEither, IsFlush, IsJob, IsWornOut, Job, JobData, JobEnd, JobKind, Jobs, Later, Leads, LeavesOnly, MayAnswer, NoNumber, Ran, Reopen, Reply, Request, RunCause, RunPoint, Serves, Settled, State, StoreBroken, Taken, Took, Whole, Worn, disk_in, failures_of, fault_of, is_broken, is_whole, job_data, job_disk, job_of, job_store, serves_took, target, wait_of, weaken, Halts, finished}
-use Rattle.psu_exec.specs.World.{IsTrueOf}
+use Rattle.psu_exec.specs.AcceptedEnd.{IsTrueOf}
 use Rattle.psu_exec.specs.declared.job.Job.{Job as AnyJob}
 use Rattle.psu_run.proofs.Going.{call_steps, failures_is, for_disk, ran_as, stepped, steps_call, steps_then}
 use Rattle.psu_run.proofs.OneList.{Reached, along_here, goes_then, prefix_of_either, reached_on, step_goes}

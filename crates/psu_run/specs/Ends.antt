@@ -9,8 +9,9 @@ use Rattle.psu_tree.specs.declared.command.Request.{Request}
 use Rattle.psu_exec.specs.Calls.{Entry, GaveBack, Reopen, Took, Cleared}
 use Rattle.psu_exec.specs.Consistent.{MayBeKept}
 use Rattle.psu_exec.specs.Device.{Reply, is_broken}
-use Rattle.psu_exec.specs.Headline.{AreBad, IsPrefix}
-use Rattle.psu_exec.specs.World.{Event, Run, World, after}
+use Rattle.psu_power_loss.specs.Headline.{IsPrefix}
+use Rattle.psu_exec.specs.Starts.{AreBad}
+use Rattle.psu_power_loss.specs.World.{Event, Run, World, after}
 use Rattle.psu_exec.specs.declared.start_cause.StartFault.{StartFault}
 use Rattle.psu_messages.specs.Executions.{Advances, IsNext, Progress, beginning}
 use Rattle.psu_run.specs.declared.run_cause.RunCause.{RunCause}

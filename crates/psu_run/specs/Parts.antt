@@ -3,7 +3,7 @@ use Rattle.std.specs.Prelude.{◌≡◌, ◌⊎◌, ℕ, ◌+◌, ◌≤◌, ◌
 use Rattle.psu_disk.specs.Disk.{HasFailed, IsCrashImage, LeavesOnly}
 use Rattle.psu_disk.specs.declared.disk.Disk.{Ghosts}
 use Rattle.psu_exec.specs.Device.{is_broken}
-use Rattle.psu_exec.specs.World.{IsStart, World, Running}
+use Rattle.psu_power_loss.specs.World.{IsStart, World, Running}
 use Rattle.psu_messages.specs.Effects.{Effect, needs}
 use Rattle.psu_run.specs.declared.run_cause.RunCause.{RunCause}
 use Rattle.psu_run.specs.declared.run_cause.RunCause.TheVariants.{Device, Memory, Write}

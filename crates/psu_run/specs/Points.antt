@@ -7,7 +7,7 @@ use Rattle.psu_nv.specs.Contents.{IsContents, fits, items_of}
 use Rattle.psu_tree.specs.declared.command.Request.{Request}
 use Rattle.psu_exec.specs.Calls.{Cleared, Commit, Entry, Executed, Failed, GaveBack, Job, JobData, JobEnd, JobKind, Nothing, Opened, Reopen, Reopened, Serves, Settled, Stored, Took, Unstarted}
 use Rattle.psu_exec.specs.Device.{Error, Later, Parked, Reply, State, is_broken, power_on}
-use Rattle.psu_exec.specs.World.{CallsBy, DiskAfter, Running, World, is_executed, recorded}
+use Rattle.psu_power_loss.specs.World.{CallsBy, DiskAfter, Running, World, is_executed, recorded}
 use Rattle.psu_messages.specs.Effects.{Effect, needs}
 use Rattle.psu_messages.specs.Executions.{Advances, IsOver, Progress, beginning}
 use Rattle.psu_items.specs.declared.broken.BrokenCause.TheVariants as broken_cause

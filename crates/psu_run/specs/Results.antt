@@ -5,7 +5,7 @@ use Rattle.psu_disk.specs.declared.disk.Disk.{Ghosts}
 use Rattle.psu_map.specs.Map.{Item}
 use Rattle.psu_items.specs.Image.{EachRepresents, Represents}
 use Rattle.psu_nv.specs.Contents.{items_of}
-use Rattle.psu_exec.specs.World.{World}
+use Rattle.psu_power_loss.specs.World.{World}
 use Rattle.psu_run.specs.declared.recover_fault.RecoverFault.{RecoverFault}
 use Rattle.psu_run.specs.declared.run_cause.RunCause.{RunCause}
 use Rattle.psu_run.specs.declared.run_cause.RunCause.TheVariants.{Write}

@@ -3,7 +3,7 @@ ghost use Rattle.std.specs.Prelude.{◌≡◌, ◌≢◌, ◌⊎◌, ◌≤◌, 
 ghost use Rattle.std.specs.Option.{ForSome};
 ghost use Rattle.psu_disk.specs.Disk.{HasFailed, LeavesOnly};
 ghost use Rattle.psu_items.specs.Image.{IsEither};
-ghost use Rattle.psu_exec.specs.World.{IsTrueOf};
+ghost use Rattle.psu_exec.specs.AcceptedEnd.{IsTrueOf};
 ghost use Rattle.psu_exec.specs.Calls.{Commit, GaveBack, HasNone, HasWork, JobEnd, JobKind, Nothing, Reopen, Serves, Took, job_of};
 ghost use Rattle.psu_exec.specs.Device.{is_broken, is_open, target, wait_of};
 ghost use Rattle.psu_exec.specs.Jobs.{finished_of, job_data, job_disk};

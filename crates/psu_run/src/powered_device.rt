@@ -6,7 +6,7 @@ ghost use Rattle.psu_items.specs.Finding.{IsOldOrSame};
 ghost use Rattle.psu_items.specs.Image.{EachRepresents, Represents};
 ghost use Rattle.psu_map.specs.Map.{Item};
 ghost use Rattle.psu_exec.specs.Device.{is_broken, is_denied, is_open, wait_of};
-ghost use Rattle.psu_exec.specs.World.{World};
+ghost use Rattle.psu_power_loss.specs.World.{World};
 ghost use Rattle.psu_exec.specs.declared.idle_store.Condition.TheVariants.{Worn};
 ghost use Rattle.psu_run.specs.Ends.{IsByFailure, NotStarted, cause_of, fault_disk, start_of};
 ghost use Rattle.psu_run.specs.Parts.{FaultOf, IsAt, IsMemory, IsWornAtLast, disk_in};

@@ -2,4 +2,3 @@ pub mod Called
 pub mod Seated
 pub mod Rounds
 pub mod Recorded
-pub mod Kept

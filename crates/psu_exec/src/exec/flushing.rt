@@ -24,7 +24,7 @@ use std::alloc::{AllocError, Allocator};
 
 impl<D: Disk, A: Allocator + Copy> Exec<D, A> {
     ghost use Rattle.psu_exec.specs.Jobs.{IsStoreOf, finished_disk, finished_of, idle_store_of, job_data, job_store, taken_of};
-    ghost use Rattle.psu_exec.specs.World.{IsTrueOf};
+    ghost use Rattle.psu_exec.specs.AcceptedEnd.{IsTrueOf};
     ghost use Rattle.psu_exec.specs.declared.job.Job.TheVariants as when;
 
     /// Takes a job: one that commits the present contents to a whole store, or one that reopens a broken store. All

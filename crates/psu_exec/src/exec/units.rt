@@ -1,7 +1,7 @@
 //! The execution of program message units, and the waits that they leave.
 ghost use Rattle.std.specs.Prelude.{◌≡◌, ◌≢◌, [], ◌⊎◌, ◌↔◌, ◌<◌, ℕ, true, false, List, Some, None, is_none, IfErr, IfSome, IfNone, OnOk, OnErr};
 ghost use Rattle.psu_exec.specs.Device.{Answer, AnswersCall, Error, Held, Later, MayMean, Reply, RunGives, after_meant, called, followed, here, is_denied, is_full, is_late, is_open, is_whole, meant, reads_nonvolatile, refused, wait_of, with_device};
-ghost use Rattle.psu_exec.specs.World.{asks_opc};
+ghost use Rattle.psu_exec.specs.Opc.{asks_opc};
 ghost use Rattle.psu_exec.specs.declared.waits.Wait.TheVariants.{Until};
 ghost use Rattle.psu_lex.specs.declared.scpi_error.ScpiError.{ScpiError as AnyError};
 ghost use Rattle.psu_lex.specs.declared.scpi_error.ScpiError.TheVariants.{MediaFull, OutOfMemory};

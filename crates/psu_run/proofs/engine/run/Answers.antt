@@ -2,7 +2,7 @@ use Rattle.psu_run.proofs.Common.{◌≡◌, ◌≤◌, ◌∙◌, [], inl, inr,
 use Rattle.psu_run.proofs.Cuts.{writes_none}
 use Rattle.psu_run.specs.Ends.{failed_reads}
 use Rattle.psu_run.specs.Lines.{ReadsNoFurther}
-use Rattle.psu_exec.proofs.Moments.{keeps_map}
+use Rattle.psu_power_loss.proofs.Moments.{keeps_map}
 use Rattle.psu_run.proofs.Feeding.{fed_none}
 use Rattle.psu_run.proofs.Going.{failures_is}
 use Rattle.psu_run.proofs.Input.{end_passed, no_failed_read, no_reads, no_writes, until_fails, writes_passed}

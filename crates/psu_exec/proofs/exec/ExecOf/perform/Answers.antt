@@ -6,9 +6,8 @@ use Rattle.psu_instrument.specs.Meaning.{Completes, Keeps}
 use Rattle.psu_instrument.proofs.Kept.{kept_are_nonvolatile}
 use Rattle.psu_exec.specs.Device.{Error, State, MayMean, after_meant, here, is_late, Answer, Done, with_device}
 use Rattle.psu_exec.specs.Shown.{outcome_of}
-use Rattle.psu_exec.proofs.Acting.{completes, failed, keeps, then_done, answers_so, done_so}
+use Rattle.psu_exec.proofs.Acting.{completes, failed, keeps, then_done, answers_so, done_so, not_full}
 use Rattle.psu_exec.proofs.Seen.{after_seen, device_is, seen, so_seen}
-use Rattle.psu_exec.proofs.Staying.{not_full}
 use Rattle.psu_exec.proofs.exec.ExecOf.perform.Goals as goal
 
 pub returns-in-Err-clause-may : goal.returns-in-Err-clause-may

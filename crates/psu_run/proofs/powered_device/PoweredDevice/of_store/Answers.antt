@@ -3,7 +3,7 @@ use Rattle.psu_run.proofs.Going.{worn_shows}
 use Rattle.psu_run.specs.Ends.{cause_of}
 use Rattle.psu_run.specs.declared.recover_fault.RecoverFault.TheVariants as recover_fault
 use Rattle.psu_exec.specs.declared.start_cause.StartCause.TheVariants as start
-use Rattle.psu_exec.specs.Headline.{AreBad}
+use Rattle.psu_exec.specs.Starts.{AreBad}
 use Rattle.psu_exec.specs.declared.start_cause.PowerCause.{PowerCause}
 use Rattle.psu_exec.specs.declared.start_cause.PowerCause.TheVariants as power
 use Rattle.psu_exec.specs.Starts.{start_of_power_on}

@@ -1,5 +1,0 @@
-use Rattle.psu_bench.proofs.Lives.{histories_happen, lives_are_events, some_history_happens, threads_leave_prefix}
-use Rattle.psu_bench.proofs.laws.histories_are_lives.Goals as goal
-
-pub returns : goal.returns
-returns c = record { events = lives_are_events; each = histories_happen; some = some_history_happens; prefix = threads_leave_prefix }

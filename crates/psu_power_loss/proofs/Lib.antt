@@ -1,0 +1,17 @@
+pub mod Ignored
+pub mod Histories
+pub mod Invariant
+pub mod Moments
+pub mod Parking
+pub mod Carrying
+pub mod Staying
+pub mod Units
+pub mod Ends
+pub mod Jobs
+pub mod Events
+pub mod Places
+pub mod Waiting
+pub mod Lasting
+pub mod Clearing
+pub mod Life
+pub mod BrokenLife

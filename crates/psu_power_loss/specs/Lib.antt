@@ -1,0 +1,4 @@
+pub mod World
+pub mod Events
+pub mod Lives
+pub mod Headline
