@@ -18,7 +18,6 @@ use Rattle.psu_tree.specs.declared.command.Request.{Request}
 use Rattle.psu_replies.specs.Reply.{Reply}
 use Rattle.psu_messages.specs.Effects as messages
 use Rattle.psu_messages.specs.Effects.{Effect}
-use Rattle.psu_session.specs.Exchanged as exchange
 
 -- a call of the device, with its reply
 pub data Call : Type 0 where
@@ -154,58 +153,3 @@ put_by side (Wrote on) = []
 
 abbrev pub put : Side → List Event → List ℕ
 put side history = flat_map (put_by side) history
-
--- what is taken from the output of a connection
-abbrev pub taken_by : Side → Event → List ℕ
-taken_by side (BytesReceived on received_bytes) = []
-taken_by side (LockGranted grant) = []
-taken_by side (ServiceRequested request) = []
-taken_by side (LockReleased reply) = []
-taken_by side (Came on message) = []
-taken_by side (DeviceCalled call) = []
-taken_by side (Put on frames) = []
-taken_by side (Did origin effect frames) = []
-taken_by side (Took on bytes) = if_same side on bytes
-taken_by side (Wrote on) = []
-
-abbrev pub taken : Side → List Event → List ℕ
-taken side history = flat_map (taken_by side) history
-
--- ---- received bytes
-
-abbrev pub bytes_received_by : Side → Event → List ℕ
-bytes_received_by side (BytesReceived on received_bytes) = if_same side on received_bytes
-bytes_received_by side (LockGranted grant) = []
-bytes_received_by side (ServiceRequested request) = []
-bytes_received_by side (LockReleased reply) = []
-bytes_received_by side (Came on message) = []
-bytes_received_by side (DeviceCalled call) = []
-bytes_received_by side (Put on frames) = []
-bytes_received_by side (Did origin effect frames) = []
-bytes_received_by side (Took on bytes) = []
-bytes_received_by side (Wrote on) = []
-
--- the bytes of a channel's stream
-abbrev pub bytes_received : Side → List Event → List ℕ
-bytes_received side history = flat_map (bytes_received_by side) history
-
--- ---- the events as the laws of an exchange see them
-
-abbrev pub put_as : Side → List ℕ → List exchange.ExchangeEvent
-put_as Sync frames = exchange.Replied frames ∷ []
-put_as Async frames = []
-
-abbrev pub exchange_view : Event → List exchange.ExchangeEvent
-exchange_view (BytesReceived side received_bytes) = []
-exchange_view (LockGranted grant) = []
-exchange_view (ServiceRequested request) = []
-exchange_view (LockReleased reply) = []
-exchange_view (Came side message) = exchange.Came side message ∷ []
-exchange_view (DeviceCalled call) = []
-exchange_view (Put side frames) = put_as side frames
-exchange_view (Did origin effect frames) = exchange.Did origin effect frames ∷ []
-exchange_view (Took side bytes) = []
-exchange_view (Wrote side) = []
-
-abbrev pub exchange_history : List Event → List exchange.ExchangeEvent
-exchange_history history = flat_map exchange_view history

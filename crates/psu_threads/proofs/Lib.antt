@@ -1,5 +1,3 @@
 pub mod Calling
-pub mod Recording
-pub mod Responses
 pub mod Seating
 pub mod Keeping

@@ -19,7 +19,7 @@ mod shared_device;
 pub use executing::SILENCE_SECONDS;
 pub use flusher_signal::FlusherSignal;
 pub use flushing::Flusher;
-pub use laws::{each_opc_is_kept, each_response_is_of_the_history};
+pub use laws::each_opc_is_kept;
 pub use operator::{Operator, write_lines};
 pub use registry::Registry;
 pub use reporter::{HeldRegistry, Reporter};
