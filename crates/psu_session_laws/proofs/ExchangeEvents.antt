@@ -21,7 +21,7 @@ use Rattle.psu_session_laws.specs.Exchange.{acts_requested, core_at, orders, rep
 use Rattle.psu_session_laws.specs.Exchanged.{ExchangeEvent, Did, Replied, bytes_in, came, execution_in, executions, replied, reply_in, arrivals_in, written}
 use Rattle.psu_session.specs.Events as session
 use Rattle.psu_session.specs.Events.{Event, if_same, put, waits_after}
-use Rattle.psu_session_laws.specs.Views.{bytes_received, bytes_received_by, exchange_history, exchange_view, taken, taken_by}
+use Rattle.psu_session_laws.specs.Views.{put_as, bytes_received, bytes_received_by, exchange_history, exchange_view, taken, taken_by}
 use Rattle.psu_session.specs.Step.{Does, Each, IsLocked, IsServiceRequested, IsQueried, IsLockGranted, granted, happened, puts_any, works_in}
 use Rattle.psu_session.specs.State.{Execute, order_of_work, orders_in}
 
@@ -46,7 +46,7 @@ pub taken-append : (side : Side) (xs ys : List Event) → taken side (xs ++ ys) 
 taken-append side xs ys = flat_map-append (taken_by side) xs ys
 
 -- what the exchange sends on the synchronous connection is what is appended to its output
-put_as_written : (side : Side) (frames : List ℕ) → written (session.put_as side frames) ≡ if_same Sync side frames
+put_as_written : (side : Side) (frames : List ℕ) → written (put_as side frames) ≡ if_same Sync side frames
 put_as_written Sync frames = append-nil frames
 put_as_written Async frames = refl
 
@@ -59,7 +59,7 @@ written_is_put (session.LockReleased reply ∷ xs) = written_is_put xs
 written_is_put (session.Came side message ∷ xs) = written_is_put xs
 written_is_put (session.DeviceCalled call ∷ xs) = written_is_put xs
 written_is_put (session.Put side frames ∷ xs) =
-    written-append (session.put_as side frames) (exchange_history xs) ∙ ap (λ (z : List ℕ). z ++ written (exchange_history xs)) (put_as_written side frames) ∙ ap (λ (z : List ℕ). if_same Sync side frames ++ z) (written_is_put xs)
+    written-append (put_as side frames) (exchange_history xs) ∙ ap (λ (z : List ℕ). z ++ written (exchange_history xs)) (put_as_written side frames) ∙ ap (λ (z : List ℕ). if_same Sync side frames ++ z) (written_is_put xs)
 written_is_put (session.Did origin effect frames ∷ xs) = ap (λ (z : List ℕ). frames ++ z) (written_is_put xs)
 written_is_put (session.Took side bytes ∷ xs) = written_is_put xs
 written_is_put (session.Wrote side ∷ xs) = written_is_put xs
