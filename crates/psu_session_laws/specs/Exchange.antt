@@ -10,7 +10,7 @@ use Rattle.psu_hislip.specs.declared.action.Origin.{Origin}
 use Rattle.psu_hislip.specs.declared.side.Side.TheVariants.{Sync, Async}
 use Rattle.psu_messages.specs.Executions.{Reaches, IsOver}
 use Rattle.psu_messages.specs.Effects.{Effect}
-use Rattle.psu_session.specs.Orders.{Done, IsFramed, Order, Turn, effects, order_in}
+use Rattle.psu_session.specs.Orders.{IsFramed, Order, Turn, effects, order_in}
 use Rattle.psu_session_laws.specs.Exchanged.{ExchangeEvent, Did, came, came_on, executions, replied}
 
 -- the session's core after these events
