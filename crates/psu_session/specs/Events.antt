@@ -70,16 +70,11 @@ pub data Event : Type 0 where
 -- ---- calls of the device
 
 abbrev pub calls_in : Event → List Call
-calls_in (BytesReceived side received_bytes) = []
-calls_in (LockGranted grant) = []
 calls_in (ServiceRequested request) = Fetched request ∷ []
 calls_in (LockReleased reply) = Released reply ∷ []
-calls_in (Came side message) = []
 calls_in (DeviceCalled call) = call ∷ []
-calls_in (Put side frames) = []
 calls_in (Did origin effect frames) = call_of effect ∷ []
-calls_in (Took side bytes) = []
-calls_in (Wrote side) = []
+calls_in _ = []
 
 abbrev pub calls : List Event → List Call
 calls history = flat_map calls_in history
@@ -92,29 +87,14 @@ waits_if waits None = true
 waits_if waits (Some header) = waits
 
 abbrev pub waits_by_call : Bool → Call → Bool
-waits_by_call waits (Executed request reply) = waits
-waits_by_call waits (Settled reply) = waits
-waits_by_call waits Sent = waits
-waits_by_call waits Delivered = waits
-waits_by_call waits (Queried byte) = waits
-waits_by_call waits (Fetched request) = waits
 waits_by_call waits (Locked kind timeout reply) = waits_if waits (lock_response reply)
-waits_by_call waits (Released reply) = waits
-waits_by_call waits (Informed info) = waits
-waits_by_call waits Cleared = waits
+waits_by_call waits _ = waits
 
 -- whether a lock request waits after an event
 abbrev pub waits_by : Bool → Event → Bool
-waits_by waits (BytesReceived side received_bytes) = waits
 waits_by waits (LockGranted grant) = false
-waits_by waits (ServiceRequested request) = waits
-waits_by waits (LockReleased reply) = waits
-waits_by waits (Came side message) = waits
 waits_by waits (DeviceCalled call) = waits_by_call waits call
-waits_by waits (Put side frames) = waits
-waits_by waits (Did origin effect frames) = waits
-waits_by waits (Took side bytes) = waits
-waits_by waits (Wrote side) = waits
+waits_by waits _ = waits
 
 -- and after events, one after another
 abbrev pub waits_after : Bool → List Event → Bool
@@ -140,16 +120,12 @@ service_request (Some byte) = Some (header_of AsyncServiceRequest byte 0 0)
 
 -- what an event appends to the output of a connection
 abbrev pub put_by : Side → Event → List ℕ
-put_by side (BytesReceived on received_bytes) = []
 put_by side (LockGranted grant) = if_same side Async (bytes_of_any (lock_response (Ok grant)))
 put_by side (ServiceRequested request) = if_same side Async (bytes_of_any (service_request request))
 put_by side (LockReleased reply) = if_same side Async (header_bytes (release_response reply))
-put_by side (Came on message) = []
-put_by side (DeviceCalled call) = []
 put_by side (Put on frames) = if_same side on frames
 put_by side (Did origin effect frames) = if_same side Sync frames
-put_by side (Took on bytes) = []
-put_by side (Wrote on) = []
+put_by side _ = []
 
 abbrev pub put : Side → List Event → List ℕ
 put side history = flat_map (put_by side) history

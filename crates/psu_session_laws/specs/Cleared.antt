@@ -9,23 +9,15 @@ use Rattle.psu_hislip.specs.declared.action.Origin.{Origin}
 use Rattle.psu_hislip.specs.declared.side.Side.TheVariants.{Sync, Async}
 use Rattle.psu_session_laws.specs.Exchange.{acts_requested}
 use Rattle.psu_session_laws.specs.Exchanged.{came}
-use Rattle.psu_session.specs.Events.{Event, BytesReceived, LockGranted, ServiceRequested, LockReleased, Came, DeviceCalled, Put, Did, Took, Wrote, put}
+use Rattle.psu_session.specs.Events.{Event, Came, Put, Did, put}
 use Rattle.psu_session_laws.specs.Views.{exchange_history, taken}
 use Rattle.psu_session.specs.Step.{IsHistory}
 use Rattle.psu_session.specs.State.{Start, SessionState}
 
 -- the origins of the transmissions that have effects
 abbrev pub worked_in : Event → List Origin
-worked_in (BytesReceived side received_bytes) = []
-worked_in (LockGranted grant) = []
-worked_in (ServiceRequested request) = []
-worked_in (LockReleased reply) = []
-worked_in (Came side message) = []
-worked_in (DeviceCalled call) = []
-worked_in (Put side frames) = []
 worked_in (Did origin effect frames) = origin ∷ []
-worked_in (Took side bytes) = []
-worked_in (Wrote side) = []
+worked_in _ = []
 
 abbrev pub worked : List Event → List Origin
 worked history = flat_map worked_in history

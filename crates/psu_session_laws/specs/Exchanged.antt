@@ -19,8 +19,7 @@ pub data ExchangeEvent : Type 0 where
 -- the messages, as the core receives them
 abbrev pub arrivals_in : ExchangeEvent → List Arrival
 arrivals_in (Came side message) = record { side = side; message = message } ∷ []
-arrivals_in (Replied frames) = []
-arrivals_in (Did origin effect frames) = []
+arrivals_in _ = []
 
 abbrev pub came : List ExchangeEvent → List Arrival
 came history = flat_map arrivals_in history
@@ -38,18 +37,16 @@ came_on side history = flat_map (on side) (came history)
 
 -- what was done for transmissions
 abbrev pub execution_in : ExchangeEvent → List ExchangeEvent
-execution_in (Came side message) = []
-execution_in (Replied frames) = []
 execution_in (Did origin effect frames) = Did origin effect frames ∷ []
+execution_in _ = []
 
 abbrev pub executions : List ExchangeEvent → List ExchangeEvent
 executions history = flat_map execution_in history
 
 -- what is sent on the synchronous connection: replies of the core, and frames of responses
 abbrev pub reply_in : ExchangeEvent → List (List ℕ)
-reply_in (Came side message) = []
 reply_in (Replied frames) = frames ∷ []
-reply_in (Did origin effect frames) = []
+reply_in _ = []
 
 abbrev pub replied : List ExchangeEvent → List (List ℕ)
 replied history = flat_map reply_in history

@@ -6,23 +6,15 @@ use Rattle.psu_locks.specs.declared.results.LockRefusal.{LockRefusal}
 use Rattle.psu_hislip.specs.Action.{Act}
 use Rattle.psu_session_laws.specs.Exchange.{HasEnded, acts_requested, orders}
 use Rattle.psu_session.specs.Orders.{Order, Turn}
-use Rattle.psu_session.specs.Events.{Event, BytesReceived, LockGranted, ServiceRequested, LockReleased, Came, DeviceCalled, Put, Did, Took, Wrote}
+use Rattle.psu_session.specs.Events.{Event, LockReleased}
 use Rattle.psu_session_laws.specs.Views.{exchange_history}
 use Rattle.psu_session.specs.Step.{IsHistory, works_in}
 use Rattle.psu_session.specs.State.{Start, SessionState, Work, Execute, ReleaseLock}
 
 -- the replies of the device to the releases of a history
 abbrev pub released_in : Event → List (Result Freed LockRefusal)
-released_in (BytesReceived side received_bytes) = []
-released_in (LockGranted grant) = []
-released_in (ServiceRequested request) = []
 released_in (LockReleased reply) = reply ∷ []
-released_in (Came side message) = []
-released_in (DeviceCalled call) = []
-released_in (Put side frames) = []
-released_in (Did origin effect frames) = []
-released_in (Took side bytes) = []
-released_in (Wrote side) = []
+released_in _ = []
 
 abbrev pub released : List Event → List (Result Freed LockRefusal)
 released history = flat_map released_in history

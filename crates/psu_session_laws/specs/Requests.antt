@@ -5,39 +5,26 @@ use Rattle.std.specs.Prelude.{Bool, false, List, [], ◌∷◌, ◌++◌, flat_m
 use Rattle.psu_locks.specs.declared.results.Grant.{Grant}
 use Rattle.psu_hislip.specs.Action.{Act}
 use Rattle.psu_session_laws.specs.Exchange.{acts_requested}
-use Rattle.psu_session.specs.Events.{Event, BytesReceived, LockGranted, ServiceRequested, LockReleased, Came, DeviceCalled, Put, Did, Took, Wrote, waits_after}
+use Rattle.psu_session.specs.Events.{Event, LockGranted, DeviceCalled, Put, waits_after}
 use Rattle.psu_session_laws.specs.Views.{exchange_history}
 use Rattle.psu_session.specs.Step.{Does, IsHistory}
 use Rattle.psu_session.specs.State.{Start, SessionState}
 
 -- what is done immediately for a message
 abbrev pub immediate_in : Event → List Event
-immediate_in (BytesReceived side received_bytes) = []
-immediate_in (LockGranted grant) = []
-immediate_in (ServiceRequested request) = []
-immediate_in (LockReleased reply) = []
-immediate_in (Came side message) = []
 immediate_in (DeviceCalled call) = DeviceCalled call ∷ []
 immediate_in (Put side frames) = Put side frames ∷ []
-immediate_in (Did origin effect frames) = []
-immediate_in (Took side bytes) = []
-immediate_in (Wrote side) = []
+immediate_in _ = []
 
 abbrev pub immediate : List Event → List Event
 immediate history = flat_map immediate_in history
 
 -- what is done immediately for a message, and the results of lock requests that waited
 abbrev pub serving_in : Event → List Event
-serving_in (BytesReceived side received_bytes) = []
 serving_in (LockGranted grant) = LockGranted grant ∷ []
-serving_in (ServiceRequested request) = []
-serving_in (LockReleased reply) = []
-serving_in (Came side message) = []
 serving_in (DeviceCalled call) = DeviceCalled call ∷ []
 serving_in (Put side frames) = Put side frames ∷ []
-serving_in (Did origin effect frames) = []
-serving_in (Took side bytes) = []
-serving_in (Wrote side) = []
+serving_in _ = []
 
 abbrev pub serving : List Event → List Event
 serving history = flat_map serving_in history

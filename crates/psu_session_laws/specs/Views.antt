@@ -2,23 +2,15 @@
 use Rattle.std.specs.Prelude.{ℕ, List, [], ◌∷◌, flat_map}
 use Rattle.psu_hislip.specs.declared.side.Side.{Side}
 use Rattle.psu_hislip.specs.declared.side.Side.TheVariants.{Sync, Async}
-use Rattle.psu_session.specs.Events.{Event, BytesReceived, LockGranted, ServiceRequested, LockReleased, Came, DeviceCalled, Put, Did, Took, Wrote, if_same}
+use Rattle.psu_session.specs.Events.{Event, BytesReceived, Came, Put, Did, Took, if_same}
 use Rattle.psu_session_laws.specs.Exchanged as exchange
 
 -- ---- taken bytes
 
 -- what is taken from the output of a connection
 abbrev pub taken_by : Side → Event → List ℕ
-taken_by side (BytesReceived on received_bytes) = []
-taken_by side (LockGranted grant) = []
-taken_by side (ServiceRequested request) = []
-taken_by side (LockReleased reply) = []
-taken_by side (Came on message) = []
-taken_by side (DeviceCalled call) = []
-taken_by side (Put on frames) = []
-taken_by side (Did origin effect frames) = []
 taken_by side (Took on bytes) = if_same side on bytes
-taken_by side (Wrote on) = []
+taken_by side _ = []
 
 abbrev pub taken : Side → List Event → List ℕ
 taken side history = flat_map (taken_by side) history
@@ -27,15 +19,7 @@ taken side history = flat_map (taken_by side) history
 
 abbrev pub bytes_received_by : Side → Event → List ℕ
 bytes_received_by side (BytesReceived on received_bytes) = if_same side on received_bytes
-bytes_received_by side (LockGranted grant) = []
-bytes_received_by side (ServiceRequested request) = []
-bytes_received_by side (LockReleased reply) = []
-bytes_received_by side (Came on message) = []
-bytes_received_by side (DeviceCalled call) = []
-bytes_received_by side (Put on frames) = []
-bytes_received_by side (Did origin effect frames) = []
-bytes_received_by side (Took on bytes) = []
-bytes_received_by side (Wrote on) = []
+bytes_received_by side _ = []
 
 -- the bytes of a channel's stream
 abbrev pub bytes_received : Side → List Event → List ℕ
@@ -48,16 +32,10 @@ put_as Sync frames = exchange.Replied frames ∷ []
 put_as Async frames = []
 
 abbrev pub exchange_view : Event → List exchange.ExchangeEvent
-exchange_view (BytesReceived side received_bytes) = []
-exchange_view (LockGranted grant) = []
-exchange_view (ServiceRequested request) = []
-exchange_view (LockReleased reply) = []
 exchange_view (Came side message) = exchange.Came side message ∷ []
-exchange_view (DeviceCalled call) = []
 exchange_view (Put side frames) = put_as side frames
 exchange_view (Did origin effect frames) = exchange.Did origin effect frames ∷ []
-exchange_view (Took side bytes) = []
-exchange_view (Wrote side) = []
+exchange_view _ = []
 
 abbrev pub exchange_history : List Event → List exchange.ExchangeEvent
 exchange_history history = flat_map exchange_view history

@@ -2,7 +2,7 @@
 use Rattle.std.specs.Prelude.{◌≡◌, ℕ, Bool, true, false, List, [], ◌∷◌, ◌++◌}
 use Rattle.psu_hislip.specs.declared.side.Side.{Side}
 use Rattle.psu_hislip.specs.declared.side.Side.TheVariants.{Sync, Async}
-use Rattle.psu_session.specs.Events.{Event, BytesReceived, LockGranted, ServiceRequested, LockReleased, Came, DeviceCalled, Put, Did, Took, Wrote}
+use Rattle.psu_session.specs.Events.{Event, Took, Wrote}
 use Rattle.psu_session.specs.Step.{IsHistory}
 use Rattle.psu_session.specs.State.{Start, SessionState, writes}
 
@@ -14,16 +14,9 @@ on_same one other here elsewhere = elsewhere
 
 -- whether a thread writes on a connection after an event
 abbrev pub writes_by : Side → Bool → Event → Bool
-writes_by side writing (BytesReceived on received_bytes) = writing
-writes_by side writing (LockGranted grant) = writing
-writes_by side writing (ServiceRequested request) = writing
-writes_by side writing (LockReleased reply) = writing
-writes_by side writing (Came on message) = writing
-writes_by side writing (DeviceCalled call) = writing
-writes_by side writing (Put on frames) = writing
-writes_by side writing (Did origin effect frames) = writing
 writes_by side writing (Took on bytes) = on_same side on true writing
 writes_by side writing (Wrote on) = on_same side on false writing
+writes_by side writing _ = writing
 
 -- and after events, one after another
 abbrev pub writes_after : Side → Bool → List Event → Bool
