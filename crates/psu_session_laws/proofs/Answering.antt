@@ -73,9 +73,8 @@ each_is_answered law over so_far session greatest sync async history turns x mos
 -- ---- what is sent
 
 abbrev piece_in : ExchangeEvent → List (List ℕ)
-piece_in (Came side message) = []
-piece_in (Replied out) = []
 piece_in (Did origin effect out) = out ∷ []
+piece_in _ = []
 
 woven : (history : List ExchangeEvent) → Weaves (replied history) (flat_map piece_in history) (written history)
 woven [] = Nothing

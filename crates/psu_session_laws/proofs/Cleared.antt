@@ -19,15 +19,7 @@ each_worked P [] f = All-nil P
 each_worked P (events.Did origin effect frames ∷ xs) f =
     All-cons P origin (worked xs) (f [] xs origin effect frames refl)
     (each_worked P xs (λ before after o d g is. f (events.Did origin effect frames ∷ before) after o d g (ap (λ (z : List Event). events.Did origin effect frames ∷ z) is)))
-each_worked P (events.BytesReceived side received_bytes ∷ xs) f = each_worked P xs (λ before after o d g is. f (events.BytesReceived side received_bytes ∷ before) after o d g (ap (λ (z : List Event). events.BytesReceived side received_bytes ∷ z) is))
-each_worked P (events.LockGranted grant ∷ xs) f = each_worked P xs (λ before after o d g is. f (events.LockGranted grant ∷ before) after o d g (ap (λ (z : List Event). events.LockGranted grant ∷ z) is))
-each_worked P (events.ServiceRequested request ∷ xs) f = each_worked P xs (λ before after o d g is. f (events.ServiceRequested request ∷ before) after o d g (ap (λ (z : List Event). events.ServiceRequested request ∷ z) is))
-each_worked P (events.LockReleased reply ∷ xs) f = each_worked P xs (λ before after o d g is. f (events.LockReleased reply ∷ before) after o d g (ap (λ (z : List Event). events.LockReleased reply ∷ z) is))
-each_worked P (events.Came side message ∷ xs) f = each_worked P xs (λ before after o d g is. f (events.Came side message ∷ before) after o d g (ap (λ (z : List Event). events.Came side message ∷ z) is))
-each_worked P (events.DeviceCalled call ∷ xs) f = each_worked P xs (λ before after o d g is. f (events.DeviceCalled call ∷ before) after o d g (ap (λ (z : List Event). events.DeviceCalled call ∷ z) is))
-each_worked P (events.Put side frames ∷ xs) f = each_worked P xs (λ before after o d g is. f (events.Put side frames ∷ before) after o d g (ap (λ (z : List Event). events.Put side frames ∷ z) is))
-each_worked P (events.Took side bytes ∷ xs) f = each_worked P xs (λ before after o d g is. f (events.Took side bytes ∷ before) after o d g (ap (λ (z : List Event). events.Took side bytes ∷ z) is))
-each_worked P (events.Wrote side ∷ xs) f = each_worked P xs (λ before after o d g is. f (events.Wrote side ∷ before) after o d g (ap (λ (z : List Event). events.Wrote side ∷ z) is))
+each_worked P (event ∷ xs) f = each_worked P xs (λ before after o d g is. f (event ∷ before) after o d g (ap (λ (z : List Event). event ∷ z) is))
 
 module _ (session : ℕ) (before between : List Event) (clear : Received) (reply : List ℕ) (after history : List Event) (s : SessionState) (is : history ≡ before ++ Came Async clear ∷ (between ++ Put Sync reply ∷ after))
     (none : (middle later : List Event) (origin : Origin) (effect : Effect) (frames : List ℕ) → history ≡ before ++ Came Async clear ∷ (middle ++ Did origin effect frames ∷ later) → All (λ old. old ≡ origin → ⊥) (origins (acts_requested session (exchange_history before))))

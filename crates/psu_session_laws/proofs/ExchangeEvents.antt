@@ -52,17 +52,10 @@ put_as_written Async frames = refl
 
 pub written_is_put : (xs : List Event) → written (exchange_history xs) ≡ put Sync xs
 written_is_put [] = refl
-written_is_put (session.BytesReceived side received_bytes ∷ xs) = written_is_put xs
-written_is_put (session.LockGranted grant ∷ xs) = written_is_put xs
-written_is_put (session.ServiceRequested request ∷ xs) = written_is_put xs
-written_is_put (session.LockReleased reply ∷ xs) = written_is_put xs
-written_is_put (session.Came side message ∷ xs) = written_is_put xs
-written_is_put (session.DeviceCalled call ∷ xs) = written_is_put xs
 written_is_put (session.Put side frames ∷ xs) =
     written-append (put_as side frames) (exchange_history xs) ∙ ap (λ (z : List ℕ). z ++ written (exchange_history xs)) (put_as_written side frames) ∙ ap (λ (z : List ℕ). if_same Sync side frames ++ z) (written_is_put xs)
 written_is_put (session.Did origin effect frames ∷ xs) = ap (λ (z : List ℕ). frames ++ z) (written_is_put xs)
-written_is_put (session.Took side bytes ∷ xs) = written_is_put xs
-written_is_put (session.Wrote side ∷ xs) = written_is_put xs
+written_is_put (_ ∷ xs) = written_is_put xs
 
 -- ---- events without a message
 

@@ -45,16 +45,8 @@ use Rattle.psu_session_laws.proofs.StepKeeping.{received_one, same_history, seen
 
 immediate_releases_none : (xs : List Event) → released (immediate xs) ≡ []
 immediate_releases_none [] = refl
-immediate_releases_none (events.BytesReceived side received_bytes ∷ xs) = immediate_releases_none xs
-immediate_releases_none (events.LockGranted grant ∷ xs) = immediate_releases_none xs
-immediate_releases_none (events.ServiceRequested request ∷ xs) = immediate_releases_none xs
 immediate_releases_none (events.LockReleased reply ∷ xs) = immediate_releases_none xs
-immediate_releases_none (events.Came side message ∷ xs) = immediate_releases_none xs
-immediate_releases_none (events.DeviceCalled call ∷ xs) = immediate_releases_none xs
-immediate_releases_none (events.Put side bytes ∷ xs) = immediate_releases_none xs
-immediate_releases_none (events.Did origin effect bytes ∷ xs) = immediate_releases_none xs
-immediate_releases_none (events.Took side bytes ∷ xs) = immediate_releases_none xs
-immediate_releases_none (events.Wrote side ∷ xs) = immediate_releases_none xs
+immediate_releases_none (_ ∷ xs) = immediate_releases_none xs
 
 each_releases_none : (waits : Bool) (acts : List Act) (done : List Event) → Each waits acts done → released done ≡ []
 each_releases_none waits acts done each = ap released (sym (each_does waits acts done each)) ∙ immediate_releases_none done

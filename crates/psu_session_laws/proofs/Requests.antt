@@ -42,16 +42,9 @@ use Rattle.psu_session_laws.proofs.Waits.{fed_waits, one_message, wait_is_known}
 -- what is done immediately serves the requests, and results have no part in it
 immediate_serves : (xs : List Event) → serving (immediate xs) ≡ immediate xs
 immediate_serves [] = refl
-immediate_serves (events.BytesReceived side received_bytes ∷ xs) = immediate_serves xs
-immediate_serves (events.LockGranted grant ∷ xs) = immediate_serves xs
-immediate_serves (events.ServiceRequested request ∷ xs) = immediate_serves xs
-immediate_serves (events.LockReleased reply ∷ xs) = immediate_serves xs
-immediate_serves (events.Came side message ∷ xs) = immediate_serves xs
 immediate_serves (events.DeviceCalled call ∷ xs) = ap (λ (z : List Event). events.DeviceCalled call ∷ z) (immediate_serves xs)
 immediate_serves (events.Put side bytes ∷ xs) = ap (λ (z : List Event). events.Put side bytes ∷ z) (immediate_serves xs)
-immediate_serves (events.Did origin effect bytes ∷ xs) = immediate_serves xs
-immediate_serves (events.Took side bytes ∷ xs) = immediate_serves xs
-immediate_serves (events.Wrote side ∷ xs) = immediate_serves xs
+immediate_serves (_ ∷ xs) = immediate_serves xs
 
 each_serves : (waits : Bool) (acts : List Act) (done : List Event) → Each waits acts done → serving done ≡ done
 each_serves waits acts done each =
@@ -75,16 +68,9 @@ served-append {waits} {xs} {ys} {a} {b} (Serves {acts = acts} {events = more} ac
 -- events that do not serve requests do not change whether a lock request waits
 serving_waits : (waits : Bool) (xs : List Event) → waits_after waits (serving xs) ≡ waits_after waits xs
 serving_waits waits [] = refl
-serving_waits waits (events.BytesReceived side received_bytes ∷ xs) = serving_waits waits xs
 serving_waits waits (events.LockGranted grant ∷ xs) = serving_waits false xs
-serving_waits waits (events.ServiceRequested request ∷ xs) = serving_waits waits xs
-serving_waits waits (events.LockReleased reply ∷ xs) = serving_waits waits xs
-serving_waits waits (events.Came side message ∷ xs) = serving_waits waits xs
 serving_waits waits (events.DeviceCalled call ∷ xs) = serving_waits (waits_by_call waits call) xs
-serving_waits waits (events.Put side bytes ∷ xs) = serving_waits waits xs
-serving_waits waits (events.Did origin effect bytes ∷ xs) = serving_waits waits xs
-serving_waits waits (events.Took side bytes ∷ xs) = serving_waits waits xs
-serving_waits waits (events.Wrote side ∷ xs) = serving_waits waits xs
+serving_waits waits (_ ∷ xs) = serving_waits waits xs
 
 effects_serve_none : (origin : Origin) (done : List Done) → serving (happened origin done) ≡ []
 effects_serve_none origin [] = refl

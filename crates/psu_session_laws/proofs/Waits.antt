@@ -86,32 +86,16 @@ wait_is_known start history s (Then {done = done} {t = t} steps more u m) =
 -- ---- the results of lock requests
 
 abbrev result_in : Event → List Grant
-result_in (events.BytesReceived side received_bytes) = []
 result_in (events.LockGranted grant) = grant ∷ []
-result_in (events.ServiceRequested request) = []
-result_in (events.LockReleased reply) = []
-result_in (events.Came side message) = []
-result_in (events.DeviceCalled call) = []
-result_in (events.Put side frames) = []
-result_in (events.Did origin effect frames) = []
-result_in (events.Took side bytes) = []
-result_in (events.Wrote side) = []
+result_in _ = []
 
 abbrev results : List Event → List Grant
 results history = flat_map result_in history
 
 immediate_has_none : (xs : List Event) → results (immediate xs) ≡ []
 immediate_has_none [] = refl
-immediate_has_none (events.BytesReceived side received_bytes ∷ xs) = immediate_has_none xs
 immediate_has_none (events.LockGranted grant ∷ xs) = immediate_has_none xs
-immediate_has_none (events.ServiceRequested request ∷ xs) = immediate_has_none xs
-immediate_has_none (events.LockReleased reply ∷ xs) = immediate_has_none xs
-immediate_has_none (events.Came side message ∷ xs) = immediate_has_none xs
-immediate_has_none (events.DeviceCalled call ∷ xs) = immediate_has_none xs
-immediate_has_none (events.Put side frames ∷ xs) = immediate_has_none xs
-immediate_has_none (events.Did origin effect frames ∷ xs) = immediate_has_none xs
-immediate_has_none (events.Took side bytes ∷ xs) = immediate_has_none xs
-immediate_has_none (events.Wrote side ∷ xs) = immediate_has_none xs
+immediate_has_none (_ ∷ xs) = immediate_has_none xs
 
 each_has_none : (waits : Bool) (acts : List Act) (done : List Event) → Each waits acts done → results done ≡ []
 each_has_none waits acts done each = ap results (sym (each_does waits acts done each)) ∙ immediate_has_none done

@@ -34,45 +34,24 @@ writes_after-append side writing (x ∷ xs) ys = writes_after-append side (write
 -- ---- events that neither take nor write
 
 abbrev taking_in : Event → List Event
-taking_in (events.BytesReceived side received_bytes) = []
-taking_in (events.LockGranted grant) = []
-taking_in (events.ServiceRequested request) = []
-taking_in (events.LockReleased reply) = []
-taking_in (events.Came side message) = []
-taking_in (events.DeviceCalled call) = []
-taking_in (events.Put side frames) = []
-taking_in (events.Did origin effect frames) = []
 taking_in (events.Took side bytes) = Took side bytes ∷ []
 taking_in (events.Wrote side) = Wrote side ∷ []
+taking_in _ = []
 
 abbrev takings : List Event → List Event
 takings history = flat_map taking_in history
 
 leave : (side : Side) (writing : Bool) (xs : List Event) → takings xs ≡ [] → writes_after side writing xs ≡ writing
 leave side writing [] e = refl
-leave side writing (events.BytesReceived on received_bytes ∷ xs) e = leave side writing xs e
-leave side writing (events.LockGranted grant ∷ xs) e = leave side writing xs e
-leave side writing (events.ServiceRequested request ∷ xs) e = leave side writing xs e
-leave side writing (events.LockReleased reply ∷ xs) e = leave side writing xs e
-leave side writing (events.Came on message ∷ xs) e = leave side writing xs e
-leave side writing (events.DeviceCalled call ∷ xs) e = leave side writing xs e
-leave side writing (events.Put on frames ∷ xs) e = leave side writing xs e
-leave side writing (events.Did origin effect frames ∷ xs) e = leave side writing xs e
 leave side writing (events.Took on bytes ∷ xs) e = absurd (cc (e))
 leave side writing (events.Wrote on ∷ xs) e = absurd (cc (e))
+leave side writing (_ ∷ xs) e = leave side writing xs e
 
 immediate_take_none : (xs : List Event) → takings (immediate xs) ≡ []
 immediate_take_none [] = refl
-immediate_take_none (events.BytesReceived side received_bytes ∷ xs) = immediate_take_none xs
-immediate_take_none (events.LockGranted grant ∷ xs) = immediate_take_none xs
-immediate_take_none (events.ServiceRequested request ∷ xs) = immediate_take_none xs
-immediate_take_none (events.LockReleased reply ∷ xs) = immediate_take_none xs
-immediate_take_none (events.Came side message ∷ xs) = immediate_take_none xs
-immediate_take_none (events.DeviceCalled call ∷ xs) = immediate_take_none xs
-immediate_take_none (events.Put side frames ∷ xs) = immediate_take_none xs
-immediate_take_none (events.Did origin effect frames ∷ xs) = immediate_take_none xs
 immediate_take_none (events.Took side bytes ∷ xs) = immediate_take_none xs
 immediate_take_none (events.Wrote side ∷ xs) = immediate_take_none xs
+immediate_take_none (_ ∷ xs) = immediate_take_none xs
 
 each_takes_none : (waits : Bool) (acts : List Act) (done : List Event) → Each waits acts done → takings done ≡ []
 each_takes_none waits acts done each = ap takings (sym (each_does waits acts done each)) ∙ immediate_take_none done
@@ -217,14 +196,6 @@ later side x xs (some, more, is) = (x ∷ some, more, ap (λ (z : List Event). x
 -- where a thread writes before these events and no thread after them
 written_in : (side : Side) (xs : List Event) → writes_after side true xs ≡ false → IsWrittenIn side xs
 written_in side [] e = absurd (cc (e))
-written_in side (events.BytesReceived on received_bytes ∷ xs) e = later side _ xs (written_in side xs e)
-written_in side (events.LockGranted grant ∷ xs) e = later side _ xs (written_in side xs e)
-written_in side (events.ServiceRequested request ∷ xs) e = later side _ xs (written_in side xs e)
-written_in side (events.LockReleased reply ∷ xs) e = later side _ xs (written_in side xs e)
-written_in side (events.Came on message ∷ xs) e = later side _ xs (written_in side xs e)
-written_in side (events.DeviceCalled call ∷ xs) e = later side _ xs (written_in side xs e)
-written_in side (events.Put on frames ∷ xs) e = later side _ xs (written_in side xs e)
-written_in side (events.Did origin effect frames ∷ xs) e = later side _ xs (written_in side xs e)
 written_in Sync (events.Took Sync bytes ∷ xs) e = later Sync _ xs (written_in Sync xs e)
 written_in Sync (events.Took Async bytes ∷ xs) e = later Sync _ xs (written_in Sync xs e)
 written_in Async (events.Took Sync bytes ∷ xs) e = later Async _ xs (written_in Async xs e)
@@ -233,6 +204,7 @@ written_in Sync (events.Wrote Sync ∷ xs) e = ([], xs, refl)
 written_in Sync (events.Wrote Async ∷ xs) e = later Sync _ xs (written_in Sync xs e)
 written_in Async (events.Wrote Sync ∷ xs) e = later Async _ xs (written_in Async xs e)
 written_in Async (events.Wrote Async ∷ xs) e = ([], xs, refl)
+written_in side (event ∷ xs) e = later side event xs (written_in side xs e)
 
 taken_then : (side : Side) (writing : Bool) (bytes : List ℕ) (between : List Event) → writes_after side writing (Took side bytes ∷ between) ≡ writes_after side true between
 taken_then Sync writing bytes between = refl
