@@ -11,8 +11,8 @@ use Rattle.psu_messages.specs.declared.need.Need.{Need}
 use Rattle.psu_messages.specs.declared.need.Need.TheVariants.{Turn}
 use Rattle.psu_replies.specs.Reply.{Reply, Done, Answer, Error, Expand, Parked, Held, Later}
 use Rattle.psu_messages.specs.Units.{Source}
-use Rattle.psu_session.specs.Exchange as exchange
-use Rattle.psu_session.specs.Exchange.{effects, frames}
+use Rattle.psu_session.specs.Orders as orders
+use Rattle.psu_session.specs.Orders.{effects, frames}
 use Rattle.psu_session.specs.Events.{Call, call_of, calls}
 use Rattle.psu_session.specs.Phases.{tries, tries_by}
 use Rattle.psu_session.specs.Step.{AreFramed, happened}
@@ -21,7 +21,7 @@ use Rattle.psu_session.specs.Serving.{AdvancesOrder, Puts, Runs}
 module _ {X V : Type 0} {does : X → Effect → X → Type 0} (made : V → Call → V → Type 0) (core : X → Core) (origin : X → Origin) (out : X → List ℕ) (device : X → V) (units : X → ℕ)
     (step : (x y : X) (effect : Effect) → does x effect y → (units y ≡ units x - tries_by (call_of effect)) × (core y ≡ core x) × (origin y ≡ origin x) × Puts (core x) (origin x) effect (out x) (out y) × made (device x) (call_of effect) (device y)) where
   record Through (x : X) (added : List Effect) (y : X) : Type 0 where
-    done : List exchange.Done
+    done : List orders.Done
     are : effects done ≡ added
     framed : AreFramed (answer_size (core x).size) (origin x).id done
     output : out y ≡ out x ++ frames done
@@ -34,7 +34,7 @@ module _ {X V : Type 0} {does : X → Effect → X → Type 0} (made : V → Cal
       let s = step x mid effect d in
       let puts = s.3 in
       let rest = through mid added y more in
-      let first : exchange.Done = record { effect = effect; frames = puts.0 } in
+      let first : orders.Done = record { effect = effect; frames = puts.0 } in
       record {
         done = first ∷ rest.done;
         are = ap (λ (z : List Effect). effect ∷ z) rest.are;

@@ -9,7 +9,7 @@ use Rattle.psu_messages.specs.Relations.{Relations}
 use Rattle.psu_messages.specs.Executions.{Advances, Interruption, Progress, StopsAt, tried}
 use Rattle.psu_messages.specs.Executions.Interruption.{Failed, Stopped, NotBuffered}
 use Rattle.psu_messages.proofs.Going.{behind, tries}
-use Rattle.psu_session.specs.Exchange.{Order}
+use Rattle.psu_session.specs.Orders.{Order}
 use Rattle.psu_session.specs.Events.{Call, call_of}
 use Rattle.psu_session.specs.Serving.{Runs}
 use Rattle.psu_session.specs.Stopping.{CallsAdvancing}

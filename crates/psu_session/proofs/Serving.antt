@@ -7,7 +7,7 @@ use Rattle.psu_hislip.specs.Action.{Act}
 use Rattle.psu_hislip.specs.declared.header.Header.{Header}
 use Rattle.psu_hislip.specs.declared.side.Side.{Side}
 use Rattle.psu_hislip.specs.declared.side.Side.TheVariants.{Sync, Async}
-use Rattle.psu_session.specs.Exchange.{Order}
+use Rattle.psu_session.specs.Orders.{Order}
 use Rattle.psu_session.specs.Credit.{cost, cost_of, held_with}
 use Rattle.psu_session.specs.Events.{Call, Event, calls, calls_in, put, put_by, waits_after, waits_by}
 use Rattle.psu_session.specs.Step.{Does, Each, delivers, puts_any, works_in}

@@ -11,7 +11,7 @@ use Rattle.psu_session.specs.Locking.{kind_of}
 use Rattle.psu_session.specs.Feeding.{IsFed}
 use Rattle.psu_session.specs.Events.{BytesReceived, Call, Event, Came, calls, waits_after}
 use Rattle.psu_session.specs.Credit.{cost, cost_of, held_with}
-use Rattle.psu_session.specs.Exchange.{Order}
+use Rattle.psu_session.specs.Orders.{Order}
 use Rattle.psu_session.specs.Numbers.{number_on, parameter}
 use Rattle.psu_session.specs.Step.{Does, Each, EachReceived, IsLocked, IsMessageReceived, IsReceived, arrived, release_in, works_in}
 use Rattle.psu_session.specs.Serving.{Runs}

@@ -1,7 +1,7 @@
 -- How much a session holds of what it has received and not executed.
 use Rattle.std.specs.Prelude.{ℕ, ◌+◌, List, [], ◌∷◌}
 use Rattle.psu_messages.specs.Units.{size_of}
-use Rattle.psu_session.specs.Exchange.{Order}
+use Rattle.psu_session.specs.Orders.{Order}
 
 -- an item counts as its bytes and 128, so that items without bytes are bounded too
 abbrev pub cost : ℕ → ℕ
@@ -10,10 +10,6 @@ cost bytes = bytes + 128
 -- what a transmission counts as
 abbrev pub cost_of : Order → ℕ
 cost_of order = cost (size_of order.source)
-
-abbrev pub costs : List Order → ℕ
-costs [] = 0
-costs (order ∷ orders) = cost_of order + costs orders
 
 -- what is held once these transmissions are held too
 abbrev pub held_with : List Order → ℕ → ℕ

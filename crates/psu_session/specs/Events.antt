@@ -18,7 +18,6 @@ use Rattle.psu_tree.specs.declared.command.Request.{Request}
 use Rattle.psu_replies.specs.Reply.{Reply}
 use Rattle.psu_messages.specs.Effects as messages
 use Rattle.psu_messages.specs.Effects.{Effect}
-use Rattle.psu_session.specs.Exchanged as exchange
 
 -- a call of the device, with its reply
 pub data Call : Type 0 where
@@ -71,16 +70,11 @@ pub data Event : Type 0 where
 -- ---- calls of the device
 
 abbrev pub calls_in : Event → List Call
-calls_in (BytesReceived side received_bytes) = []
-calls_in (LockGranted grant) = []
 calls_in (ServiceRequested request) = Fetched request ∷ []
 calls_in (LockReleased reply) = Released reply ∷ []
-calls_in (Came side message) = []
 calls_in (DeviceCalled call) = call ∷ []
-calls_in (Put side frames) = []
 calls_in (Did origin effect frames) = call_of effect ∷ []
-calls_in (Took side bytes) = []
-calls_in (Wrote side) = []
+calls_in _ = []
 
 abbrev pub calls : List Event → List Call
 calls history = flat_map calls_in history
@@ -93,29 +87,14 @@ waits_if waits None = true
 waits_if waits (Some header) = waits
 
 abbrev pub waits_by_call : Bool → Call → Bool
-waits_by_call waits (Executed request reply) = waits
-waits_by_call waits (Settled reply) = waits
-waits_by_call waits Sent = waits
-waits_by_call waits Delivered = waits
-waits_by_call waits (Queried byte) = waits
-waits_by_call waits (Fetched request) = waits
 waits_by_call waits (Locked kind timeout reply) = waits_if waits (lock_response reply)
-waits_by_call waits (Released reply) = waits
-waits_by_call waits (Informed info) = waits
-waits_by_call waits Cleared = waits
+waits_by_call waits _ = waits
 
 -- whether a lock request waits after an event
 abbrev pub waits_by : Bool → Event → Bool
-waits_by waits (BytesReceived side received_bytes) = waits
 waits_by waits (LockGranted grant) = false
-waits_by waits (ServiceRequested request) = waits
-waits_by waits (LockReleased reply) = waits
-waits_by waits (Came side message) = waits
 waits_by waits (DeviceCalled call) = waits_by_call waits call
-waits_by waits (Put side frames) = waits
-waits_by waits (Did origin effect frames) = waits
-waits_by waits (Took side bytes) = waits
-waits_by waits (Wrote side) = waits
+waits_by waits _ = waits
 
 -- and after events, one after another
 abbrev pub waits_after : Bool → List Event → Bool
@@ -141,71 +120,12 @@ service_request (Some byte) = Some (header_of AsyncServiceRequest byte 0 0)
 
 -- what an event appends to the output of a connection
 abbrev pub put_by : Side → Event → List ℕ
-put_by side (BytesReceived on received_bytes) = []
 put_by side (LockGranted grant) = if_same side Async (bytes_of_any (lock_response (Ok grant)))
 put_by side (ServiceRequested request) = if_same side Async (bytes_of_any (service_request request))
 put_by side (LockReleased reply) = if_same side Async (header_bytes (release_response reply))
-put_by side (Came on message) = []
-put_by side (DeviceCalled call) = []
 put_by side (Put on frames) = if_same side on frames
 put_by side (Did origin effect frames) = if_same side Sync frames
-put_by side (Took on bytes) = []
-put_by side (Wrote on) = []
+put_by side _ = []
 
 abbrev pub put : Side → List Event → List ℕ
 put side history = flat_map (put_by side) history
-
--- what is taken from the output of a connection
-abbrev pub taken_by : Side → Event → List ℕ
-taken_by side (BytesReceived on received_bytes) = []
-taken_by side (LockGranted grant) = []
-taken_by side (ServiceRequested request) = []
-taken_by side (LockReleased reply) = []
-taken_by side (Came on message) = []
-taken_by side (DeviceCalled call) = []
-taken_by side (Put on frames) = []
-taken_by side (Did origin effect frames) = []
-taken_by side (Took on bytes) = if_same side on bytes
-taken_by side (Wrote on) = []
-
-abbrev pub taken : Side → List Event → List ℕ
-taken side history = flat_map (taken_by side) history
-
--- ---- received bytes
-
-abbrev pub bytes_received_by : Side → Event → List ℕ
-bytes_received_by side (BytesReceived on received_bytes) = if_same side on received_bytes
-bytes_received_by side (LockGranted grant) = []
-bytes_received_by side (ServiceRequested request) = []
-bytes_received_by side (LockReleased reply) = []
-bytes_received_by side (Came on message) = []
-bytes_received_by side (DeviceCalled call) = []
-bytes_received_by side (Put on frames) = []
-bytes_received_by side (Did origin effect frames) = []
-bytes_received_by side (Took on bytes) = []
-bytes_received_by side (Wrote on) = []
-
--- the bytes of a channel's stream
-abbrev pub bytes_received : Side → List Event → List ℕ
-bytes_received side history = flat_map (bytes_received_by side) history
-
--- ---- the events as the laws of an exchange see them
-
-abbrev pub put_as : Side → List ℕ → List exchange.ExchangeEvent
-put_as Sync frames = exchange.Replied frames ∷ []
-put_as Async frames = []
-
-abbrev pub exchange_view : Event → List exchange.ExchangeEvent
-exchange_view (BytesReceived side received_bytes) = []
-exchange_view (LockGranted grant) = []
-exchange_view (ServiceRequested request) = []
-exchange_view (LockReleased reply) = []
-exchange_view (Came side message) = exchange.Came side message ∷ []
-exchange_view (DeviceCalled call) = []
-exchange_view (Put side frames) = put_as side frames
-exchange_view (Did origin effect frames) = exchange.Did origin effect frames ∷ []
-exchange_view (Took side bytes) = []
-exchange_view (Wrote side) = []
-
-abbrev pub exchange_history : List Event → List exchange.ExchangeEvent
-exchange_history history = flat_map exchange_view history

@@ -1,3 +1,4 @@
+pub mod Orders
 pub mod Events
 pub mod Phases
 pub mod State
@@ -5,21 +6,10 @@ pub mod Step
 pub mod Shown
 pub mod Serving
 pub mod Proceeding
-pub mod History
 pub mod Releasing
 pub mod Feeding
-pub mod Served
-pub mod Requests
-pub mod Releases
-pub mod Waiting
-pub mod Writing
 pub mod Credit
 pub mod Holding
-pub mod Cleared
-pub mod Exchanged
-pub mod Exchange
-pub mod Answered
-pub mod SomeExchange
 pub mod Numbers
 pub mod Locking
 pub mod Stopping

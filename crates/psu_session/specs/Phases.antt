@@ -2,7 +2,7 @@
 -- as a message that a client sends and then hangs up: this project's profile.
 use Rattle.std.specs.Prelude.{ℕ, ◌+◌, ◌==◌, if◌then◌else◌, Bool, true, false, List, [], ◌∷◌}
 use Rattle.psu_messages.specs.declared.need.Need.TheVariants.{Flush, Lock, Room, Turn}
-use Rattle.psu_session.specs.Events.{Call, Executed, Settled, Sent, Delivered, Queried, Fetched, Locked, Released, Informed, Cleared}
+use Rattle.psu_session.specs.Events.{Call, Executed, Settled}
 use Rattle.psu_session.specs.declared.phase.EndCause.TheVariants.{Disconnected}
 use Rattle.psu_session.specs.declared.phase.Phase.{Phase}
 use Rattle.psu_session.specs.declared.phase.Phase.TheVariants.{Open, Ending, Over}
@@ -26,14 +26,7 @@ disconnected (Over cause) = Over cause
 abbrev pub tries_by : Call → ℕ
 tries_by (Executed request reply) = 1
 tries_by (Settled reply) = 1
-tries_by Sent = 0
-tries_by Delivered = 0
-tries_by (Queried byte) = 0
-tries_by (Fetched request) = 0
-tries_by (Locked kind timeout reply) = 0
-tries_by (Released reply) = 0
-tries_by (Informed info) = 0
-tries_by Cleared = 0
+tries_by _ = 0
 
 -- how many units calls try
 abbrev pub tries : List Call → ℕ

@@ -8,7 +8,7 @@ use Rattle.psu_messages.specs.Executions.{Progress}
 use Rattle.psu_messages.specs.Effects.{Effect, IsTry, needs}
 use Rattle.psu_messages.specs.declared.need.Need.{Need}
 use Rattle.psu_messages.specs.declared.need.Need.TheVariants.{Flush, Lock, Room, Turn}
-use Rattle.psu_session.specs.Exchange.{Order}
+use Rattle.psu_session.specs.Orders.{Order}
 use Rattle.psu_session.specs.Credit.{cost}
 use Rattle.psu_session.specs.Events.{Call, Event, LockReleased, Released, call_of, calls}
 use Rattle.psu_session.specs.Phases.{phase_after, tries, units_in}

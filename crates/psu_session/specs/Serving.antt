@@ -5,7 +5,7 @@ use Rattle.psu_hislip.specs.Core.{Core}
 use Rattle.psu_hislip.specs.declared.action.Origin.{Origin}
 use Rattle.psu_messages.specs.Executions.{Reaches, Progress}
 use Rattle.psu_messages.specs.Effects.{Effect}
-use Rattle.psu_session.specs.Exchange.{Done, IsFramed, Order, effects, frames}
+use Rattle.psu_session.specs.Orders.{Done, IsFramed, Order, effects, frames}
 use Rattle.psu_session.specs.Events.{Call, Event, calls}
 use Rattle.psu_session.specs.Phases.{tries}
 use Rattle.psu_session.specs.Step.{AreFramed, happened}

@@ -1,7 +1,7 @@
 -- The code's values as the definitions see them.
 use Rattle.std.specs.Prelude.{Option, Some, None, List, map}
 use Rattle.psu_messages.specs.Units.{source_of}
-use Rattle.psu_session.specs.Exchange as exchange
+use Rattle.psu_session.specs.Orders as orders
 use Rattle.psu_session.specs.State as state
 use Rattle.psu_session.specs.declared.queue.Order.{Order}
 use Rattle.psu_session.specs.declared.queue.Release.{Release}
@@ -10,7 +10,7 @@ use Rattle.psu_session.specs.declared.queue.Work.TheVariants as work
 use Rattle.psu_session.specs.declared.queue.Running.{Running}
 use Rattle.psu_session.specs.declared.parts.Parts.{Parts}
 
-abbrev pub order_of : Order → exchange.Order
+abbrev pub order_of : Order → orders.Order
 order_of order = record { origin = order.origin; source = source_of order.input }
 
 abbrev pub work_of : Work → state.Work

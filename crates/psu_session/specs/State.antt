@@ -7,7 +7,7 @@ use Rattle.psu_hislip.specs.declared.side.Side.{Side}
 use Rattle.psu_hislip.specs.declared.side.Side.TheVariants.{Sync, Async}
 use Rattle.psu_session.specs.Numbers.{is_ahead}
 use Rattle.psu_messages.specs.Executions.{Progress}
-use Rattle.psu_session.specs.Exchange.{Order}
+use Rattle.psu_session.specs.Orders.{Order}
 use Rattle.psu_session.specs.Credit.{cost, held_with}
 use Rattle.psu_session.specs.Events.{Event, put, waits_after}
 use Rattle.psu_session.specs.declared.phase.EndCause.TheVariants.{Memory}

@@ -25,7 +25,7 @@ use Rattle.psu_session.specs.Locking.{kind_of}
 use Rattle.psu_session.specs.Numbers.{clears, number_on, parameter}
 use Rattle.psu_messages.specs.Executions.{Reaches, Progress, IsOver, beginning}
 use Rattle.psu_messages.specs.Effects.{Effect}
-use Rattle.psu_session.specs.Exchange.{Done, IsFramed, Order, effects, frames, order_in}
+use Rattle.psu_session.specs.Orders.{Done, IsFramed, Order, effects, frames, order_in}
 use Rattle.psu_session.specs.Credit.{cost, cost_of}
 use Rattle.psu_session.specs.Events.{Delivered, Queried, Informed, Locked, Cleared, Event, BytesReceived, LockGranted, ServiceRequested, LockReleased, Came, DeviceCalled, Put, Did, Took, Wrote, waits_after}
 use Rattle.psu_session.specs.State.{Running, Release, Start, SessionState, Work, Execute, ReleaseLock, added, channel_of, fresh, numbered, output, settled, with_channel, with_core, with_held, with_output, with_owed, with_work, with_writes, writes}

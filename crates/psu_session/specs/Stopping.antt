@@ -8,7 +8,7 @@ use Rattle.psu_hislip.specs.declared.side.Side.{Side}
 use Rattle.psu_messages.specs.Effects.{Effect}
 use Rattle.psu_messages.specs.Executions.{Progress, Reaches}
 use Rattle.psu_session.specs.Events.{Call, Event, call_of, calls}
-use Rattle.psu_session.specs.Exchange.{Order}
+use Rattle.psu_session.specs.Orders.{Order}
 use Rattle.psu_session.specs.Holding.{IsBounded}
 use Rattle.psu_session.specs.Proceeding.{IsNext}
 use Rattle.psu_session.specs.Serving.{Runs}

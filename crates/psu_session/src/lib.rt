@@ -9,7 +9,6 @@ mod device;
 mod execution;
 mod feeding;
 mod filling;
-mod laws;
 mod limits;
 mod locking;
 mod notifying;
@@ -27,12 +26,6 @@ mod taking;
 
 use credit::Credit;
 pub use device::Device;
-pub use laws::{
-    a_session_that_is_answered, each_clear_is_acknowledged_last, each_item_is_counted,
-    each_release_is_done, each_request_is_served, each_session_answers_in_order,
-    each_take_is_written, each_wait_is_answered, from_bytes_to_bytes, histories_are_exchanges,
-    histories_extend,
-};
 pub use opening::OpeningError;
 use parts::Parts;
 pub use phase::{EndCause, Phase};

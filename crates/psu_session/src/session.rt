@@ -5,11 +5,10 @@ ghost use Rattle.psu_hislip.specs.Frame.{header_of};
 ghost use Rattle.psu_hislip.specs.Stream.{IsStream, Received};
 ghost use Rattle.psu_hislip.specs.declared.message_type.MessageType.TheVariants.{InitializeResponse};
 ghost use Rattle.psu_session.specs.Events.{Took, Wrote};
-ghost use Rattle.psu_session.specs.History.{HasExchangeHistory};
 ghost use Rattle.psu_session.specs.Holding.{IsBounded, IsFull};
 ghost use Rattle.psu_session.specs.Phases.{disconnected, phase_ended};
 ghost use Rattle.psu_session.specs.Releasing.{due_at};
-ghost use Rattle.psu_session.specs.Step.{IsServiceRequested, IsReceived, IsTaken, IsTicked, IsLockGranted, IsWritten};
+ghost use Rattle.psu_session.specs.Step.{IsReachable, IsServiceRequested, IsReceived, IsTaken, IsTicked, IsLockGranted, IsWritten};
 ghost use Rattle.psu_session.specs.Proceeding.{Awaits, PassesTo};
 ghost use Rattle.psu_session.specs.Serving.{Appends, PerformsStep};
 ghost use Rattle.psu_session.specs.Stopping.{StopsNext, StopsReceiving};
@@ -18,7 +17,6 @@ ghost use Rattle.psu_session.specs.declared.opening.OpeningError.TheVariants.{No
 ghost use Rattle.psu_session.specs.declared.phase.EndCause.TheVariants.{Memory};
 ghost use Rattle.psu_session.specs.declared.phase.Phase.TheVariants.{Open, Over};
 
-use crate::laws::histories_are_exchanges;
 use crate::opening::{OpeningError, opened};
 use crate::{Device, EndCause, Parts, Phase, Proceeded};
 use psu_hislip::{Header, Side};
@@ -76,13 +74,11 @@ impl HislipSession {
         })
     }
 
-    /// Returns its phase. Until it is over a history leads to its state, and this history is an exchange of its two
-    /// streams of bytes.
+    /// Returns its phase. Until it is over a history leads to its state.
     pub fn phase(&self) -> Phase
         ensures is { result ≡ self.now.phase }
-        ensures history { phase_ended self.now.phase ≡ false → HasExchangeHistory self.now.state }
+        ensures history { phase_ended self.now.phase ≡ false → IsReachable self.now.state }
     {
-        histories_are_exchanges();
         self.phase
     }
 

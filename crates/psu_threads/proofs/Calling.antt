@@ -5,7 +5,7 @@ use Rattle.psu_turn.specs.declared.numbered.Numbered.{Numbered}
 use Rattle.psu_turn.specs.History.{numbered}
 use Rattle.psu_turn.specs.Seats.{SeatCalls, Sight}
 use Rattle.psu_bench.specs.Opened.{HasHistory}
-use Rattle.psu_threads.specs.Called.{Adds, AreCalls, AreEntries, CallsUnder, IsCalled, MayNotify, SessionSeat}
+use Rattle.psu_threads.specs.Called.{Adds, AreAllEntries, AreCalls, AreEntries, CallsUnder, IsCalled, MayNotify, SessionSeat}
 use Rattle.psu_exec.specs.Device.{State}
 use Rattle.psu_exec.specs.Calls.{Entry}
 use Rattle.psu_bench.specs.Calls.{AllowsOn}
@@ -77,3 +77,9 @@ module _ {honest : Type 0} where
         are = (first.0, later.entries, refl, first.1, later.are);
         adds = adds_both x.seat mid.seat y.seat first.0 later.entries first.2 later.adds;
       }
+
+-- the entries of both are the entries of the whole
+pub both_are : (session : ℕ) (first later : List Call) (of_first of_later : List Entry) → AreAllEntries session first of_first → AreAllEntries session later of_later → AreAllEntries session (first ++ later) (of_first ++ of_later)
+both_are session [] later of_first of_later none are = subst (λ (z : List Entry). AreAllEntries session later (z ++ of_later)) (sym none) are
+both_are session (call ∷ first) later of_first of_later (one, more, is, are, others) more_are =
+    (one, more ++ of_later, ap (λ (z : List Entry). z ++ of_later) is ∙ append_assoc one more of_later, are, both_are session first later more of_later others more_are)

@@ -1,4 +1,2 @@
 pub mod Calling
-pub mod Recording
-pub mod Responses
 pub mod Seating

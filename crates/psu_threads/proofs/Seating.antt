@@ -21,8 +21,7 @@ use Rattle.psu_session_io.specs.Extending.{Extends, ExtendsBy}
 use Rattle.psu_session_io.specs.Shared.{Shared}
 use Rattle.psu_threads.specs.Called.{AreAllEntries, AreCalls, CallsUnder, SessionSeat}
 use Rattle.psu_threads.specs.Seated.{HasBegun, IsSeated, MayBeClosed, under}
-use Rattle.psu_threads.proofs.Calling.{all_called}
-use Rattle.psu_threads.proofs.Recording.{both_are}
+use Rattle.psu_threads.proofs.Calling.{all_called, both_are}
 
 -- a session that has just begun, with the seat that has opened it
 pub seated_new : (honest : Type 0) (session : ℕ) (opening : List ℕ) (s : Shared) (seat : Sight State Entry) → HasBegun session opening s.phase s.state → HasOpened honest session seat → IsSeated honest session false s seat

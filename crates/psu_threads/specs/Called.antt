@@ -24,18 +24,23 @@ module _ {S E : Type 0} (allows : S → E → S → Type 0) where
 
 -- ---- calls of a session
 
+-- The entry of a call of a session, with its reply: the first of these holds of it, or the second where a unit is tried, since
+-- notifications may follow that.
+abbrev pub IsEntryOf : (Is Tried : Entry → Type 0) → ℕ → Call → Type 0
+IsEntryOf Is Tried session (Executed request reply) = Tried (Entry.Executed session request reply)
+IsEntryOf Is Tried session (Settled reply) = Tried (Entry.Settled session reply)
+IsEntryOf Is Tried session Sent = (requesting : List ℕ) × (work : Bool) × Is (Entry.Sent session requesting work)
+IsEntryOf Is Tried session Delivered = Is (Entry.Delivered session)
+IsEntryOf Is Tried session (Queried byte) = Is (Entry.Queried session byte)
+IsEntryOf Is Tried session (Fetched request) = Is (Entry.Fetched session request)
+IsEntryOf Is Tried session (Locked kind timeout reply) = (now : ℕ) × Is (Entry.Locked session kind now timeout reply)
+IsEntryOf Is Tried session (Released reply) = (granted : List ℕ) × Is (Entry.Released session (freed_to granted reply))
+IsEntryOf Is Tried session (Informed info) = Is (Entry.Informed info)
+IsEntryOf Is Tried session Cleared = Is (Entry.Cleared session)
+
 -- The seat has made this call of a session. Its reply is what the one legal history says.
 abbrev pub IsCalled : Type 0 → ℕ → Sight State Entry → Call → Sight State Entry → Type 0
-IsCalled honest session old (Executed request reply) new = (caused : Option Caused) × Causes honest old (Entry.Executed session request reply) caused new
-IsCalled honest session old (Settled reply) new = (caused : Option Caused) × Causes honest old (Entry.Settled session reply) caused new
-IsCalled honest session old Sent new = (requesting : List ℕ) × (work : Bool) × SeatCalls (AllowsOn honest) old (Entry.Sent session requesting work) new
-IsCalled honest session old Delivered new = SeatCalls (AllowsOn honest) old (Entry.Delivered session) new
-IsCalled honest session old (Queried byte) new = SeatCalls (AllowsOn honest) old (Entry.Queried session byte) new
-IsCalled honest session old (Fetched request) new = SeatCalls (AllowsOn honest) old (Entry.Fetched session request) new
-IsCalled honest session old (Locked kind timeout reply) new = (now : ℕ) × SeatCalls (AllowsOn honest) old (Entry.Locked session kind now timeout reply) new
-IsCalled honest session old (Released reply) new = (granted : List ℕ) × SeatCalls (AllowsOn honest) old (Entry.Released session (freed_to granted reply)) new
-IsCalled honest session old (Informed info) new = SeatCalls (AllowsOn honest) old (Entry.Informed info) new
-IsCalled honest session old Cleared new = SeatCalls (AllowsOn honest) old (Entry.Cleared session) new
+IsCalled honest session old call new = IsEntryOf (λ entry. SeatCalls (AllowsOn honest) old entry new) (λ entry. (caused : Option Caused) × Causes honest old entry caused new) session call
 
 -- A session's device, as the session calls it: the session's number, and the seat under which it is called.
 pub record SessionSeat : Type 0 where
@@ -54,16 +59,7 @@ MayNotify entry entries = (entries ≡ entry ∷ []) ⊎ ((requesting : List ℕ
 
 -- the entries of the history for a call of a session, with its reply
 abbrev pub AreEntries : ℕ → Call → List Entry → Type 0
-AreEntries session (Executed request reply) entries = MayNotify (Entry.Executed session request reply) entries
-AreEntries session (Settled reply) entries = MayNotify (Entry.Settled session reply) entries
-AreEntries session Sent entries = (requesting : List ℕ) × (work : Bool) × (entries ≡ Entry.Sent session requesting work ∷ [])
-AreEntries session Delivered entries = entries ≡ Entry.Delivered session ∷ []
-AreEntries session (Queried byte) entries = entries ≡ Entry.Queried session byte ∷ []
-AreEntries session (Fetched request) entries = entries ≡ Entry.Fetched session request ∷ []
-AreEntries session (Locked kind timeout reply) entries = (now : ℕ) × (entries ≡ Entry.Locked session kind now timeout reply ∷ [])
-AreEntries session (Released reply) entries = (granted : List ℕ) × (entries ≡ Entry.Released session (freed_to granted reply) ∷ [])
-AreEntries session (Informed info) entries = entries ≡ Entry.Informed info ∷ []
-AreEntries session Cleared entries = entries ≡ Entry.Cleared session ∷ []
+AreEntries session call entries = IsEntryOf (λ entry. entries ≡ entry ∷ []) (λ entry. MayNotify entry entries) session call
 
 -- the entries for calls of a session, in their order, and no others
 abbrev pub AreAllEntries : ℕ → List Call → List Entry → Type 0

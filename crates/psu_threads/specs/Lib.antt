@@ -1,4 +1,3 @@
 pub mod Called
 pub mod Seated
 pub mod Rounds
-pub mod Recorded

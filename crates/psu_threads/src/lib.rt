@@ -6,7 +6,6 @@
 mod executing;
 mod flusher_signal;
 mod flushing;
-mod laws;
 mod operator;
 mod registry;
 mod reporter;
@@ -19,7 +18,6 @@ mod shared_device;
 pub use executing::SILENCE_SECONDS;
 pub use flusher_signal::FlusherSignal;
 pub use flushing::Flusher;
-pub use laws::each_response_is_of_the_history;
 pub use operator::{Operator, write_lines};
 pub use registry::Registry;
 pub use reporter::{HeldRegistry, Reporter};

@@ -6,10 +6,8 @@ ghost use Rattle.psu_session.specs.declared.phase.Phase.TheVariants.{Open};
 ghost use Rattle.psu_session_io.specs.Ending.{Drains};
 ghost use Rattle.psu_session_io.specs.Sharing.{EndsExecuting, EndsNotified, EndsReceiving, EndsResponding, Executes, Notifies, Receives, Responds};
 ghost use Rattle.psu_threads.specs.Called.{CallsUnder};
-ghost use Rattle.psu_threads.specs.Recorded.{IsRecorded};
-ghost use Rattle.psu_threads.specs.Seated.{ClosesUnder, DoesUnder, HasBegun, with_shared};
+ghost use Rattle.psu_threads.specs.Seated.{ClosesUnder, DoesUnder, HasBegun, IsSeated, with_shared};
 
-use crate::laws::each_response_is_of_the_history;
 use crate::server::Server;
 use crate::shared_device::SharedDevice;
 use psu_bench::{Access, Bench, Caller, Granted, OpenedSession, Seat, ServedDisk};
@@ -219,13 +217,11 @@ impl<D: ServedDisk> Locked for SeatedSession<D> {
     ghost shared = { λ s. s.shared };
 
     /// Returns the number of the session. There is one legal history of the device that has exactly the session's own
-    /// calls under the number of its seat, in the session's order, and each response that the client is sent is formed
-    /// from the replies there.
+    /// calls under the number of its seat, in the session's order.
     fn number(&self) -> Session
         ensures number { result ≡ self.now.number }
-        ensures recorded { (seat : _) × (self.now.seat ≡ Some seat) × IsRecorded D.honest self.now.number self.now.closed self.now.shared seat }
+        ensures seated { (seat : _) × (self.now.seat ≡ Some seat) × IsSeated D.honest self.now.number self.now.closed self.now.shared seat }
     {
-        each_response_is_of_the_history::<D>();
         self.number
     }
 

@@ -1,6 +1,6 @@
 use Rattle.std.proofs.Common.{◌≡◌, ◌-◌, ◌∙◌, Some, None, ap, refl, subst, sym}
 use Rattle.psu_session.specs.Credit.{cost_of}
-use Rattle.psu_session.specs.Exchange.{Order}
+use Rattle.psu_session.specs.Orders.{Order}
 use Rattle.psu_session.specs.Proceeding.{Counts, IsNext, LetsIn}
 use Rattle.psu_session.specs.Serving.{PerformsStep}
 use Rattle.psu_session.specs.Shown.{one_running, state_of}

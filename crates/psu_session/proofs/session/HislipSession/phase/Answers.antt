@@ -5,6 +5,4 @@ use Rattle.psu_session.specs.State.{Shown}
 use Rattle.psu_session.proofs.session.HislipSession.phase.Goals as goal
 
 pub returns-clause-history : goal.returns-clause-history
-returns-clause-history c = λ not_over.
-    let reached = subst (λ (z : Shown). phase_ended z.phase ≡ false → IsReachable z.state) c.self.view_is (λ e. (c.self.invariant e).0) not_over in
-    (reached.0, reached.1, reached.2, reached.3, c.histories_are_exchanges.ensures reached.0 reached.1 c.args.self.now.state reached.3)
+returns-clause-history c = subst (λ (z : Shown). phase_ended z.phase ≡ false → IsReachable z.state) c.self.view_is (λ e. (c.self.invariant e).0)

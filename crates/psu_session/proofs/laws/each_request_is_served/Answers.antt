@@ -1,5 +1,0 @@
-use Rattle.psu_session.proofs.Requests.{requests_are_served}
-use Rattle.psu_session.proofs.laws.each_request_is_served.Goals as goal
-
-pub returns : goal.returns
-returns c = requests_are_served

@@ -1,0 +1,13 @@
+pub mod Exchanged
+pub mod Exchange
+pub mod Views
+pub mod Answered
+pub mod History
+pub mod Served
+pub mod Requests
+pub mod Releases
+pub mod Waiting
+pub mod Writing
+pub mod Holding
+pub mod Cleared
+pub mod SomeExchange
