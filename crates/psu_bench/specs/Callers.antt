@@ -89,6 +89,6 @@ Causes honest old entry caused new = (mid : Sight State Entry) × SeatCalls (All
 -- The seat made a round of the flusher. What the end of its job has caused is what the notifications say that were then
 -- taken.
 abbrev pub CausesByRound : {D : Type 0} (G : Ghosts D) → Result CausedByJob NoJob → Sight State Entry → Sight State Entry → Type 0
-CausesByRound G (Ok caused) old new = (mid : Sight State Entry) × (work : Bool)
-    × HasRun Global G caused.ending caused.over old mid × SeatCalls (AllowsOn (Ghosts.honest G)) mid (Notified caused.requesting work) new
+CausesByRound G (Ok caused) old new = (mid : Sight State Entry)
+    × HasRun Global G caused.ending caused.over old mid × SeatCalls (AllowsOn (Ghosts.honest G)) mid (Notified caused.requesting caused.has_work) new
 CausesByRound G (Err none) old new = SeatCalls (AllowsOn (Ghosts.honest G)) old (Took (none_of none)) new

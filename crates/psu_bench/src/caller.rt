@@ -211,6 +211,7 @@ impl<'b, D: ServedDisk> Caller<'b, D> {
             ending,
             over,
             requesting: notifications.requesting,
+            has_work: notifications.has_work,
             duty: CannotDrop::begin(),
         })
     }

@@ -45,11 +45,12 @@ impl Caused {
 }
 
 /// How a job ended, and what that has caused for threads other than the flusher: waits are over, and sessions request
-/// service. Whether there is more to flush the flusher finds out itself, as it takes the next job.
+/// service. It says too whether there was then more to flush.
 pub struct CausedByJob {
     pub(crate) ending: JobEnding,
     pub(crate) over: Sessions,
     pub(crate) requesting: Sessions,
+    pub(crate) has_work: bool,
     pub(crate) duty: CannotDrop,
 }
 
@@ -61,6 +62,13 @@ impl CausedByJob {
         self.ending
     }
 
+    /// Whether there was more to flush once it had ended.
+    pub fn has_work(&self) -> bool
+        ensures { result ≡ self.now.has_work }
+    {
+        self.has_work
+    }
+
     /// Reports it to the other threads: each part of it once, and nothing else.
     pub fn report<O: Others>(self, others: &mut O)
         ensures { Reports O.tells others.old (reports_of_job self) others.new }
@@ -69,6 +77,7 @@ impl CausedByJob {
             ending: _,
             over,
             requesting,
+            has_work: _,
             duty,
         } = self;
         duty.end();

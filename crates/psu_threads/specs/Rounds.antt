@@ -1,5 +1,5 @@
 -- What the flusher notes of a round, and how long it sleeps after it at most.
-use Rattle.std.specs.Prelude.{◌≡◌, ℕ, Option, Some, None, Result, Ok, Err}
+use Rattle.std.specs.Prelude.{◌≡◌, ℕ, Bool, true, false, Option, Some, None, Result, Ok, Err}
 use Rattle.psu_exec.specs.declared.job.NoJob.{NoJob}
 use Rattle.psu_exec.specs.declared.job.NoJob.TheVariants.{Nothing, Memory}
 use Rattle.psu_bench.specs.Lines.{condition_shown}
@@ -11,12 +11,13 @@ use Rattle.psu_bench.specs.declared.flushing.JobEnding.{JobEnding}
 use Rattle.psu_bench.specs.declared.flushing.JobEnding.TheVariants as ending
 use Rattle.psu_bench.specs.declared.reopenings.Reopenings.{Reopenings}
 
--- how long the flusher sleeps at most after a job that ended so, in milliseconds: not at all where more may be stored at
--- once, else a second
-abbrev pub pause_after : JobEnding → ℕ
-pause_after ending.Stored = 0
-pause_after ending.Reopened = 0
-pause_after _ = 1000
+-- How long the flusher sleeps at most after a job that ended so, in milliseconds: not at all where more is to be flushed, a
+-- second where it did not go well, and until it is woken where all is stored.
+abbrev pub pause_after : JobEnding → Bool → Option ℕ
+pause_after ending.Stored false = None
+pause_after ending.Stored true = Some 0
+pause_after ending.Reopened has_work = Some 0
+pause_after _ has_work = Some 1000
 
 -- the condition that was shown last, after one that may be shown
 abbrev pub shown_last : ReportedCondition → Option ReportedCondition → ReportedCondition
@@ -37,7 +38,7 @@ pause_without_job none = None
 -- after it at most.
 abbrev pub IsNoted : Result CausedByJob NoJob → Option ℕ → ReportedCondition → Reopenings → ReportedCondition → Reopenings → Type 0
 IsNoted (Ok caused) pause condition reopenings condition' reopenings' =
-    (pause ≡ Some (pause_after caused.ending)) × (condition' ≡ shown_last condition (condition_shown caused.ending))
+    (pause ≡ pause_after caused.ending caused.has_work) × (condition' ≡ shown_last condition (condition_shown caused.ending))
     × ((now : ℕ) × (reopenings' ≡ after_job reopenings caused.ending now))
 IsNoted (Err none) pause condition reopenings condition' reopenings' =
     (pause ≡ pause_without_job none) × (condition' ≡ shown_without_job condition none) × (reopenings' ≡ reopenings)

@@ -1,5 +1,5 @@
 -- A session, and the seat under which it calls the device, as they are kept together under the session's lock.
-use Rattle.std.specs.Prelude.{◌≡◌, ℕ, Bool, true, false, Option, Some, List, [], ◌∷◌, ◌++◌}
+use Rattle.std.specs.Prelude.{◌≡◌, ℕ, Bool, true, false, Some, List, [], ◌∷◌, ◌++◌}
 use Rattle.psu_hislip.specs.Channel.{Fed}
 use Rattle.psu_hislip.specs.Stream.{Received}
 use Rattle.psu_exec.specs.Device.{State}
@@ -21,7 +21,7 @@ use Rattle.psu_threads.specs.Called.{AreAllEntries, SessionSeat}
 pub record Seated : Type 0 where
   pub number : ℕ
   pub shared : Shared
-  pub seat : Option (Sight State Entry)
+  pub seat : Sight State Entry
   pub closed : Bool
 
 -- the entry of the closing, where the device has closed a session; it is over then
@@ -69,11 +69,9 @@ under session seat = record { session = session; seat = seat }
 
 -- This was done to the session, and to the device under its seat.
 pub record DoesUnder (Does : Shared → SessionSeat → Shared → SessionSeat → Type 0) (old new : Seated) : Type 0 where
-  pub before : Sight State Entry
-  pub had : old.seat ≡ Some before
   pub after : SessionSeat
-  pub has : new.seat ≡ Some after.seat
-  pub does : Does old.shared (under old.number before) new.shared after
+  pub has : new.seat ≡ after.seat
+  pub does : Does old.shared (under old.number old.seat) new.shared after
   pub rest : new ≡ record old { shared = new.shared; seat = new.seat }
 
 -- the session has changed, and the device was not called
@@ -81,9 +79,5 @@ abbrev pub with_shared : Seated → Shared → Seated
 with_shared s shared = record s { shared = shared }
 
 -- The device closed the session, under its seat. The locks of these sessions were then granted.
-pub record ClosesUnder (honest : Type 0) (granted : List ℕ) (old new : Seated) : Type 0 where
-  pub before : Sight State Entry
-  pub had : old.seat ≡ Some before
-  pub after : Sight State Entry
-  pub has : new.seat ≡ Some after
-  pub closed : SeatCalls (AllowsOn honest) before (Entry.Closed old.number granted) after
+abbrev pub ClosesUnder : Type 0 → List ℕ → Seated → Seated → Type 0
+ClosesUnder honest granted old new = SeatCalls (AllowsOn honest) old.seat (Entry.Closed old.number granted) new.seat

@@ -20,13 +20,15 @@ use std::sync::Wait;
 /// flushed before.
 const RETRY_PAUSE: u64 = 1000;
 
-// Returns how long the flusher sleeps at most after a job, in milliseconds.
-fn pause_after(ending: JobEnding) -> u64
-    ensures { result ≡ pause_after ending }
+// Returns how long the flusher sleeps at most after a job that ended so, in milliseconds; none where it sleeps until there
+// is something to do, since nothing more was to be flushed.
+fn pause_after(ending: JobEnding, has_work: bool) -> Option<u64>
+    ensures { result ≡ pause_after ending has_work }
 {
     match ending {
-        JobEnding::Stored | JobEnding::Reopened => 0,
-        JobEnding::Broken | JobEnding::Worn | JobEnding::OutOfMemory => RETRY_PAUSE,
+        JobEnding::Stored if !has_work => None,
+        JobEnding::Stored | JobEnding::Reopened => Some(0),
+        JobEnding::Broken | JobEnding::Worn | JobEnding::OutOfMemory => Some(RETRY_PAUSE),
     }
 }
 
@@ -117,13 +119,14 @@ impl<'a, 'b, D: ServedDisk> Flusher<'a, 'b, D> {
         match self.caller.round(rt) {
             Ok(caused) => {
                 let ending = caused.ending();
+                let pause = pause_after(ending, caused.has_work());
                 let now = self.time_of(rt, ending);
                 self.note_end(rt, ending, now);
                 caused.report(&mut Reporter {
                     rt,
                     server: self.server,
                 });
-                Some(pause_after(ending))
+                pause
             }
             Err(none) => self.note_none(rt, none),
         }

@@ -19,6 +19,7 @@ use psu_session_io::{
 };
 use std::alloc::{AllocError, Global};
 use std::marker::Model;
+use std::mem;
 use std::rt::Clock;
 use std::sync::{Arc, Wait};
 
@@ -38,8 +39,8 @@ pub struct SeatedSession<D: ServedDisk> {
     session: SharedSession,
     bench: Arc<Bench<D, Global>>,
     gate: Arc<D::Gate>,
-    // Taken only within a call of the session, for the device of that step.
-    seat: Option<Seat>,
+    // Blank only within a call of the session, whose device has the seat.
+    seat: Seat,
     // Whether the device has closed the session.
     closed: bool,
 }
@@ -56,14 +57,14 @@ impl<D: ServedDisk> Model for SeatedSession<D> {
 
     ghost view = { λ s. record { number = s.number; shared = s.session; seat = s.seat; closed = s.closed } };
 
-    ghost invariant = { λ s. (seat : Sight State Entry) × (s.seat ≡ Some seat) × IsOf (arc_value s.bench) seat × IsSeated D.honest s.number s.closed s.session seat };
+    ghost invariant = { λ s. IsOf (arc_value s.bench) s.seat × IsSeated D.honest s.number s.closed s.session s.seat };
 }
 
 impl<D: ServedDisk> SeatedSession<D> {
     /// Returns a session that has just begun, with the seat that has opened it. It is to be closed.
     pub fn new(session: SharedSession, opened: OpenedSession<D>) -> (SeatedSession<D>, MustClose)
         requires { (message : List ℕ) × HasBegun opened.number message session.phase session.state }
-        ensures { result.0 ≡ record { number = opened.number; shared = session; seat = Some opened.seat; closed = false } }
+        ensures { result.0 ≡ record { number = opened.number; shared = session; seat = opened.seat; closed = false } }
     {
         let (number, access) = opened.into_parts();
         let Access { bench, seat, gate } = access;
@@ -72,7 +73,7 @@ impl<D: ServedDisk> SeatedSession<D> {
             session,
             bench,
             gate,
-            seat: Some(seat),
+            seat,
             closed: false,
         };
         let duty = CannotDrop::begin();
@@ -97,13 +98,11 @@ impl<D: ServedDisk> SeatedSession<D> {
         ensures received { IfOk result (λ received. DoesUnder (Receives (CallsUnder D.honest) now S.SIDE bytes.entry.bytes.now received) self.old self.new) }
         ensures ended { OnErr result (DoesUnder (EndsReceiving (CallsUnder D.honest) now S.SIDE bytes.entry.bytes.now) self.old self.new) }
     {
-        let Some(seat) = self.seat.take() else {
-            unreachable!()
-        };
+        let seat = mem::replace(&mut self.seat, Seat::blank());
         let caller = Caller::new(&self.bench, seat, &self.gate);
         let mut device = SharedDevice::new(rt, server, self.number, caller);
         let received = self.session.receive(now, bytes, &mut device);
-        self.seat = Some(device.into_seat());
+        self.seat = device.into_seat();
         received
     }
 
@@ -117,13 +116,11 @@ impl<D: ServedDisk> SeatedSession<D> {
         ensures executed { IfOk result (λ remainder. DoesUnder (Executes (CallsUnder D.honest) pending.again remainder) self.old self.new) }
         ensures ended { OnErr result (DoesUnder (EndsExecuting (CallsUnder D.honest) pending.again) self.old self.new) }
     {
-        let Some(seat) = self.seat.take() else {
-            unreachable!()
-        };
+        let seat = mem::replace(&mut self.seat, Seat::blank());
         let caller = Caller::new(&self.bench, seat, &self.gate);
         let mut device = SharedDevice::new(rt, server, self.number, caller);
         let executed = self.session.execute(pending, &mut device);
-        self.seat = Some(device.into_seat());
+        self.seat = device.into_seat();
         executed
     }
 
@@ -153,13 +150,11 @@ impl<D: ServedDisk> SeatedSession<D> {
         ensures ended { OnErr result (EndsNotified now arrived.notice self.old.shared self.new.shared) }
         ensures uncalled { OnErr result (self.new ≡ with_shared self.old self.new.shared) }
     {
-        let Some(seat) = self.seat.take() else {
-            unreachable!()
-        };
+        let seat = mem::replace(&mut self.seat, Seat::blank());
         let caller = Caller::new(&self.bench, seat, &self.gate);
         let mut device = SharedDevice::new(rt, server, self.number, caller);
         let notified = self.session.notify(now, arrived, &mut device);
-        self.seat = Some(device.into_seat());
+        self.seat = device.into_seat();
         notified
     }
 
@@ -167,13 +162,11 @@ impl<D: ServedDisk> SeatedSession<D> {
     pub fn drain<R: Wait + Clock>(&mut self, rt: &R, server: &Server) -> Drained
         ensures { DoesUnder (Drains (CallsUnder D.honest) result) self.old self.new }
     {
-        let Some(seat) = self.seat.take() else {
-            unreachable!()
-        };
+        let seat = mem::replace(&mut self.seat, Seat::blank());
         let caller = Caller::new(&self.bench, seat, &self.gate);
         let mut device = SharedDevice::new(rt, server, self.number, caller);
         let drained = self.session.drain(&mut device);
-        self.seat = Some(device.into_seat());
+        self.seat = device.into_seat();
         drained
     }
 
@@ -192,12 +185,10 @@ impl<D: ServedDisk> SeatedSession<D> {
             return None;
         }
         self.session.close();
-        let Some(seat) = self.seat.take() else {
-            unreachable!()
-        };
+        let seat = mem::replace(&mut self.seat, Seat::blank());
         let mut caller = Caller::new(&self.bench, seat, &self.gate);
         let granted = caller.close_session(rt, self.number);
-        self.seat = Some(caller.into_seat());
+        self.seat = caller.into_seat();
         self.closed = true;
         Some(granted)
     }
@@ -220,7 +211,7 @@ impl<D: ServedDisk> Locked for SeatedSession<D> {
     /// calls under the number of its seat, in the session's order.
     fn number(&self) -> Session
         ensures number { result ≡ self.now.number }
-        ensures seated { (seat : _) × (self.now.seat ≡ Some seat) × IsSeated D.honest self.now.number self.now.closed self.now.shared seat }
+        ensures seated { IsSeated D.honest self.now.number self.now.closed self.now.shared self.now.seat }
     {
         self.number
     }
