@@ -1,9 +1,9 @@
 -- The instrument as commands see it, without sessions and store.
-use Rattle.std.specs.Prelude.{ℕ, ◌-◌, ◌==◌, nat_le, Bool, true, false, if◌then◌else◌, Option, Some, None, List, replicate}
+use Rattle.std.specs.Prelude.{ℕ, ◌-◌, ◌==◌, nat_le, Bool, true, false, if◌then◌else◌, Option, Some, None, List}
 use Rattle.psu_lex.specs.declared.scpi_error.ScpiError.{ScpiError}
 use Rattle.psu_nv.specs.Commands as nv
 use Rattle.psu_nv.specs.Contents.{Contents}
-use Rattle.psu_outputs.specs.Outputs.{reset_supply, conditions, restored}
+use Rattle.psu_outputs.specs.Outputs.{reset_supplies, conditions, restored}
 use Rattle.psu_outputs.specs.declared.supply.Supply.{Supply}
 use Rattle.psu_status.specs.Registers.{with_condition, fifteen_bits}
 use Rattle.psu_status.specs.Status as reporting
@@ -25,7 +25,7 @@ with_register supplies contents register = restored supplies (nv.settings_at con
 -- The outputs at power-on: those after `*RST` with loads of 10 ohms; or, where the nonvolatile contents say so, these
 -- with the settings of register 0 applied, so that an output may trip at once.
 abbrev pub outputs_at_power_on : Contents → List Supply
-outputs_at_power_on c = if c.recall then with_register (replicate 4 reset_supply) c 0 else replicate 4 reset_supply
+outputs_at_power_on c = if c.recall then with_register reset_supplies c 0 else reset_supplies
 
 -- At power-on the condition register of QUEStionable is what the outputs give, macros are disabled, and user data is
 -- protected.

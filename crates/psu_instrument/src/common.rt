@@ -12,7 +12,7 @@ ghost use Rattle.psu_instrument.specs.Meaning.{ActsAs, situation};
 use crate::{Act, Instrument};
 use psu_lex::{Bytes, ScpiError, whole};
 use psu_nv::{Contents, NvCommand, Register, UserData};
-use psu_outputs::Settings;
+use psu_settings::Settings;
 use psu_status::Enables;
 use psu_tree::{Enable, Flag};
 use std::alloc::{AllocError, Allocator};

@@ -10,7 +10,8 @@ ghost use Rattle.psu_instrument.specs.Supplies.{queried, level_queried, level_of
 use crate::common::flag_response;
 use crate::{Act, Instrument};
 use psu_lex::{ScpiError, fixed3, whole};
-use psu_outputs::{Milliamperes, Milliohms, Millivolts, Output, Setting, Settings};
+use psu_outputs::Milliohms;
+use psu_settings::{Milliamperes, Millivolts, Output, Setting, Settings};
 use psu_tree::{Extreme, Level, OutputQuery, Switch};
 use std::alloc::Allocator;
 

@@ -19,6 +19,7 @@ use Rattle.psu_nv.proofs.Items.{all_put, all_without}
 use Rattle.psu_map.specs.Map.{Item, item_of, get, put, without, cost, IsSorted}
 use Rattle.psu_settings.specs.declared.output_settings.OutputSettings.{OutputSettings}
 use Rattle.psu_settings.specs.Settings.{AreSettings, bytes_of, is_reset}
+use Rattle.psu_settings.proofs.Pieces.{size}
 use Rattle.psu_nv.specs.Contents.{Macro, Contents, IsMacro, body_at, has_label, enables_items, register_items, registers_items, user_items, macro_bytes, macros_items, file_item, recall_items, items_of, cost_of}
 use Rattle.psu_nv.specs.Costs.{page_count, registers_cost, macros_length, macros_cost, size_at, pages_of, IsShort}
 
@@ -28,12 +29,7 @@ cost-append (i ∷ a) b = omega (arith, cost-append a b)
 
 -- the bytes of four outputs
 pub twenty_eight : (s : List OutputSettings) → length s ≡ 4 → length (bytes_of s) ≡ 28
-twenty_eight [] e = absurd (omega arith)
-twenty_eight (a ∷ []) e = absurd (omega arith)
-twenty_eight (a ∷ b ∷ []) e = absurd (omega arith)
-twenty_eight (a ∷ b ∷ c ∷ []) e = absurd (omega arith)
-twenty_eight (a ∷ b ∷ c ∷ d ∷ []) e = refl
-twenty_eight (a ∷ b ∷ c ∷ d ∷ f ∷ l) e = absurd (omega arith)
+twenty_eight s e = size s ∙ ap (λ (n : ℕ). 7 * n) e
 
 register-cost : (r : ℕ) (s : List OutputSettings) → AreSettings s → cost (register_items r s) ≡ cond (is_reset s) 0 2
 register-cost r s are = elim (cases_Bool (is_reset s)) [

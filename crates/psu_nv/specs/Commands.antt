@@ -1,7 +1,7 @@
 -- The nonvolatile commands: when one is refused, and the contents after it. Sources: IEEE 488.2 (`*SRE`, `*ESE`,
 -- `*PSC`, `*SAV`, `*PUD`, `*DMC`, `*RMC`, `*PMC`), SCPI-1999 (MMEMory, OUTPut:PON); the order of refusals is this
 -- project's own.
-use Rattle.std.specs.Prelude.{ℕ, ◌%◌, ◌==◌, ◌&&◌, not, nat_lt, nat_le, Bool, true, false, if◌then◌else◌, Option, Some, None, is_some, unwrap_or, List, [], ◌∷◌, ◌++◌, length, take, drop, slice_index, slice_index_or, slice_set, bit_and}
+use Rattle.std.specs.Prelude.{ℕ, zero, suc, ◌%◌, ◌==◌, ◌&&◌, not, nat_lt, nat_le, Bool, true, false, if◌then◌else◌, Option, Some, None, is_some, unwrap_or, List, [], ◌∷◌, ◌++◌, length, take, drop, slice_index, slice_index_or, slice_set, bit_and}
 use Rattle.std.specs.List.{list_all}
 use Rattle.std.specs.Str.{bytes_eq}
 use Rattle.std.specs.Int.{w16, from_be_bytes}
@@ -68,8 +68,13 @@ output_in bytes = record {
   on = nat_le 2 (slice_index bytes 6);
 }
 
+-- so many outputs, of seven bytes each
+abbrev pub outputs_in : ℕ → List ℕ → List OutputSettings
+outputs_in zero bytes = []
+outputs_in (suc n) bytes = output_in bytes ∷ outputs_in n (drop 7 bytes)
+
 unfoldable pub settings_in : List ℕ → List OutputSettings
-settings_in bytes = output_in bytes ∷ output_in (drop 7 bytes) ∷ output_in (drop 14 bytes) ∷ output_in (drop 21 bytes) ∷ []
+settings_in bytes = outputs_in 4 bytes
 
 -- the bytes encode settings, each within its ranges
 unfoldable pub is_state : List ℕ → Bool

@@ -1,6 +1,6 @@
 -- The outputs with their loads and trips. Sources: SCPI-1999 volume 2 (OUTPut, PROTection); the rules of trips are this
 -- project's profile.
-use Rattle.std.specs.Prelude.{◌≡◌, ℕ, ◌+◌, ◌&&◌, ◌||◌, nat_le, not, Bool, true, false, if◌then◌else◌, List, [], ◌∷◌, length, map, slice_index_or, slice_set}
+use Rattle.std.specs.Prelude.{◌≡◌, ℕ, ◌+◌, ◌&&◌, ◌||◌, nat_le, not, Bool, true, false, if◌then◌else◌, List, [], ◌∷◌, length, map, replicate, slice_index_or, slice_set}
 use Rattle.std.specs.List.{list_any, list_all}
 use Rattle.psu_settings.specs.declared.output.Output.{Output}
 use Rattle.psu_settings.specs.declared.setting.Setting.TheVariants.{State}
@@ -13,9 +13,15 @@ use Rattle.psu_outputs.specs.Measuring.{measured, trips}
 abbrev pub reset_supply : Supply
 reset_supply = record { settings = reset_output; load = record { 0 = 10000 }; tripped = false }
 
+-- all outputs at power-on
+abbrev pub reset_supplies : List Supply
+reset_supplies = replicate 4 reset_supply
+
+-- one output
 abbrev pub supply_of : List Supply → Output → Supply
 supply_of supplies output = slice_index_or supplies (place_of output) reset_supply
 
+-- the outputs with one of them changed
 abbrev pub with_supply : List Supply → Output → Supply → List Supply
 with_supply supplies output s = slice_set supplies (place_of output) s
 
@@ -23,6 +29,7 @@ with_supply supplies output s = slice_set supplies (place_of output) s
 abbrev pub is_load : ℕ → Bool
 is_load load = nat_le 1 load && nat_le load 10000000
 
+-- the settings and the load are within their ranges
 abbrev pub is_sound : Supply → Bool
 is_sound s = is_allowed s.settings && is_load s.load.0
 
@@ -50,11 +57,13 @@ checked s =
 abbrev pub conflicts : Supply → OutputSettings → Bool
 conflicts s settings = s.tripped && settings.on
 
+-- some tripped output would be switched on
 abbrev pub any_conflicts : List Supply → List OutputSettings → Bool
 any_conflicts [] outputs = false
 any_conflicts (s ∷ supplies) [] = false
 any_conflicts (s ∷ supplies) (o ∷ outputs) = conflicts s o || any_conflicts supplies outputs
 
+-- an output with other settings, which may trip it
 abbrev pub with_settings : Supply → OutputSettings → Supply
 with_settings s settings = checked (record s { settings = settings })
 
@@ -64,6 +73,7 @@ with_all [] outputs = []
 with_all (s ∷ supplies) [] = []
 with_all (s ∷ supplies) (o ∷ outputs) = with_settings s o ∷ with_all supplies outputs
 
+-- an output with another load, which may trip it
 abbrev pub with_load : Supply → ℕ → Supply
 with_load s load = checked (record s { load = record { 0 = load } })
 

@@ -33,6 +33,7 @@ IsAccepted supplies (Loads output load) = is_load load ≡ true
 IsAccepted supplies (Clears output) = ⊤
 IsAccepted supplies (Restores outputs) = length outputs ≡ 4
 
+-- two names are of one output
 abbrev pub is_same : Output → Output → Bool
 is_same a b = place_of a == place_of b
 
@@ -88,17 +89,21 @@ TripsStay =
 
 -- # Changes one after another
 
+-- the outputs after all changes, in their order
 abbrev pub after_all : List Supply → List Change → List Supply
 after_all supplies [] = supplies
 after_all supplies (change ∷ changes) = after_all (after supplies change) changes
 
+-- no change is refused
 abbrev pub AreAccepted : List Supply → List Change → Type 0
 AreAccepted supplies [] = ⊤
 AreAccepted supplies (change ∷ changes) = IsAccepted supplies change × AreAccepted (after supplies change) changes
 
+-- no change clears the trip of an output
 abbrev pub clear_none : List Change → Output → Bool
 clear_none changes output = not (list_any (λ (change : Change). clears change output) changes)
 
+-- one if it is so, else none
 abbrev pub count : Bool → ℕ
 count b = if b then 1 else 0
 

@@ -1,10 +1,10 @@
 //! The four outputs, with their loads and trips.
-ghost use Rattle.std.specs.Prelude.{◌≡◌, ◌⊎◌, OnOk, OnErr, IfErr, false, true, map, replicate, if◌then◌else◌};
+ghost use Rattle.std.specs.Prelude.{◌≡◌, ◌⊎◌, OnOk, OnErr, IfErr, false, true, map, if◌then◌else◌};
 ghost use Rattle.std.specs.List.{list_any};
 ghost use Rattle.psu_outputs.specs.declared.supply.Supply.{Supply as Each};
 ghost use Rattle.psu_settings.specs.Settings.{after_set, is_in_range};
 ghost use Rattle.psu_outputs.specs.Measuring.{measured};
-ghost use Rattle.psu_outputs.specs.Outputs.{reset_supply, supply_of, with_supply, all_settings, any_conflicts, with_all, with_load, without_trip, restored, is_load, is_in_limit, AreSupplies, conditions};
+ghost use Rattle.psu_outputs.specs.Outputs.{reset_supplies, supply_of, with_supply, all_settings, any_conflicts, with_all, with_load, without_trip, restored, is_load, is_in_limit, AreSupplies, conditions};
 ghost use Rattle.psu_lex.specs.declared.scpi_error.ScpiError.TheVariants.{DataOutOfRange, SettingsConflict};
 
 use crate::supply::Supply;
@@ -37,7 +37,7 @@ impl Model for Outputs {
 impl Outputs {
     /// The outputs at power-on: the settings of `*RST`, loads of 10 ohms, no trips.
     pub fn new() -> Outputs
-        ensures { result ≡ replicate 4 reset_supply }
+        ensures { result ≡ reset_supplies }
     {
         Outputs {
             supplies: [Supply::RESET; 4],

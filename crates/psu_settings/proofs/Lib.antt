@@ -1,6 +1,6 @@
 mod Bytes
-mod Pieces
 mod Resets
 pub mod Apart
 pub mod Blank
+pub mod Pieces
 pub mod Ranges
