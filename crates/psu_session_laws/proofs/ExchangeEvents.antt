@@ -17,7 +17,7 @@ use Rattle.psu_hislip.proofs.Runs.{core_after-append}
 use Rattle.psu_session.specs.Locking.{kind_of}
 use Rattle.psu_session.specs.Orders as orders
 use Rattle.psu_session.specs.Orders.{Done, Order, order_in}
-use Rattle.psu_session_laws.specs.Exchange.{acts_requested, core_at, orders, replies, reply_of}
+use Rattle.psu_session_laws.specs.Exchange.{acts_requested, core_at, orders, reply_of}
 use Rattle.psu_session_laws.specs.Exchanged.{ExchangeEvent, Did, Replied, bytes_in, came, execution_in, executions, replied, reply_in, arrivals_in, written}
 use Rattle.psu_session.specs.Events as session
 use Rattle.psu_session.specs.Events.{Event, if_same, put, waits_after}
