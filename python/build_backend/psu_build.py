@@ -165,7 +165,7 @@ def entry_points() -> str:
 
 
 def sources() -> Dict[str, bytes]:
-    paths = ["README.md", "pyproject.toml", *TOP_MODULES]
+    paths = ["README.md", "CALLS.md", "pyproject.toml", *TOP_MODULES]
     for folder in (NAME, "build_backend", "tests"):
         names = sorted(os.listdir(os.path.join(FOLDER, folder)))
         paths += [f"{folder}/{it}" for it in names if it.endswith(KINDS)]

@@ -1,4 +1,4 @@
-"""Makes the list of calls in python/README.md from the signatures and docstrings; a test says whether it is up to date.
+"""Makes python/CALLS.md, the list of calls, from the signatures and docstrings; a test says whether it is up to date.
 
     PYTHONPATH=python python3 python/tests/api_page.py        writes it
 """
@@ -10,8 +10,12 @@ from psu import blocks
 from psu.raw_socket import RawSocket
 from psu.relay import Relay
 
-README = os.path.join(os.path.dirname(os.path.dirname(os.path.abspath(__file__))), "README.md")
-BEGIN, END = "<!-- calls: made by tests/api_page.py -->\n", "<!-- end of calls -->\n"
+PACKAGE = os.path.dirname(os.path.dirname(os.path.abspath(__file__)))
+README, CALLS = os.path.join(PACKAGE, "README.md"), os.path.join(PACKAGE, "CALLS.md")
+HEAD = """# All calls of the Python package `psu`
+
+Made from the docstrings by `python/tests/api_page.py`. [README](README.md) says how they are used.
+"""
 PARTS = (
     ("`psu.Instrument`", psu.Instrument),
     ("`psu.Server`", psu.Server),
@@ -66,24 +70,17 @@ def rows_of(part):
 
 
 def page():
-    text = ""
+    text = HEAD
     for heading, parts in PARTS:
         text += f"\n{heading}:\n\n| call | |\n|---|---|\n"
         for part in parts if isinstance(parts, tuple) else (parts,):
             text += "".join(rows_of(part))
-    return text + "\n"
-
-
-def replaced(readme):
-    before, rest = readme.split(BEGIN)
-    return before + BEGIN + page() + END + rest.split(END)[1]
+    return text
 
 
 def main():
-    with open(README, encoding="utf-8") as file:
-        text = replaced(file.read())
-    with open(README, "w", encoding="utf-8") as file:
-        file.write(text)
+    with open(CALLS, "w", encoding="utf-8") as file:
+        file.write(page())
 
 
 if __name__ == "__main__":

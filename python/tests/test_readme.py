@@ -1,4 +1,4 @@
-"""Tests that README.md says what the package has: its calls are made from the docstrings, its exceptions are all there."""
+"""Tests that README.md and CALLS.md say what the package has: calls are made from the docstrings, exceptions are all there."""
 import os
 import re
 import unittest
@@ -14,8 +14,9 @@ class Readme(unittest.TestCase):
         with open(api_page.README, encoding="utf-8") as file:
             self.text = file.read()
 
-    def test_its_calls_are_those_of_the_package(self):
-        self.assertEqual(api_page.replaced(self.text), self.text, "run python/tests/api_page.py")
+    def test_the_calls_are_those_of_the_package(self):
+        with open(api_page.CALLS, encoding="utf-8") as file:
+            self.assertEqual(api_page.page(), file.read(), "run python/tests/api_page.py")
 
     def test_it_has_every_exception(self):
         classes = {name for name in psu.__all__ if isinstance(getattr(psu, name), type)}
