@@ -1,5 +1,5 @@
 -- The calls of a session on the shared device, in the history.
-use Rattle.std.proofs.Common.{◌≡◌, ◌≢◌, ◌⊎◌, ◌∙◌, ap, inl, inr, refl, List, [], ◌∷◌, ◌++◌, append_assoc, ℕ, Option, Some, None, subst}
+use Rattle.std.proofs.Common.{◌≡◌, ◌≢◌, ◌⊎◌, ◌∙◌, ap, inl, inr, refl, List, [], ◌∷◌, ◌++◌, append_assoc, ℕ, Option, Some, None, subst, sym}
 use Rattle.std.proofs.lemmas.List.{append-nil}
 use Rattle.psu_turn.specs.declared.numbered.Numbered.{Numbered}
 use Rattle.psu_turn.specs.History.{numbered}
