@@ -1,6 +1,6 @@
 -- A session and its seat, from one call of the session to the next.
 use Rattle.std.specs.Prelude.{IfOk, OnErr}
-use Rattle.std.proofs.Common.{Result, Ok, Err, ◌≡◌, ℕ, Bool, true, false, Option, Some, List, [], ◌∷◌, ◌++◌, refl, sym, ap, ◌∙◌, subst, append_assoc, inl}
+use Rattle.std.proofs.Common.{Result, Ok, Err, ◌≡◌, ℕ, Bool, true, false, Some, List, [], ◌∷◌, ◌++◌, refl, sym, ap, ◌∙◌, subst, append_assoc, inl}
 use Rattle.std.proofs.lemmas.List.{append-nil}
 use Rattle.std.proofs.lemmas.Bool.{false≢true}
 use Rattle.psu_exec.specs.Device.{State}
@@ -52,9 +52,6 @@ stays_closed session true old new closing over is = (over, is.1)
 not_closed : (session : ℕ) (closed : Bool) (phase : Phase) (closing : List Entry) → phase_ended phase ≡ false → MayBeClosed session closed phase closing → (closing ≡ []) × ((other : Phase) → MayBeClosed session closed other [])
 not_closed session false phase closing alive is = (is, λ other. refl)
 not_closed session true phase closing alive is = absurd (false≢true (sym alive ∙ is.0))
-
-same_seat : (one other : Sight State Entry) → Some one ≡ Some other → one ≡ other
-same_seat one other same = cc (same)
 
 module _ (honest : Type 0) where
   -- a session that is over
@@ -159,8 +156,8 @@ module _ (honest : Type 0) where
   }
 
 -- the seat of the device of a step, as it began
-pub at_seat : (session : ℕ) (device : SessionSeat) (seat caller taken : Sight State Entry) (held : Option (Sight State Entry)) → held ≡ Some seat → held ≡ Some taken → caller ≡ taken → device ≡ under session caller → device ≡ under session seat
-at_seat session device seat caller taken held had took begins is = is ∙ ap (under session) (begins ∙ same_seat taken seat (sym took ∙ had))
+pub at_seat : (session : ℕ) (device : SessionSeat) (seat caller taken : Sight State Entry) → taken ≡ seat → caller ≡ taken → device ≡ under session caller → device ≡ under session seat
+at_seat session device seat caller taken held begins is = is ∙ ap (under session) (begins ∙ held)
 
 -- what follows of each value, and of an error
 pub of_value : {T E : Type 0} (P Q : T → Type 0) (result : Result T E) → ((value : T) → P value → Q value) → IfOk result P → IfOk result Q

@@ -83,7 +83,7 @@ impl<'a, 'b, D: ServedDisk> Flusher<'a, 'b, D> {
 
     // Returns the time of the end of a job, if it is noted, or else 0: most jobs are stored, and to read the clock costs
     // more than a turn.
-    fn time_of<R: Wait + Clock>(&self, rt: &R, ending: JobEnding) -> u64 {
+    fn time_of<R: Clock>(&self, rt: &R, ending: JobEnding) -> u64 {
         if ending == JobEnding::Stored {
             return 0;
         }

@@ -1,5 +1,5 @@
 //! A session with the seat under which it calls the device.
-ghost use Rattle.std.specs.Prelude.{◌≡◌, ◌≢◌, ◌⊎◌, ◌↔◌, ℕ, List, [], IsTrue, IfOk, OnOk, OnErr, IfSome, IsNone, Some, true, false};
+ghost use Rattle.std.specs.Prelude.{◌≡◌, ◌≢◌, ◌⊎◌, ◌↔◌, ℕ, List, [], IsTrue, IfOk, OnOk, OnErr, IfSome, IsNone, true, false};
 ghost use Rattle.psu_hislip.specs.declared.side.Side.TheVariants.{Async};
 ghost use Rattle.psu_session.specs.Phases.{phase_ended};
 ghost use Rattle.psu_session.specs.declared.phase.Phase.TheVariants.{Open};
@@ -46,11 +46,8 @@ pub struct SeatedSession<D: ServedDisk> {
 }
 
 impl<D: ServedDisk> Model for SeatedSession<D> {
-    ghost use Rattle.std.specs.Prelude.{◌≡◌, Some};
     ghost use Rattle.std.specs.Arc.{arc_value};
-    ghost use Rattle.psu_turn.specs.Seats.{IsOf, Sight};
-    ghost use Rattle.psu_exec.specs.Device.{State};
-    ghost use Rattle.psu_exec.specs.Calls.{Entry};
+    ghost use Rattle.psu_turn.specs.Seats.{IsOf};
     ghost use Rattle.psu_threads.specs.Seated.{IsSeated, Seated};
 
     ghost Value = { Seated };

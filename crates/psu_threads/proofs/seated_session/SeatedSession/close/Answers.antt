@@ -1,4 +1,4 @@
-use Rattle.std.proofs.Common.{◌≡◌, false, ◌∙◌, refl, subst, sym}
+use Rattle.std.proofs.Common.{◌≡◌, false, ◌∙◌, subst, sym}
 use Rattle.std.specs.Arc.{arc_value}
 use Rattle.psu_exec.specs.Device.{State}
 use Rattle.psu_exec.specs.Calls.{Entry}
@@ -13,12 +13,9 @@ invariant_of-self g c =
     let s = c.self.inside in
     let old = c.new-caller.result in
     let call = c.close_session-granted.ensures.call in
-    let taken : c.in-Some.seat ≡ was.0 = cc (c.in-Some.is, c.take.ensures.value, was.1) in
-    let same : was.0 ≡ old = sym (c.new-caller.ensures ∙ taken) in
-    let of = subst (λ (z : Sight State Entry). IsOf (arc_value s.bench) z) same was.2 in
-    let is = subst (λ (z : Sight State Entry). IsSeated g.D.Disk.honest s.number false s.session z) same (subst (λ b. IsSeated g.D.Disk.honest s.number b s.session was.0) c.if-self.false was.3) in (
-      c.into_seat.result,
-      refl,
+    let same : s.seat ≡ old = sym (c.new-caller.ensures ∙ c.replace-seat.ensures.value) in
+    let of = subst (λ (z : Sight State Entry). IsOf (arc_value s.bench) z) same was.0 in
+    let is = subst (λ (z : Sight State Entry). IsSeated g.D.Disk.honest s.number false s.session z) same (subst (λ b. IsSeated g.D.Disk.honest s.number b s.session s.seat) c.if-self.false was.1) in (
       rw c.into_seat.ensures (call.same.turn ∙ of.0, (of.1.0, call.same.opening ∙ of.1.1)),
       rw c.into_seat.ensures (seated_close g.D.Disk.honest s.number s.session c.close.new.self old c.close_session-granted.new.self c.close_session-granted.result.sessions c.close.ensures.over call is),
     )

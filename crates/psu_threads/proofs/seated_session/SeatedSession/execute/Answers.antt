@@ -1,4 +1,4 @@
-use Rattle.std.proofs.Common.{◌∙◌, Some, ap, refl, subst, sym}
+use Rattle.std.proofs.Common.{refl, subst}
 use Rattle.std.specs.Prelude.{IfOk, OnErr}
 use Rattle.std.specs.Arc.{arc_value}
 use Rattle.psu_session_io.specs.Sharing.{EndsExecuting, Executes}
@@ -13,27 +13,27 @@ invariant_of-self g c =
     let was = c.self.invariant in
     let s = c.self.inside in
     let did = c.execute-executed in
-    let begins = at_seat s.number c.new-device.result was.0 c.new-caller.result c.in-Some.seat s.seat was.1 (sym c.take.ensures.value ∙ c.in-Some.is) c.new-caller.ensures c.new-device.ensures in
-    let next = stepped g.D.Disk.honest (arc_value s.bench) s.number s.closed s.session did.new.self was.0 c.new-device.result did.new.device begins was.2
-    (of_result _ _ did.result (λ r is. executes c.args.pending.again r s.session did.new.self c.new-device.result did.new.device is) (λ is. ends_executing c.args.pending.again s.session did.new.self c.new-device.result did.new.device is) did.ensures.executed did.ensures.ended) was.3 in
-    (c.into_seat.result, refl, rw c.into_seat.ensures next.0, rw c.into_seat.ensures next.1)
+    let begins = at_seat s.number c.new-device.result s.seat c.new-caller.result c.replace-seat.result c.replace-seat.ensures.value c.new-caller.ensures c.new-device.ensures in
+    let next = stepped g.D.Disk.honest (arc_value s.bench) s.number s.closed s.session did.new.self s.seat c.new-device.result did.new.device begins was.0
+    (of_result _ _ did.result (λ r is. executes c.args.pending.again r s.session did.new.self c.new-device.result did.new.device is) (λ is. ends_executing c.args.pending.again s.session did.new.self c.new-device.result did.new.device is) did.ensures.executed did.ensures.ended) was.1 in
+    (rw c.into_seat.ensures next.0, rw c.into_seat.ensures next.1)
 
 pub returns-clause-executed : goal.returns-clause-executed
 returns-clause-executed g c =
     let was = c.self.invariant in
     let s = c.self.inside in
     let did = c.execute-executed in
-    let begins = at_seat s.number c.new-device.result was.0 c.new-caller.result c.in-Some.seat s.seat was.1 (sym c.take.ensures.value ∙ c.in-Some.is) c.new-caller.ensures c.new-device.ensures in
-    let new : Seated = record { number = s.number; shared = did.new.self; seat = Some c.into_seat.result; closed = s.closed } in
+    let begins = at_seat s.number c.new-device.result s.seat c.new-caller.result c.replace-seat.result c.replace-seat.ensures.value c.new-caller.ensures c.new-device.ensures in
+    let new : Seated = record { number = s.number; shared = did.new.self; seat = c.into_seat.result; closed = s.closed } in
     subst (λ (z : Seated). IfOk did.result (λ r. DoesUnder (Executes (CallsUnder g.D.Disk.honest) c.args.pending.again r) z new)) c.self.view_is
-    (of_value _ _ did.result (λ r is. record { before = was.0; had = was.1; after = did.new.device; has = ap Some c.into_seat.ensures; does = subst (λ (x : SessionSeat). Executes (CallsUnder g.D.Disk.honest) c.args.pending.again r s.session x did.new.self did.new.device) begins is; rest = refl }) did.ensures.executed)
+    (of_value _ _ did.result (λ r is. record { after = did.new.device; has = c.into_seat.ensures; does = subst (λ (x : SessionSeat). Executes (CallsUnder g.D.Disk.honest) c.args.pending.again r s.session x did.new.self did.new.device) begins is; rest = refl }) did.ensures.executed)
 
 pub returns-clause-ended : goal.returns-clause-ended
 returns-clause-ended g c =
     let was = c.self.invariant in
     let s = c.self.inside in
     let did = c.execute-executed in
-    let begins = at_seat s.number c.new-device.result was.0 c.new-caller.result c.in-Some.seat s.seat was.1 (sym c.take.ensures.value ∙ c.in-Some.is) c.new-caller.ensures c.new-device.ensures in
-    let new : Seated = record { number = s.number; shared = did.new.self; seat = Some c.into_seat.result; closed = s.closed } in
+    let begins = at_seat s.number c.new-device.result s.seat c.new-caller.result c.replace-seat.result c.replace-seat.ensures.value c.new-caller.ensures c.new-device.ensures in
+    let new : Seated = record { number = s.number; shared = did.new.self; seat = c.into_seat.result; closed = s.closed } in
     subst (λ (z : Seated). OnErr did.result (DoesUnder (EndsExecuting (CallsUnder g.D.Disk.honest) c.args.pending.again) z new)) c.self.view_is
-    (of_error _ _ did.result (λ is. record { before = was.0; had = was.1; after = did.new.device; has = ap Some c.into_seat.ensures; does = subst (λ (x : SessionSeat). EndsExecuting (CallsUnder g.D.Disk.honest) c.args.pending.again s.session x did.new.self did.new.device) begins is; rest = refl }) did.ensures.ended)
+    (of_error _ _ did.result (λ is. record { after = did.new.device; has = c.into_seat.ensures; does = subst (λ (x : SessionSeat). EndsExecuting (CallsUnder g.D.Disk.honest) c.args.pending.again s.session x did.new.self did.new.device) begins is; rest = refl }) did.ensures.ended)

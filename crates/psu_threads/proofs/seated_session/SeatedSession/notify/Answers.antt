@@ -1,4 +1,4 @@
-use Rattle.std.proofs.Common.{◌≡◌, ◌∙◌, false, Some, ap, refl, subst, sym}
+use Rattle.std.proofs.Common.{◌≡◌, false, refl, subst}
 use Rattle.std.specs.Prelude.{IfOk}
 use Rattle.std.specs.Arc.{arc_value}
 use Rattle.psu_session.specs.declared.phase.Phase.TheVariants.{Open}
@@ -14,17 +14,17 @@ invariant_of-self g c =
     let was = c.self.invariant in
     let s = c.self.inside in
     let did = c.notify-notified in
-    let begins = at_seat s.number c.new-device.result was.0 c.new-caller.result c.in-Some.seat s.seat was.1 (sym c.take.ensures.value ∙ c.in-Some.is) c.new-caller.ensures c.new-device.ensures in
-    let next = stepped g.D.Disk.honest (arc_value s.bench) s.number s.closed s.session did.new.self was.0 c.new-device.result did.new.device begins was.2
-    (of_result _ _ did.result (λ r is. notifies c.args.now c.args.arrived.notice s.session did.new.self c.new-device.result did.new.device is.0 is.1) (λ is. ends_notified c.args.now c.args.arrived.notice s.session did.new.self c.new-device.result did.new.device is.0 is.1) did.ensures.notified (both_of_error _ _ did.result did.ensures.ended did.ensures.uncalled)) was.3 in
-    (c.into_seat.result, refl, rw c.into_seat.ensures next.0, rw c.into_seat.ensures next.1)
+    let begins = at_seat s.number c.new-device.result s.seat c.new-caller.result c.replace-seat.result c.replace-seat.ensures.value c.new-caller.ensures c.new-device.ensures in
+    let next = stepped g.D.Disk.honest (arc_value s.bench) s.number s.closed s.session did.new.self s.seat c.new-device.result did.new.device begins was.0
+    (of_result _ _ did.result (λ r is. notifies c.args.now c.args.arrived.notice s.session did.new.self c.new-device.result did.new.device is.0 is.1) (λ is. ends_notified c.args.now c.args.arrived.notice s.session did.new.self c.new-device.result did.new.device is.0 is.1) did.ensures.notified (both_of_error _ _ did.result did.ensures.ended did.ensures.uncalled)) was.1 in
+    (rw c.into_seat.ensures next.0, rw c.into_seat.ensures next.1)
 
 pub returns-clause-notified : goal.returns-clause-notified
 returns-clause-notified g c =
     let was = c.self.invariant in
     let s = c.self.inside in
     let did = c.notify-notified in
-    let begins = at_seat s.number c.new-device.result was.0 c.new-caller.result c.in-Some.seat s.seat was.1 (sym c.take.ensures.value ∙ c.in-Some.is) c.new-caller.ensures c.new-device.ensures in
-    let new : Seated = record { number = s.number; shared = did.new.self; seat = Some c.into_seat.result; closed = s.closed } in
+    let begins = at_seat s.number c.new-device.result s.seat c.new-caller.result c.replace-seat.result c.replace-seat.ensures.value c.new-caller.ensures c.new-device.ensures in
+    let new : Seated = record { number = s.number; shared = did.new.self; seat = c.into_seat.result; closed = s.closed } in
     subst (λ (z : Seated). IfOk did.result (λ r. (z.shared.phase ≡ Open) × DoesUnder (Notifies (CallsUnder g.D.Disk.honest) c.args.now c.args.arrived.notice) z new × (r.again ≡ false))) c.self.view_is
-    (of_value _ _ did.result (λ r is. (is.0, record { before = was.0; had = was.1; after = did.new.device; has = ap Some c.into_seat.ensures; does = subst (λ (x : SessionSeat). Notifies (CallsUnder g.D.Disk.honest) c.args.now c.args.arrived.notice s.session x did.new.self did.new.device) begins is.1; rest = refl }, is.2)) did.ensures.notified)
+    (of_value _ _ did.result (λ r is. (is.0, record { after = did.new.device; has = c.into_seat.ensures; does = subst (λ (x : SessionSeat). Notifies (CallsUnder g.D.Disk.honest) c.args.now c.args.arrived.notice s.session x did.new.self did.new.device) begins is.1; rest = refl }, is.2)) did.ensures.notified)

@@ -9,7 +9,7 @@ invariant_of-self g c =
     let was = c.self.invariant in
     let s = c.self.inside in
     let did = c.respond in
-    let x = under s.number was.0 in
-    let next = uncalled g.D.Disk.honest (arc_value s.bench) s.number s.closed s.session did.new.self was.0 was.2
-    (of_result _ _ did.result (λ r is. responds r s.session did.new.self x is) (λ is. ends_responding s.session did.new.self x is) did.ensures.responded did.ensures.ended) was.3 in
-    (was.0, was.1, next.0, next.1)
+    let x = under s.number s.seat in
+    let next = uncalled g.D.Disk.honest (arc_value s.bench) s.number s.closed s.session did.new.self s.seat was.0
+    (of_result _ _ did.result (λ r is. responds r s.session did.new.self x is) (λ is. ends_responding s.session did.new.self x is) did.ensures.responded did.ensures.ended) was.1 in
+    (next.0, next.1)

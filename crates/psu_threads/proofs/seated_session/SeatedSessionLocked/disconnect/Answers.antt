@@ -9,5 +9,5 @@ invariant_of-self g c =
     let was = c.self.invariant in
     let s = c.self.inside in
     let t = c.disconnect.new.self in
-    let next = uncalled g.D.Disk.honest (arc_value s.bench) s.number s.closed s.session t was.0 was.2 (disconnects s.session t (under s.number was.0) c.disconnect.ensures) was.3 in
-    (was.0, was.1, next.0, next.1)
+    let next = uncalled g.D.Disk.honest (arc_value s.bench) s.number s.closed s.session t s.seat was.0 (disconnects s.session t (under s.number s.seat) c.disconnect.ensures) was.1 in
+    (next.0, next.1)

@@ -9,5 +9,5 @@ invariant_of-self g c =
     let was = c.self.invariant in
     let s = c.self.inside in
     let t = c.note_writes.new.self in
-    let next = uncalled g.D.Disk.honest (arc_value s.bench) s.number s.closed s.session t was.0 was.2 (notes s.session t (under s.number was.0) c.note_writes.ensures) was.3 in
-    (was.0, was.1, next.0, next.1)
+    let next = uncalled g.D.Disk.honest (arc_value s.bench) s.number s.closed s.session t s.seat was.0 (notes s.session t (under s.number s.seat) c.note_writes.ensures) was.1 in
+    (next.0, next.1)
